@@ -1,0 +1,48 @@
+// `min`, `max` and `abs` as Rust's f64 has them, and the tests of a single number. The laws of
+// floats that the other crates use stand in proofs/.
+ghost use mathlib.Core.Path.{_≡_};
+ghost use lib.Ieee.Scale.{finite};
+ghost use Rattle.floats.specs.Numbers as Numbers;
+ghost use Rattle.floats.specs.Numbers.{minOf, maxOf, absOf};
+
+pub fn min(x: f64, y: f64) -> f64
+    ensures { λ r. ⌜ r ≡ minOf x y ⌝ }
+{
+    if x != x {
+        return y;
+    }
+    if y < x { y } else { x }
+}
+
+pub fn max(x: f64, y: f64) -> f64
+    ensures { λ r. ⌜ r ≡ maxOf x y ⌝ }
+{
+    if x != x {
+        return y;
+    }
+    if x < y { y } else { x }
+}
+
+pub fn abs(x: f64) -> f64
+    ensures { λ r. ⌜ r ≡ absOf x ⌝ }
+{
+    if x < 0.0 {
+        return -x;
+    }
+    if x == 0.0 { 0.0 } else { x }
+}
+
+// Neither a NaN nor an infinity: the difference with itself is a number.
+pub fn is_finite(x: f64) -> bool
+    ensures { λ r. ⌜ r ≡ finite x ⌝ }
+{
+    let d = x - x;
+    d == d
+}
+
+// Finite and of magnitude at most 1,000,000.
+pub fn within(x: f64) -> bool
+    ensures { λ r. ⌜ r ≡ Numbers.within x ⌝ }
+{
+    -1000000.0 <= x && x <= 1000000.0
+}

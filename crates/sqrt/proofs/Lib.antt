@@ -1,0 +1,7 @@
+pub mod Squares
+pub mod Patterns
+pub mod Roots
+pub mod Values
+pub mod Signs
+pub mod Rests
+pub mod Nearest

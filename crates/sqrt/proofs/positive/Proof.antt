@@ -1,0 +1,101 @@
+use mathlib.Core.Path.{_≡_, sym, ap, _∙_, subst}
+use mathlib.Core.Bool.{false}
+use Prim.Native.Nat.{ℕ, _+_, _-_, _*_, _/_, _%_, _^_, _≤_, _<_}
+use native.Mathlib.Omega.{arith}
+use mir.Syntax.{w64}
+use mir.ValLaws.{toZ-ofZ}
+use lib.IntN.{pos, _-ℤ_}
+use lib.Ieee.{binary64, ofBits, odd}
+use Rattle.sqrt.specs.Floor.{FloorRoot, NearestRoot}
+use Rattle.sqrt.specs.Root.{nearestRoot}
+use Rattle.sqrt.proofs.Patterns.{no-nan-bits, high-is}
+use Rattle.sqrt.proofs.Values.{Doubled, doubled, small-root, root-range, whole-units, root-at, rest-at}
+use borrow.Author.Needs.{needs}
+use Rattle.sqrt.proofs.positive.Statement.{statement}
+use Rattle.sqrt.proofs.positive.Tie as tie
+
+-- the number whose root is taken
+abbrev S : tie.After-unpack → ℕ
+S c = c .unpack .result .m * 2 ^ (c .unpack .result .g % 2) * 2 ^ 52
+
+scale : (c : tie.After-unpack) → Doubled (c .unpack .result .m) (c .unpack .result .g % 2)
+scale c = doubled (c .unpack .result .m) (c .unpack .result .g % 2) (c .unpack .ensures .1 .0) (c .unpack .ensures .1 .1) (omega arith)
+
+S-lt : (c : tie.After-unpack) → S c < 2 ^ 106
+S-lt c = let d = scale c in omega arith
+
+floor : (c : tie.After-root-of) → FloorRoot (S (c .before)) (c .root-of .result .whole) (c .root-of .result .rest)
+floor c = subst (λ (m : ℕ). FloorRoot (m * 2 ^ 52) (c .root-of .result .whole) (c .root-of .result .rest)) (scale (c .before) .same) (c .root-of .ensures)
+
+answer : (c : tie.After-rounded) → NearestRoot (S (c .before .before)) (c .rounded .result .whole) (c .rounded .result .rest)
+answer c = c .rounded .ensures (S (c .before .before)) (S-lt (c .before .before)) (floor (c .before))
+
+digits : (c : tie.After-rounded) → (2 ^ 52 ≤ c .rounded .result .whole) × (c .rounded .result .whole < 2 ^ 53)
+digits c =
+    let d = scale (c .before .before) in
+    subst (λ (r : ℕ). (2 ^ 52 ≤ r) × (r < 2 ^ 53)) (sym (answer c .root)) (root-range (S (c .before .before)) (omega arith) (omega arith))
+
+unpack-requires : tie.Need-unpack-requires
+unpack-requires c κs = search needs
+
+add-bits : tie.Need-add-bits
+add-bits c = search needs
+
+add-bits-2 : tie.Need-add-bits-2
+add-bits-2 c = search needs
+
+shl-root-of : tie.Need-shl-root-of
+shl-root-of c = search needs
+
+root-of-requires : tie.Need-root-of-requires
+root-of-requires c κs = let d = scale c in (omega arith, omega arith)
+
+rounded-requires : tie.Need-rounded-requires
+rounded-requires c κs = (small-root (S (c .before)) (c .root-of .result .whole) (c .root-of .result .rest) (S-lt (c .before)) (floor c), floor c .small)
+
+add-pattern : tie.Need-add-pattern
+add-pattern c = search needs
+
+mul-pattern : tie.Need-mul-pattern
+mul-pattern c = search needs
+
+add-pattern-2 : tie.Need-add-pattern-2
+add-pattern-2 c = let k = digits (c .before) in omega arith
+
+float-from-bits-t14 : tie.Need-float-from-bits-t14
+float-from-bits-t14 c =
+    let k = digits (c .before) in
+    no-nan-bits ((c .before .before .before .unpack .result .g / 2 + 485) * 2 ^ 52 + c .before .rounded .result .whole) (omega arith)
+
+returns : tie.Need-returns
+returns c′ =
+    let c = c′ .before in
+    let u = c .before .before .unpack in
+    let b = c .before .before .before .args .b in
+    let x = ofBits binary64 b in
+    let k = digits c in
+    let w = whole-units b (c .before .before .before .pre .1) in (
+      high-is (u .result .g / 2 + 485) (c .rounded .result .whole) (k .0) (k .1) (omega arith)
+          ∙ ap (λ (r : ℕ). odd 53 false r (u .result .g / 2 + 485) 1074) (answer c .root)
+          ∙ sym (root-at (u .result .m) (u .result .g) (u .ensures .1 .0) (u .ensures .1 .1) x (w .0) (w .1) (u .ensures .0)),
+      toZ-ofZ w64 (c .rounded .result .rest) (search needs)
+          ∙ answer c .left
+          ∙ ap (λ (r : ℕ). pos (S (c .before .before)) -ℤ pos (r * r)) (answer c .root)
+          ∙ sym (rest-at (u .result .m) (u .result .g) (u .ensures .1 .0) (u .ensures .1 .1) x (w .0) (w .1) (u .ensures .0)),
+    )
+
+pub positive-spec : {M : Type 1} → statement M
+positive-spec =
+    tie.close
+    (tie.spec
+    unpack-requires
+    add-bits
+    add-bits-2
+    shl-root-of
+    root-of-requires
+    rounded-requires
+    add-pattern
+    mul-pattern
+    add-pattern-2
+    float-from-bits-t14
+    returns)

@@ -1,0 +1,237 @@
+// The square root of an f64, correctly rounded, from the language's own float and integer
+// operations. An estimate in floats is tested exactly in integers; where it is off by more than one,
+// which among normal numbers no input is known to reach, the root is found digit by digit instead. So
+// the contracts rest on integers alone, and nothing is proved, or assumed, of the estimate.
+ghost use mathlib.Core.Path.{_≡_};
+ghost use Prim.Native.Nat.{ℕ, _+_, _*_, _^_, _≤_, _<_};
+ghost use mathlib.Core.Bool.{false};
+ghost use lib.Ieee.{binary64, ofBits};
+ghost use lib.Ieee.Exact.{HasValue};
+ghost use Rattle.sqrt.specs.Floor.{FloorRoot, NearestRoot};
+ghost use Rattle.sqrt.specs.Root.{nearestRoot, sqrtOf, restOf};
+
+// A whole number and what is left over of another when its square is taken off.
+pub struct WholeRoot {
+    pub whole: u64,
+    pub rest: u64,
+}
+
+// The whole part of the root of m * 2^52, digit by digit, as by hand: two binary digits of m * 2^52
+// come down in each turn, and give one digit of the root.
+fn digits(m: u64) -> WholeRoot
+    requires { ⌜ m < 2 ^ 54 ⌝ }
+    ensures { λ r. ⌜ FloorRoot (m * 2 ^ 52) (r .whole) (r .rest) ⌝ }
+{
+    let mut whole: u64 = 0;
+    let mut rest: u64 = 0;
+    let mut left = m;
+    let mut i: u64 = 0;
+    while i < 53 {
+        rest = 4 * rest + left / 0x10_0000_0000_0000;
+        left = left % 0x10_0000_0000_0000 * 4;
+        whole = 2 * whole;
+        if 2 * whole < rest {
+            rest = rest - 2 * whole - 1;
+            whole = whole + 1;
+        }
+        i += 1;
+    }
+    WholeRoot { whole, rest }
+}
+
+// t * 2^52 for a t that is at least 1 and below 2, and 2^52 for every other.
+fn scaled(t: f64) -> u64
+    ensures { λ r. ⌜ (2 ^ 52 ≤ r) × (r < 2 ^ 53) ⌝ }
+{
+    if t == t {
+        let b: u64 = f64::to_bits(t);
+        if 0x3ff0_0000_0000_0000 <= b {
+            if b < 0x4000_0000_0000_0000 {
+                return b - 0x3fe0_0000_0000_0000;
+            }
+        }
+    }
+    0x10_0000_0000_0000
+}
+
+// An estimate of the root of x, whose bit pattern is `bits`, times 2^52, for an x from 1 to 4.
+fn guess(bits: u64) -> u64
+    requires { ⌜ bits < 0x4010_0000_0000_0000 ⌝ }
+    ensures { λ r. ⌜ (2 ^ 52 ≤ r) × (r < 2 ^ 53) ⌝ }
+{
+    let x = f64::from_bits(bits);
+    let h = 0.5 * x;
+    // 1 / sqrt(x): the halved exponent, a first step within 7e-4, and a step of Newton's method
+    let y0 = f64::from_bits(0x5fe3_ffff_2000_0000 - bits / 2);
+    let y1 = 1.6819140909799934 * y0 - (0.703952253 * x * y0) * (y0 * y0);
+    let y = 1.5 * y1 - (h * y1) * (y1 * y1);
+    // sqrt(x), and a step whose error is of the third order
+    let s = x * y;
+    let e = 0.5 - s * (0.5 * y);
+    scaled(s + (s * e) * (1.0 + 1.5 * e))
+}
+
+// The same square and rest together, with a root that is one larger where the rest allows it.
+fn raised(p: WholeRoot) -> WholeRoot
+    requires { ⌜ p .whole < 2 ^ 53 ⌝ }
+    ensures { λ r. ⌜ (r .whole * r .whole + r .rest ≡ p .whole * p .whole + p .rest) × (r .whole ≤ 2 ^ 53) ⌝ }
+{
+    let whole = p.whole;
+    let rest = p.rest;
+    if 2 * whole < rest {
+        WholeRoot {
+            whole: whole + 1,
+            rest: rest - 2 * whole - 1,
+        }
+    } else {
+        p
+    }
+}
+
+// The whole part of the root of m * 2^52, and what is left over. The estimate is made of `bits`, the
+// pattern of m / 2^52 where m is that of a normal number.
+fn root_of(m: u64, bits: u64) -> WholeRoot
+    requires { ⌜ (m < 2 ^ 54) × (bits < 0x4010_0000_0000_0000) ⌝ }
+    ensures { λ r. ⌜ FloorRoot (m * 2 ^ 52) (r .whole) (r .rest) ⌝ }
+{
+    let r = guess(bits) - 1;
+    // r * r is top * 2^52 + low
+    let a = r / 0x400_0000;
+    let b = r % 0x400_0000;
+    let ab = a * b;
+    let top = a * a + ab / 0x200_0000;
+    let low = ab % 0x200_0000 * 0x800_0000 + b * b;
+    if top <= m {
+        let d = m - top;
+        if d < 64 {
+            let high = d * 0x10_0000_0000_0000;
+            if low <= high {
+                let p = raised(WholeRoot {
+                    whole: r,
+                    rest: high - low,
+                });
+                let whole = p.whole;
+                let rest = p.rest;
+                if rest <= 2 * whole {
+                    return p;
+                }
+            }
+        }
+    }
+    digits(m)
+}
+
+// m * 2^g / 2^1126, with m of 53 bits.
+pub struct Significand {
+    pub m: u64,
+    pub g: u64,
+}
+
+// The positive finite f64 whose bit pattern is b.
+fn unpack(b: u64) -> Significand
+    requires { ⌜ (0 < b) × (b < 0x7ff0_0000_0000_0000) ⌝ }
+    ensures value { λ r. ⌜ HasValue (ofBits binary64 b) false (r .m * 2 ^ r .g) (2 ^ 1126) ⌝ }
+    ensures range { λ r. ⌜ (2 ^ 52 ≤ r .m) × (r .m < 2 ^ 53) × (r .g ≤ 2097) ⌝ }
+{
+    let e = b / 0x10_0000_0000_0000;
+    if e == 0 {
+        let l = u64::leading_zeros(b) - 11;
+        Significand {
+            m: b << l,
+            g: 52 - (l as u64),
+        }
+    } else {
+        Significand {
+            m: b % 0x10_0000_0000_0000 + 0x10_0000_0000_0000,
+            g: e + 51,
+        }
+    }
+}
+
+// A whole number, and how much another exceeds its square.
+pub struct NearRoot {
+    pub whole: u64,
+    pub rest: i64,
+}
+
+// The whole number nearest to the root, and what is left over of n.
+fn rounded(p: WholeRoot) -> NearRoot
+    requires { ⌜ (p .whole < 2 ^ 53) × (p .rest ≤ 2 * p .whole) ⌝ }
+    ensures { λ r. ⌜ ((n : ℕ) → n < 4 ^ 53 → FloorRoot n (p .whole) (p .rest) → NearestRoot n (r .whole) (r .rest)) ⌝ }
+{
+    let whole = p.whole;
+    let rest = p.rest;
+    if whole < rest {
+        NearRoot {
+            whole: whole + 1,
+            rest: 0 - ((2 * whole + 1 - rest) as i64),
+        }
+    } else {
+        NearRoot {
+            whole,
+            rest: rest as i64,
+        }
+    }
+}
+
+// The root of an f64 and what is left over: of the whole number S less R * R, where the root is R of
+// 53 bits times a power of 2.
+pub struct Rooted {
+    pub root: f64,
+    pub rest: i64,
+}
+
+// The root of the positive finite f64 whose bit pattern is b.
+fn positive(b: u64) -> Rooted
+    requires { ⌜ (0 < b) × (b < 0x7ff0_0000_0000_0000) ⌝ }
+    ensures { λ r. ⌜ (r .root ≡ sqrtOf (ofBits binary64 b)) × (r .rest ≡ restOf (ofBits binary64 b)) ⌝ }
+{
+    let s = unpack(b);
+    let m = s.m;
+    let g = s.g;
+    // b's fraction below an exponent of 0 or 1, whichever leaves an even one
+    let bits = (b + 0x10_0000_0000_0000) % 0x20_0000_0000_0000 + 0x3ff0_0000_0000_0000;
+    let r = rounded(root_of(m << (g % 2), bits));
+    let whole = r.whole;
+    let rest = r.rest;
+    let pattern = (g / 2 + 485) * 0x10_0000_0000_0000 + whole;
+    Rooted {
+        root: f64::from_bits(pattern),
+        rest,
+    }
+}
+
+// The square root of x, correctly rounded, and what is left over.
+pub fn sqrt_with_rest(x: f64) -> Rooted
+    ensures { λ r. ⌜ (r .root ≡ sqrtOf x) × (r .rest ≡ restOf x) ⌝ }
+{
+    if x > 0.0 {
+        let b: u64 = f64::to_bits(x);
+        if b < 0x7ff0_0000_0000_0000 {
+            positive(b)
+        } else {
+            Rooted { root: x, rest: 0 }
+        }
+    } else if x == 0.0 {
+        Rooted { root: x, rest: 0 }
+    } else {
+        Rooted {
+            root: 0.0 / 0.0,
+            rest: 0,
+        }
+    }
+}
+
+// The root alone, for the callers inside.
+pub fn root(x: f64) -> f64
+    ensures { λ r. ⌜ r ≡ sqrtOf x ⌝ }
+{
+    sqrt_with_rest(x).root
+}
+
+// The square root: the f64 nearest the exact root, ties to even; -0 for -0, a NaN for a negative.
+pub fn sqrt(x: f64) -> f64
+    ensures { λ r. ⌜ r ≡ sqrtOf x ⌝ }
+{
+    root(x)
+}
