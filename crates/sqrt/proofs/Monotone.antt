@@ -6,7 +6,7 @@ use Prim.Native.Nat.{ℕ, zero, suc, _+_, _-_, _*_, _/_, _%_, _^_, _≤_, _<_, z
 use native.Mathlib.Nat.{le-trans, le-refl, le-of-eq, le-of-lt, lt-of-le-of-lt, lt-of-lt-of-le, lt-of-not-le, not-le-of-lt, le-of-suc-le-suc, eq-or-lt-of-le, mul-le-mul, mul-le-mul-right, le-of-mul-le-mul-right, mul-pos, suc-mul, zero-mul, div-lt-iff-lt-mul, le-div-iff-mul-le, zero-lt-suc}
 use native.Mathlib.Omega.{arith}
 use lib.IntN.{ℤ}
-use lib.Dec.{T, ltb, leb, eqb, leb→le}
+use lib.Dec.{T, ltb, leb, eqb, leb→le, ltb→lt}
 use lib.Pow.{pow-add, pow-pos, pow-mono}
 use lib.Ieee.{Float, nan, inf, fin, binary64, up, down, size, odd, le, fits, ofBits}
 use lib.Ieee.Digits.{size-lt, size-le, size-reaches}
@@ -184,23 +184,26 @@ unfolding sqrtOf
 sqrt-zero s e = refl
 
 -- x ≤ 4 ^ h: the root is at most 2 ^ h. For an odd exponent, widen first.
-pub small-sqrt : (h : ℕ) (x : Float) → T (le zeroF x) → Small (2 * h) x → Small h (sqrtOf x)
-small-sqrt h x a s =
-    let u = rooted x (small-finite (2 * h) x s) a in
-    let r = units-le (unitsOf x) (h + 1074) (subst (λ (z : ℕ). unitsOf x ≤ z) (sym whole) (mul-le-mul-right (2 ^ 1074) (over (num x * 2 ^ 1074) (den x) (2 ^ (2 * h) * 2 ^ 1074) (den-pos x) (wide (2 ^ 1074) (num x) (2 ^ (2 * h)) (den x) (small-num (2 * h) x s))))) in
-    of-num h (sqrtOf x) (u .bounded)
-    (cut (2 ^ 1074) (num (sqrtOf x)) (rootUnits (unitsOf x)) (den (sqrtOf x)) (2 ^ h) (pow-pos 1074) (u .value) (subst (λ (z : ℕ). rootUnits (unitsOf x) ≤ z) (pow-add 2 h 1074) r))
+pub root-bound : (h : ℕ) (x : Float) → num x ≤ 2 ^ (2 * h) * den x → rootUnits (unitsOf x) ≤ 2 ^ (h + 1074)
+root-bound h x l =
+    units-le (unitsOf x) (h + 1074) (subst (λ (z : ℕ). unitsOf x ≤ z) (sym whole) (mul-le-mul-right (2 ^ 1074) (over (num x * 2 ^ 1074) (den x) (2 ^ (2 * h) * 2 ^ 1074) (den-pos x) (wide (2 ^ 1074) (num x) (2 ^ (2 * h)) (den x) l))))
   where
     wide : (k a b c : ℕ) → a ≤ b * c → a * k ≤ b * k * c
     wide k a b c h = omega (arith, mul-le-mul-right k h)
-
-    cut : (k a r d p : ℕ) → 0 < k → a * k ≡ r * d → r ≤ p * k → a ≤ p * d
-    cut k a r d p K e h = le-of-mul-le-mul-right {k = k} (omega (arith, e, mul-le-mul-right d h)) K
 
     whole : 4 ^ (h + 1074) ≡ 2 ^ (2 * h) * 2 ^ 1074 * 2 ^ 1074
     whole =
         let e : 2 * (h + 1074) ≡ 2 * h + 1074 + 1074 = omega arith in
         four (h + 1074) ∙ ap (λ (z : ℕ). 2 ^ z) e ∙ pow-add 2 (2 * h + 1074) 1074 ∙ ap (λ (z : ℕ). z * 2 ^ 1074) (pow-add 2 (2 * h) 1074)
+
+pub small-sqrt : (h : ℕ) (x : Float) → T (le zeroF x) → Small (2 * h) x → Small h (sqrtOf x)
+small-sqrt h x a s =
+    let u = rooted x (small-finite (2 * h) x s) a in
+    of-num h (sqrtOf x) (u .bounded)
+    (cut (2 ^ 1074) (num (sqrtOf x)) (rootUnits (unitsOf x)) (den (sqrtOf x)) (2 ^ h) (pow-pos 1074) (u .value) (subst (λ (z : ℕ). rootUnits (unitsOf x) ≤ z) (pow-add 2 h 1074) (root-bound h x (small-num (2 * h) x s))))
+  where
+    cut : (k a r d p : ℕ) → 0 < k → a * k ≡ r * d → r ≤ p * k → a ≤ p * d
+    cut k a r d p K e h = le-of-mul-le-mul-right {k = k} (omega (arith, e, mul-le-mul-right d h)) K
 
 -- ---- the root of a positive f64 is positive: a divisor that is safe
 -- x is at least the smallest f64, so digits are dropped
@@ -222,20 +225,30 @@ sqrt-positive x p h =
     let some : 0 < rootUnits n * den (sqrtOf x) = mul-pos (mul-pos (lt-of-lt-of-le (pow-pos 52) (root-full n (least-dropped x h))) (pow-pos (dropped n))) (den-pos (sqrtOf x)) in
     positive-num (sqrtOf x) (u .bounded) (u .nonneg) (first-pos (num (sqrtOf x)) (2 ^ 1074) (subst (λ (z : ℕ). 0 < z) (sym (u .value)) some))
 
-pub fits-least : (x : Float) → T (fits binary64 x) → T (positive x) → den x ≤ 2 ^ 1074 * num x
+-- what `fits` asks of a value that is not zero
+pub record Fitting (m : ℕ) (e : ℤ) : Type 0 where
+  pub few : m < 2 ^ 53
+  pub fine : down e ≤ 2 ^ 1074
+  pub top : m * up e < 2 ^ 1024 * down e
+
+pub fitting : (s : Bool) (m : ℕ) (e : ℤ) → T (fits binary64 (fin s (suc m) e)) → Fitting (suc m) e
 unfolding fits
+fitting s m e h =
+    let f = split (eqb (suc m % 2) 1) (ltb (suc m) (2 ^ 53)) (leb (down e) (2 ^ 1074)) (ltb (suc m * up e) (2 ^ 1024 * down e)) h in
+    record { few = ltb→lt (suc m) (2 ^ 53) (f .0); fine = leb→le (down e) (2 ^ 1074) (f .1); top = ltb→lt (suc m * up e) (2 ^ 1024 * down e) (f .2) }
+  where
+    split : (a b c d : Bool) → T (a && b && c && d) → T b × T c × T d
+    split true true true d h = (tt, tt, h)
+    split true true false d h = absurd h
+    split true false c d h = absurd h
+    split false b c d h = absurd h
+
+pub fits-least : (x : Float) → T (fits binary64 x) → T (positive x) → den x ≤ 2 ^ 1074 * num x
 fits-least nan h p = absurd p
 fits-least (inf s) h p = absurd p
 fits-least (fin true m e) h p = absurd p
 fits-least (fin false zero e) h p = absurd p
-fits-least (fin false (suc m) e) h p =
-    go (2 ^ 1074) (down e) (suc m * up e) (mul-pos (zero-lt-suc m) (up-pos e)) (leb→le (down e) (2 ^ 1074) (third (eqb (suc m % 2) 1) (ltb (suc m) (2 ^ 53)) (leb (down e) (2 ^ 1074)) (ltb (suc m * up e) (2 ^ 1024 * down e)) h))
+fits-least (fin false (suc m) e) h p = go (2 ^ 1074) (down e) (suc m * up e) (mul-pos (zero-lt-suc m) (up-pos e)) (fitting false m e h .fine)
   where
-    third : (a b c d : Bool) → T (a && b && c && d) → T c
-    third true true true d h = tt
-    third true true false d h = h
-    third true false c d h = absurd h
-    third false b c d h = absurd h
-
     go : (k d n : ℕ) → 0 < n → d ≤ k → d ≤ k * n
     go k d n N h = let c : k * 1 ≤ k * n = mul-le-mul (le-refl k) N in omega arith
