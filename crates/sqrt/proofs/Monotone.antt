@@ -1,9 +1,9 @@
 -- The computed square root keeps the order, is a number from zero on, and halves the exponent of a bound. Assumes nothing.
 use mathlib.Core.Path.{_≡_, refl, sym, ap, _∙_, subst}
-use mathlib.Core.Logic.{_⊎_, inl, inr}
+use mathlib.Core.Logic.{inl, inr}
 use mathlib.Core.Bool.{Bool, true, false, _&&_}
 use Prim.Native.Nat.{ℕ, zero, suc, _+_, _-_, _*_, _/_, _%_, _^_, _≤_, _<_, zero-le}
-use native.Mathlib.Nat.{le-trans, le-refl, le-of-eq, le-of-lt, lt-of-le-of-lt, lt-of-lt-of-le, lt-of-not-le, not-le-of-lt, le-of-suc-le-suc, eq-or-lt-of-le, mul-le-mul, mul-le-mul-right, le-of-mul-le-mul-right, mul-pos, suc-mul, zero-mul, div-lt-iff-lt-mul, le-div-iff-mul-le, zero-lt-suc}
+use native.Mathlib.Nat.{le-trans, le-refl, le-of-eq, lt-of-le-of-lt, lt-of-lt-of-le, lt-of-not-le, not-le-of-lt, le-of-suc-le-suc, eq-or-lt-of-le, mul-le-mul, mul-le-mul-right, le-of-mul-le-mul-right, mul-pos, suc-mul, zero-mul, div-lt-iff-lt-mul, le-div-iff-mul-le, zero-lt-suc}
 use native.Mathlib.Omega.{arith}
 use lib.IntN.{ℤ}
 use lib.Dec.{T, ltb, leb, eqb, leb→le, ltb→lt}
