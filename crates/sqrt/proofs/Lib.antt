@@ -4,4 +4,5 @@ pub mod Roots
 pub mod Values
 pub mod Signs
 pub mod Rests
+pub mod Monotone
 pub mod Nearest

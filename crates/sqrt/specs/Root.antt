@@ -1,8 +1,9 @@
 -- Document 01's square root, IEEE 754's at binary64: the f64 nearest the exact root, ties to even, from whole numbers alone, by comparing squares.
 -- A positive finite x is S * 4 ^ k for one whole number k and one whole number S of 105 or 106 binary digits. Its root is R * 2 ^ k, where R is the
--- whole number nearest to the root of S, a tie going to the even one: R has 53 digits. What is left over is S - R * R.
+-- whole number nearest to the root of S, a tie going to the even one: R has 53 digits. What is left over is S - R * R. Nearest.antt says in full what "the
+-- f64 nearest the exact root" is; that the root defined here is that one is `nearest-of-all` of proofs/Nearest.antt.
 use Prim.Native.Nat.{ℕ, zero, suc, _+_, _-_, _*_, _/_, _^_, compare}
-use mathlib.Core.Bool.{Bool, true, false, cond}
+use mathlib.Core.Bool.{true, false, cond}
 use lib.IntN.{ℤ, pos, _-ℤ_}
 use lib.Dec.{leb}
 use lib.Ieee.{Float, nan, inf, fin, up, down, size, nearest, odd}

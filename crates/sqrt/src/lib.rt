@@ -8,7 +8,7 @@ ghost use mathlib.Core.Bool.{false};
 ghost use lib.Ieee.{binary64, ofBits};
 ghost use lib.Ieee.Exact.{HasValue};
 ghost use Rattle.sqrt.specs.Floor.{FloorRoot, NearestRoot};
-ghost use Rattle.sqrt.specs.Root.{nearestRoot, sqrtOf, restOf};
+ghost use Rattle.sqrt.specs.Root.{sqrtOf, restOf};
 
 // A whole number and what is left over of another when its square is taken off.
 pub struct WholeRoot {

@@ -1,13 +1,12 @@
-use mathlib.Core.Path.{_≡_, sym, ap, _∙_, subst}
+use mathlib.Core.Path.{sym, ap, _∙_, subst}
 use mathlib.Core.Bool.{false}
-use Prim.Native.Nat.{ℕ, _+_, _-_, _*_, _/_, _%_, _^_, _≤_, _<_}
+use Prim.Native.Nat.{ℕ, _+_, _*_, _/_, _%_, _^_, _≤_, _<_}
 use native.Mathlib.Omega.{arith}
 use mir.Syntax.{w64}
 use mir.ValLaws.{toZ-ofZ}
 use lib.IntN.{pos, _-ℤ_}
 use lib.Ieee.{binary64, ofBits, odd}
 use Rattle.sqrt.specs.Floor.{FloorRoot, NearestRoot}
-use Rattle.sqrt.specs.Root.{nearestRoot}
 use Rattle.sqrt.proofs.Patterns.{no-nan-bits, high-is}
 use Rattle.sqrt.proofs.Values.{Doubled, doubled, small-root, root-range, whole-units, root-at, rest-at}
 use borrow.Author.Needs.{needs}
