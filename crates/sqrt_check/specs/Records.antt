@@ -13,7 +13,11 @@ halfAt s at = ((getD s at 0 * 256 + getD s (at + 1) 0) * 256 + getD s (at + 2) 0
 unfoldable pub wordAt : List ℕ → ℕ → ℕ
 wordAt s at = halfAt s at * 0x1_0000_0000 + halfAt s (at + 4)
 
--- among the first records of s
+-- 1 if r is not the pattern of the root of the f64 whose pattern is x, else 0
+abbrev pub missed : ℕ → ℕ → ℕ
+missed x r = cond (eqb (toBits binary64 (sqrtOf (ofBits binary64 x))) r) 0 1
+
+-- how many of the first records of s are wrong
 unfoldable pub wrongOf : List ℕ → ℕ → ℕ
 wrongOf s zero = 0
-wrongOf s (suc i) = wrongOf s i + cond (eqb (toBits binary64 (sqrtOf (ofBits binary64 (wordAt s (16 * i))))) (wordAt s (16 * i + 8))) 0 1
+wrongOf s (suc i) = wrongOf s i + missed (wordAt s (16 * i)) (wordAt s (16 * i + 8))

@@ -2,13 +2,11 @@
 // significant byte first, and writes how many there are and how many of the roots are not what
 // `sqrt` gives. A NaN's pattern is 7FF8000000000000. The list is made by tools/vectors/sqrt.py.
 ghost use mathlib.Core.Path.{_≡_};
-ghost use mathlib.Core.Bool.{cond};
 ghost use Prim.Native.Nat.{_+_, _*_, _/_, _≤_, _<_};
-ghost use lib.Dec.{eqb};
 ghost use lib.ListN.{length};
 ghost use lib.Ieee.{binary64, ofBits, toBits};
 ghost use Rattle.sqrt.specs.Root.{sqrtOf};
-ghost use Rattle.sqrt_check.specs.Records.{halfAt, wordAt, wrongOf};
+ghost use Rattle.sqrt_check.specs.Records.{halfAt, wordAt, missed, wrongOf};
 
 fn wide(x: u8) -> u64
     ensures { λ r. ⌜ (r ≡ x) × (r < 256) ⌝ }
@@ -36,6 +34,7 @@ fn word(s: &[u8], at: usize) -> u64
     half(s, at) * 0x1_0000_0000 + half(s, at + 4)
 }
 
+// The bit pattern of v.
 fn pattern(v: f64) -> u64
     ensures { λ r. ⌜ r ≡ toBits binary64 v ⌝ }
 {
@@ -57,11 +56,12 @@ fn root_pattern(x: u64) -> u64
 
 // 1 if r is not the pattern of the root, else 0.
 fn miss(x: u64, r: u64) -> u64
-    ensures { λ n. ⌜ (n ≡ cond (eqb (toBits binary64 (sqrtOf (ofBits binary64 x))) r) 0 1) × (n ≤ 1) ⌝ }
+    ensures { λ n. ⌜ (n ≡ missed x r) × (n ≤ 1) ⌝ }
 {
     if root_pattern(x) == r { 0 } else { 1 }
 }
 
+// How many of the records are wrong.
 fn wrong(s: &[u8]) -> u64
     ensures { λ r. ⌜ r ≡ wrongOf (now (s .entry)) (length (now (s .entry)) / 16) ⌝ }
 {
