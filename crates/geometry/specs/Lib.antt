@@ -1,0 +1,5 @@
+pub mod Vectors
+pub mod Rays
+pub mod Hits
+pub mod Boxes
+pub mod Limits

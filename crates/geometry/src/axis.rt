@@ -1,0 +1,7 @@
+// An axis of the coordinate system, or none.
+pub enum Axis {
+    X,
+    Y,
+    Z,
+    None,
+}

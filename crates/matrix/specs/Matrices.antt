@@ -1,0 +1,199 @@
+-- Matrices of 4 rows and 4 columns (matrix.rs): the Rust's formulas, in its order of operations.
+use lib.Ieee.{Float, neg}
+use Rattle.floats.specs.Arith.{_⊕_, _⊖_, _⊗_, _⊘_, zeroF, oneF, twoF}
+use Rattle.geometry.specs.Vectors.{vec, addV, minV, maxV, mulScalar, divScalar, lengthOf, normalizeOf}
+use Rattle.geometry.specs.Rays.{rayOf}
+use Rattle.geometry.specs.Boxes.{boxOf}
+use Rattle.geometry.specs.declared.vector.Vector.{Vector}
+use Rattle.geometry.specs.declared.vector.Normalized.{Normalized}
+use Rattle.geometry.specs.declared.ray.Ray.{Ray}
+use Rattle.geometry.specs.declared.bounding_box.BBox.{BBox}
+use Rattle.matrix.specs.declared.Matrix.{Matrix}
+use Rattle.matrix.specs.declared.Scaled.{Scaled}
+use Rattle.matrix.specs.declared.Inverted.{Inverted}
+
+-- by rows
+abbrev pub mat : Float → Float → Float → Float → Float → Float → Float → Float → Float → Float → Float → Float → Float → Float → Float → Float → Matrix
+mat a b c d e f g h i j k l m n o p = record {
+  x00 = a;
+  x01 = b;
+  x02 = c;
+  x03 = d;
+  x10 = e;
+  x11 = f;
+  x12 = g;
+  x13 = h;
+  x20 = i;
+  x21 = j;
+  x22 = k;
+  x23 = l;
+  x30 = m;
+  x31 = n;
+  x32 = o;
+  x33 = p;
+}
+
+unfoldable pub identityM : Matrix
+identityM =
+    mat oneF zeroF zeroF zeroF
+    zeroF oneF zeroF zeroF
+    zeroF zeroF oneF zeroF
+    zeroF zeroF zeroF oneF
+
+unfoldable pub translateM : Vector → Matrix
+translateM v =
+    mat oneF zeroF zeroF (v .x)
+    zeroF oneF zeroF (v .y)
+    zeroF zeroF oneF (v .z)
+    zeroF zeroF zeroF oneF
+
+unfoldable pub scaleM : Vector → Matrix
+scaleM v =
+    mat (v .x) zeroF zeroF zeroF
+    zeroF (v .y) zeroF zeroF
+    zeroF zeroF (v .z) zeroF
+    zeroF zeroF zeroF oneF
+
+unfoldable pub frustumM : Float → Float → Float → Float → Float → Float → Matrix
+frustumM l r b t n f =
+    let t1 = twoF ⊗ n in
+    let t2 = r ⊖ l in
+    let t3 = t ⊖ b in
+    let t4 = f ⊖ n in
+    mat (t1 ⊘ t2) zeroF ((r ⊕ l) ⊘ t2) zeroF
+    zeroF (t1 ⊘ t3) ((t ⊕ b) ⊘ t3) zeroF
+    zeroF zeroF ((neg f ⊖ n) ⊘ t4) (neg t1 ⊗ f ⊘ t4)
+    zeroF zeroF (neg oneF) zeroF
+
+unfoldable pub orthographicM : Float → Float → Float → Float → Float → Float → Matrix
+orthographicM l r b t n f =
+    mat (twoF ⊘ (r ⊖ l)) zeroF zeroF (neg (r ⊕ l) ⊘ (r ⊖ l))
+    zeroF (twoF ⊘ (t ⊖ b)) zeroF (neg (t ⊕ b) ⊘ (t ⊖ b))
+    zeroF zeroF (neg twoF ⊘ (f ⊖ n)) (neg (f ⊕ n) ⊘ (f ⊖ n))
+    zeroF zeroF zeroF oneF
+
+unfoldable pub mulM : Matrix → Matrix → Matrix
+mulM a b = record {
+  x00 = a .x00 ⊗ b .x00 ⊕ a .x01 ⊗ b .x10 ⊕ a .x02 ⊗ b .x20 ⊕ a .x03 ⊗ b .x30;
+  x01 = a .x00 ⊗ b .x01 ⊕ a .x01 ⊗ b .x11 ⊕ a .x02 ⊗ b .x21 ⊕ a .x03 ⊗ b .x31;
+  x02 = a .x00 ⊗ b .x02 ⊕ a .x01 ⊗ b .x12 ⊕ a .x02 ⊗ b .x22 ⊕ a .x03 ⊗ b .x32;
+  x03 = a .x00 ⊗ b .x03 ⊕ a .x01 ⊗ b .x13 ⊕ a .x02 ⊗ b .x23 ⊕ a .x03 ⊗ b .x33;
+  x10 = a .x10 ⊗ b .x00 ⊕ a .x11 ⊗ b .x10 ⊕ a .x12 ⊗ b .x20 ⊕ a .x13 ⊗ b .x30;
+  x11 = a .x10 ⊗ b .x01 ⊕ a .x11 ⊗ b .x11 ⊕ a .x12 ⊗ b .x21 ⊕ a .x13 ⊗ b .x31;
+  x12 = a .x10 ⊗ b .x02 ⊕ a .x11 ⊗ b .x12 ⊕ a .x12 ⊗ b .x22 ⊕ a .x13 ⊗ b .x32;
+  x13 = a .x10 ⊗ b .x03 ⊕ a .x11 ⊗ b .x13 ⊕ a .x12 ⊗ b .x23 ⊕ a .x13 ⊗ b .x33;
+  x20 = a .x20 ⊗ b .x00 ⊕ a .x21 ⊗ b .x10 ⊕ a .x22 ⊗ b .x20 ⊕ a .x23 ⊗ b .x30;
+  x21 = a .x20 ⊗ b .x01 ⊕ a .x21 ⊗ b .x11 ⊕ a .x22 ⊗ b .x21 ⊕ a .x23 ⊗ b .x31;
+  x22 = a .x20 ⊗ b .x02 ⊕ a .x21 ⊗ b .x12 ⊕ a .x22 ⊗ b .x22 ⊕ a .x23 ⊗ b .x32;
+  x23 = a .x20 ⊗ b .x03 ⊕ a .x21 ⊗ b .x13 ⊕ a .x22 ⊗ b .x23 ⊕ a .x23 ⊗ b .x33;
+  x30 = a .x30 ⊗ b .x00 ⊕ a .x31 ⊗ b .x10 ⊕ a .x32 ⊗ b .x20 ⊕ a .x33 ⊗ b .x30;
+  x31 = a .x30 ⊗ b .x01 ⊕ a .x31 ⊗ b .x11 ⊕ a .x32 ⊗ b .x21 ⊕ a .x33 ⊗ b .x31;
+  x32 = a .x30 ⊗ b .x02 ⊕ a .x31 ⊗ b .x12 ⊕ a .x32 ⊗ b .x22 ⊕ a .x33 ⊗ b .x32;
+  x33 = a .x30 ⊗ b .x03 ⊕ a .x31 ⊗ b .x13 ⊕ a .x32 ⊗ b .x23 ⊕ a .x33 ⊗ b .x33;
+}
+
+unfoldable pub transposeM : Matrix → Matrix
+transposeM a =
+    mat (a .x00) (a .x10) (a .x20) (a .x30)
+    (a .x01) (a .x11) (a .x21) (a .x31)
+    (a .x02) (a .x12) (a .x22) (a .x32)
+    (a .x03) (a .x13) (a .x23) (a .x33)
+
+unfoldable pub determinant : Matrix → Float
+determinant a =
+    a .x00 ⊗ a .x11 ⊗ a .x22 ⊗ a .x33
+    ⊖ a .x00 ⊗ a .x11 ⊗ a .x23 ⊗ a .x32
+    ⊕ a .x00 ⊗ a .x12 ⊗ a .x23 ⊗ a .x31
+    ⊖ a .x00 ⊗ a .x12 ⊗ a .x21 ⊗ a .x33
+    ⊕ a .x00 ⊗ a .x13 ⊗ a .x21 ⊗ a .x32
+    ⊖ a .x00 ⊗ a .x13 ⊗ a .x22 ⊗ a .x31
+    ⊖ a .x01 ⊗ a .x12 ⊗ a .x23 ⊗ a .x30
+    ⊕ a .x01 ⊗ a .x12 ⊗ a .x20 ⊗ a .x33
+    ⊖ a .x01 ⊗ a .x13 ⊗ a .x20 ⊗ a .x32
+    ⊕ a .x01 ⊗ a .x13 ⊗ a .x22 ⊗ a .x30
+    ⊖ a .x01 ⊗ a .x10 ⊗ a .x22 ⊗ a .x33
+    ⊕ a .x01 ⊗ a .x10 ⊗ a .x23 ⊗ a .x32
+    ⊕ a .x02 ⊗ a .x13 ⊗ a .x20 ⊗ a .x31
+    ⊖ a .x02 ⊗ a .x13 ⊗ a .x21 ⊗ a .x30
+    ⊕ a .x02 ⊗ a .x10 ⊗ a .x21 ⊗ a .x33
+    ⊖ a .x02 ⊗ a .x10 ⊗ a .x23 ⊗ a .x31
+    ⊕ a .x02 ⊗ a .x11 ⊗ a .x23 ⊗ a .x30
+    ⊖ a .x02 ⊗ a .x11 ⊗ a .x20 ⊗ a .x33
+    ⊖ a .x03 ⊗ a .x10 ⊗ a .x21 ⊗ a .x32
+    ⊕ a .x03 ⊗ a .x10 ⊗ a .x22 ⊗ a .x31
+    ⊖ a .x03 ⊗ a .x11 ⊗ a .x22 ⊗ a .x30
+    ⊕ a .x03 ⊗ a .x11 ⊗ a .x20 ⊗ a .x32
+    ⊖ a .x03 ⊗ a .x12 ⊗ a .x20 ⊗ a .x31
+    ⊕ a .x03 ⊗ a .x12 ⊗ a .x21 ⊗ a .x30
+
+-- the cofactors, transposed, each over d
+unfoldable pub adjugateOver : Matrix → Float → Matrix
+adjugateOver a d = record {
+  x00 = (a .x12 ⊗ a .x23 ⊗ a .x31 ⊖ a .x13 ⊗ a .x22 ⊗ a .x31 ⊕ a .x13 ⊗ a .x21 ⊗ a .x32 ⊖ a .x11 ⊗ a .x23 ⊗ a .x32 ⊖ a .x12 ⊗ a .x21 ⊗ a .x33 ⊕ a .x11 ⊗ a .x22 ⊗ a .x33) ⊘ d;
+  x01 = (a .x03 ⊗ a .x22 ⊗ a .x31 ⊖ a .x02 ⊗ a .x23 ⊗ a .x31 ⊖ a .x03 ⊗ a .x21 ⊗ a .x32 ⊕ a .x01 ⊗ a .x23 ⊗ a .x32 ⊕ a .x02 ⊗ a .x21 ⊗ a .x33 ⊖ a .x01 ⊗ a .x22 ⊗ a .x33) ⊘ d;
+  x02 = (a .x02 ⊗ a .x13 ⊗ a .x31 ⊖ a .x03 ⊗ a .x12 ⊗ a .x31 ⊕ a .x03 ⊗ a .x11 ⊗ a .x32 ⊖ a .x01 ⊗ a .x13 ⊗ a .x32 ⊖ a .x02 ⊗ a .x11 ⊗ a .x33 ⊕ a .x01 ⊗ a .x12 ⊗ a .x33) ⊘ d;
+  x03 = (a .x03 ⊗ a .x12 ⊗ a .x21 ⊖ a .x02 ⊗ a .x13 ⊗ a .x21 ⊖ a .x03 ⊗ a .x11 ⊗ a .x22 ⊕ a .x01 ⊗ a .x13 ⊗ a .x22 ⊕ a .x02 ⊗ a .x11 ⊗ a .x23 ⊖ a .x01 ⊗ a .x12 ⊗ a .x23) ⊘ d;
+  x10 = (a .x13 ⊗ a .x22 ⊗ a .x30 ⊖ a .x12 ⊗ a .x23 ⊗ a .x30 ⊖ a .x13 ⊗ a .x20 ⊗ a .x32 ⊕ a .x10 ⊗ a .x23 ⊗ a .x32 ⊕ a .x12 ⊗ a .x20 ⊗ a .x33 ⊖ a .x10 ⊗ a .x22 ⊗ a .x33) ⊘ d;
+  x11 = (a .x02 ⊗ a .x23 ⊗ a .x30 ⊖ a .x03 ⊗ a .x22 ⊗ a .x30 ⊕ a .x03 ⊗ a .x20 ⊗ a .x32 ⊖ a .x00 ⊗ a .x23 ⊗ a .x32 ⊖ a .x02 ⊗ a .x20 ⊗ a .x33 ⊕ a .x00 ⊗ a .x22 ⊗ a .x33) ⊘ d;
+  x12 = (a .x03 ⊗ a .x12 ⊗ a .x30 ⊖ a .x02 ⊗ a .x13 ⊗ a .x30 ⊖ a .x03 ⊗ a .x10 ⊗ a .x32 ⊕ a .x00 ⊗ a .x13 ⊗ a .x32 ⊕ a .x02 ⊗ a .x10 ⊗ a .x33 ⊖ a .x00 ⊗ a .x12 ⊗ a .x33) ⊘ d;
+  x13 = (a .x02 ⊗ a .x13 ⊗ a .x20 ⊖ a .x03 ⊗ a .x12 ⊗ a .x20 ⊕ a .x03 ⊗ a .x10 ⊗ a .x22 ⊖ a .x00 ⊗ a .x13 ⊗ a .x22 ⊖ a .x02 ⊗ a .x10 ⊗ a .x23 ⊕ a .x00 ⊗ a .x12 ⊗ a .x23) ⊘ d;
+  x20 = (a .x11 ⊗ a .x23 ⊗ a .x30 ⊖ a .x13 ⊗ a .x21 ⊗ a .x30 ⊕ a .x13 ⊗ a .x20 ⊗ a .x31 ⊖ a .x10 ⊗ a .x23 ⊗ a .x31 ⊖ a .x11 ⊗ a .x20 ⊗ a .x33 ⊕ a .x10 ⊗ a .x21 ⊗ a .x33) ⊘ d;
+  x21 = (a .x03 ⊗ a .x21 ⊗ a .x30 ⊖ a .x01 ⊗ a .x23 ⊗ a .x30 ⊖ a .x03 ⊗ a .x20 ⊗ a .x31 ⊕ a .x00 ⊗ a .x23 ⊗ a .x31 ⊕ a .x01 ⊗ a .x20 ⊗ a .x33 ⊖ a .x00 ⊗ a .x21 ⊗ a .x33) ⊘ d;
+  x22 = (a .x01 ⊗ a .x13 ⊗ a .x30 ⊖ a .x03 ⊗ a .x11 ⊗ a .x30 ⊕ a .x03 ⊗ a .x10 ⊗ a .x31 ⊖ a .x00 ⊗ a .x13 ⊗ a .x31 ⊖ a .x01 ⊗ a .x10 ⊗ a .x33 ⊕ a .x00 ⊗ a .x11 ⊗ a .x33) ⊘ d;
+  x23 = (a .x03 ⊗ a .x11 ⊗ a .x20 ⊖ a .x01 ⊗ a .x13 ⊗ a .x20 ⊖ a .x03 ⊗ a .x10 ⊗ a .x21 ⊕ a .x00 ⊗ a .x13 ⊗ a .x21 ⊕ a .x01 ⊗ a .x10 ⊗ a .x23 ⊖ a .x00 ⊗ a .x11 ⊗ a .x23) ⊘ d;
+  x30 = (a .x12 ⊗ a .x21 ⊗ a .x30 ⊖ a .x11 ⊗ a .x22 ⊗ a .x30 ⊖ a .x12 ⊗ a .x20 ⊗ a .x31 ⊕ a .x10 ⊗ a .x22 ⊗ a .x31 ⊕ a .x11 ⊗ a .x20 ⊗ a .x32 ⊖ a .x10 ⊗ a .x21 ⊗ a .x32) ⊘ d;
+  x31 = (a .x01 ⊗ a .x22 ⊗ a .x30 ⊖ a .x02 ⊗ a .x21 ⊗ a .x30 ⊕ a .x02 ⊗ a .x20 ⊗ a .x31 ⊖ a .x00 ⊗ a .x22 ⊗ a .x31 ⊖ a .x01 ⊗ a .x20 ⊗ a .x32 ⊕ a .x00 ⊗ a .x21 ⊗ a .x32) ⊘ d;
+  x32 = (a .x02 ⊗ a .x11 ⊗ a .x30 ⊖ a .x01 ⊗ a .x12 ⊗ a .x30 ⊖ a .x02 ⊗ a .x10 ⊗ a .x31 ⊕ a .x00 ⊗ a .x12 ⊗ a .x31 ⊕ a .x01 ⊗ a .x10 ⊗ a .x32 ⊖ a .x00 ⊗ a .x11 ⊗ a .x32) ⊘ d;
+  x33 = (a .x01 ⊗ a .x12 ⊗ a .x20 ⊖ a .x02 ⊗ a .x11 ⊗ a .x20 ⊕ a .x02 ⊗ a .x10 ⊗ a .x21 ⊖ a .x00 ⊗ a .x12 ⊗ a .x21 ⊖ a .x01 ⊗ a .x10 ⊗ a .x22 ⊕ a .x00 ⊗ a .x11 ⊗ a .x22) ⊘ d;
+}
+
+-- the inverse, with the determinant that it divides by
+unfoldable pub inverted : Matrix → Inverted
+inverted a = record { inverse = adjugateOver a (determinant a); determinant = determinant a }
+
+unfoldable pub mulPosition : Matrix → Vector → Vector
+mulPosition a b =
+    vec (a .x00 ⊗ b .x ⊕ a .x01 ⊗ b .y ⊕ a .x02 ⊗ b .z ⊕ a .x03) (a .x10 ⊗ b .x ⊕ a .x11 ⊗ b .y ⊕ a .x12 ⊗ b .z ⊕ a .x13)
+    (a .x20 ⊗ b .x ⊕ a .x21 ⊗ b .y ⊕ a .x22 ⊗ b .z ⊕ a .x23)
+
+-- document 01's projection: over the fourth coordinate
+unfoldable pub mulPositionW : Matrix → Vector → Vector
+mulPositionW a b = divScalar (mulPosition a b) (a .x30 ⊗ b .x ⊕ a .x31 ⊗ b .y ⊕ a .x32 ⊗ b .z ⊕ a .x33)
+
+unfoldable pub mulVector : Matrix → Vector → Vector
+mulVector a b =
+    vec (a .x00 ⊗ b .x ⊕ a .x01 ⊗ b .y ⊕ a .x02 ⊗ b .z) (a .x10 ⊗ b .x ⊕ a .x11 ⊗ b .y ⊕ a .x12 ⊗ b .z)
+    (a .x20 ⊗ b .x ⊕ a .x21 ⊗ b .y ⊕ a .x22 ⊗ b .z)
+
+unfoldable pub mulDirection : Matrix → Vector → Normalized
+mulDirection a b = normalizeOf (mulVector a b)
+
+-- the ray with its direction over its length, and that length
+unfoldable pub mulRay : Matrix → Ray → Scaled
+mulRay a r =
+    let d = mulVector a (r .direction) in
+    record { ray = rayOf (mulPosition a (r .origin)) (divScalar d (lengthOf d)); scale = lengthOf d }
+
+-- the columns, without the fourth row
+abbrev pub column0 : Matrix → Vector
+column0 a = vec (a .x00) (a .x10) (a .x20)
+
+abbrev pub column1 : Matrix → Vector
+column1 a = vec (a .x01) (a .x11) (a .x21)
+
+abbrev pub column2 : Matrix → Vector
+column2 a = vec (a .x02) (a .x12) (a .x22)
+
+abbrev pub column3 : Matrix → Vector
+column3 a = vec (a .x03) (a .x13) (a .x23)
+
+-- a column times the two ends of an edge, the lesser and the greater components
+unfoldable pub mulEdge : Vector → Float → Float → BBox
+mulEdge v lo hi = boxOf (minV (mulScalar v lo) (mulScalar v hi)) (maxV (mulScalar v lo) (mulScalar v hi))
+
+unfoldable pub mulBox : Matrix → BBox → BBox
+mulBox a b =
+    let x = mulEdge (column0 a) (b .min .x) (b .max .x) in
+    let y = mulEdge (column1 a) (b .min .y) (b .max .y) in
+    let z = mulEdge (column2 a) (b .min .z) (b .max .z) in
+    boxOf (addV (addV (addV (x .min) (y .min)) (z .min)) (column3 a)) (addV (addV (addV (x .max) (y .max)) (z .max)) (column3 a))
