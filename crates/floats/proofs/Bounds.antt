@@ -1,7 +1,7 @@
 -- `Small k x`: x is finite, and its magnitude is at most 2 ^ k. One argument for every operation: a fraction of at most 2 ^ k rounds to at most 2 ^ k,
 -- since rounding keeps the order and 2 ^ k is a float. The room `T (leb k 1023)` is `tt` for a given k. Assumes nothing.
 use mathlib.Core.Path.{_≡_, refl, sym, ap, _∙_, subst}
-use mathlib.Core.Bool.{Bool, true, false, not, _&&_}
+use mathlib.Core.Bool.{Bool, true, false}
 use Prim.Native.Nat.{ℕ, suc, _+_, _*_, _^_, _≤_, _<_}
 use native.Mathlib.Nat.{le-trans, le-of-eq, mul-le-mul, mul-le-mul-right, le-of-mul-le-mul-right, mul-pos, mul-comm, mul-one, one-mul, mul-mul-mul-comm, pow-suc, zero-mul}
 use native.Mathlib.Omega.{arith}

@@ -7,7 +7,7 @@ use native.Mathlib.Omega.{arith}
 use mathlib.Core.Bool.{Bool, true, false, not, cond}
 use lib.IntN.{ℤ, pos}
 use lib.Dec.{T, ltb, ltb→lt, lt→ltb, eqb·suc-zero, leb·suc-suc, leb·zero, not-T, T-not}
-use lib.Ieee.{Float, nan, inf, fin, binary64, unlike, up, down, div, lt, le, eq, ofBits}
+use lib.Ieee.{Float, nan, inf, fin, unlike, up, down, div, lt, le, eq, ofBits}
 use lib.Ieee.Fits.{up-pos, down-pos}
 use lib.Ieee.Scale.{finite}
 use lib.Ieee.Positive.{above, first-pos}

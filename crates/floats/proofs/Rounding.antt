@@ -1,15 +1,13 @@
 -- Rounding, sums, differences and quotients keep the order, for every sign, zero and overflow to an infinity.
 -- `Rounded z P N D` says that z is (P - N) / D rounded, as an operation's result is; a zero may have either sign. Assumes nothing.
 use mathlib.Core.Path.{_≡_, refl, sym, ap, _∙_, subst, subst₂}
-use mathlib.Core.Logic.{_⊎_, inl, inr}
 use Prim.Native.Nat.{ℕ, zero, suc, _+_, _-_, _*_, _^_, _≤_, _<_}
-use native.Mathlib.Nat.{le-of-eq, mul-le-mul-right, le-of-mul-le-mul-right, mul-pos, mul-comm, zero-mul}
+use native.Mathlib.Nat.{mul-le-mul-right, le-of-mul-le-mul-right, mul-pos, mul-comm, zero-mul}
 use native.Mathlib.Omega.{arith}
-use mathlib.Core.Bool.{Bool, true, false, not, _&&_, _||_, Bool·beq, cond, true≢false}
-use lib.IntN.{ℤ, pos}
-use lib.Dec.{T, ltb, eqb, ltb→lt, nltb→le, lt→ltb, eqb→eq, eqb·suc-zero, leb·suc-suc, leb·zero}
+use mathlib.Core.Bool.{Bool, true, false, not, cond}
+use lib.Dec.{T, ltb, eqb, ltb→lt, nltb→le, eqb·suc-zero}
 use lib.Pow.{pow-pos}
-use lib.Ieee.{Float, nan, inf, fin, binary64, prec, emax, low, up, down, unlike, size, odd, units, round, neg, sum, add, sub, mul, div, lt, le}
+use lib.Ieee.{Float, nan, inf, fin, binary64, prec, emax, low, up, down, odd, units, round, neg, sum, sub, mul, div, lt, le}
 use lib.Ieee.Fits.{round-is, up-pos, down-pos}
 use lib.Ieee.Exact.{HasValue, round-exact}
 use lib.Ieee.Order.{round-mono, kept, drop}
@@ -17,7 +15,7 @@ use lib.Ieee.Scale.{finite}
 use lib.Ieee.Positive.{num, den, den-pos, positive}
 use Rattle.floats.specs.Arith.{_⊕_, _⊖_, _⊗_, _⊘_}
 use Rattle.floats.specs.Numbers.{number}
-use Rattle.floats.proofs.Order.{finite-number, pp, nn, pp-mul, nn-mul, plus, less, le→cross, cross→le, le-number-l, le-number-r, le-refl, le-trans, le-not-gt, le-bot, le-top, neg-le}
+use Rattle.floats.proofs.Order.{pp, nn, pp-mul, nn-mul, plus, less, le→cross, cross→le, le-number-l, le-number-r, le-refl, le-trans, le-not-gt, le-bot, le-top, neg-le}
 
 -- ---- a result with the other sign
 pub neg-neg : (x : Float) → neg (neg x) ≡ x
