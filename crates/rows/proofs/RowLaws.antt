@@ -4,13 +4,13 @@ use mathlib.Core.Logic.{_≢_}
 use mathlib.Core.Bool.{Bool, true, false}
 use mathlib.Core.List.{List, [], _∷_, _++_, append-assoc, append-nil}
 use Prim.Native.Nat.{ℕ, zero, suc, _+_, _-_, _*_, _≤_, _<_}
-use native.Mathlib.Nat.{not-suc-le-zero, le-of-suc-le-suc, mul-le-mul-right, zero-mul, suc-mul, zero-add, suc-add, add-zero, add-suc, add-comm, sub-self}
+use native.Mathlib.Nat.{not-suc-le-zero, le-of-suc-le-suc, mul-le-mul-right, zero-mul, suc-mul, add-mul, zero-add, suc-add, add-zero, add-suc, add-comm, sub-self}
 use native.Mathlib.Numerals.{add-one}
 use native.Mathlib.Omega.{arith}
 use borrow.Author.Tests.{ltb-true, ltb-false}
 use lib.Dec.{ltb}
-use lib.ListN.{length, take, drop, getD, set, replicate, length-append, length-drop, length-set, take-append-drop, replicate-append-replicate}
-use lib.Seq.{sets, sets-eq, length-sets, drop-drop, take-set-le, drop-set-lt, drop-set-add, take-suc-set, take-at, drop-at, take-add, take-all, drop-cons, take-nil, take-append-le, drop-append-le, length-take-le, getD-take, getD-drop}
+use lib.ListN.{length, take, drop, getD, set, replicate, length-append, length-drop, length-set, length-replicate, take-append-drop, replicate-append-replicate}
+use lib.Seq.{sets, sets-eq, length-sets, drop-drop, take-set-le, drop-set-lt, drop-set-add, take-suc-set, take-at, drop-at, take-add, take-all, drop-cons, take-nil, take-append-le, drop-append-le, length-take-le, getD-take, getD-drop, ext-getD}
 use Rattle.rows.specs.Rows.{row, setRow, view, flat, padded}
 
 -- ---- lists: runs of stores, and a part of a part
@@ -207,6 +207,51 @@ module _ {ℓ} {A : Type ℓ} (z : A) where
   pub padded-take : (xs : List A) (n : ℕ) → n ≤ length xs → take n xs ++ replicate (length xs - n) z ≡ padded z (length xs) (take n xs)
   unfolding padded
   padded-take xs n h = rw (length-take-le n xs h)
+
+  -- element i of a padded list, where z is what is read past a list's end
+  pub getD-padded : (n : ℕ) (xs : List A) (i : ℕ) → getD (padded z n xs) i z ≡ getD xs i z
+  unfolding padded
+  getD-padded n xs i = go xs i
+    where
+      zs : (m j : ℕ) → getD (replicate m z) j z ≡ z
+      zs zero j = refl
+      zs (suc m) zero = refl
+      zs (suc m) (suc j) = zs m j
+
+      go : (ys : List A) (j : ℕ) → getD (ys ++ replicate (n - length xs) z) j z ≡ getD ys j z
+      go [] j = zs (n - length xs) j
+      go (y ∷ ys) zero = refl
+      go (y ∷ ys) (suc j) = go ys j
+
+-- values laid out as rows, then zeros: what a list is whose first n rows are those values and then zero rows, with zeros after them
+module _ {ℓ κ} {A : Type ℓ} {B : Type κ} (k : ℕ) (f : List A → B) (g : B → List A) (wide : (b : B) → length (g b) ≡ k) (back : (r : List A) → length r ≡ k → g (f r) ≡ r) where
+  pub flat-append : (bs cs : List B) → flat g (bs ++ cs) ≡ flat g bs ++ flat g cs
+  unfolding flat
+  flat-append [] cs = refl
+  flat-append (b ∷ bs) cs = rw (flat-append bs cs, append-assoc)
+
+  module _ (zb : B) (z : A) (zeros : g zb ≡ replicate k z) where
+    flat-zeros : (n : ℕ) → flat g (replicate n zb) ≡ replicate (n * k) z
+    unfolding flat
+    flat-zeros zero = rw zero-mul
+    flat-zeros (suc n) = rw (zeros, flat-zeros n, replicate-append-replicate k (n * k) z, suc-mul, add-comm k (n * k))
+
+    module _ (n : ℕ) (xs : List A) (bs : List B) (fit : n * k ≤ length xs) (few : length bs ≤ n) where
+      view-padded : ((i : ℕ) → i < n → f (row k i xs) ≡ getD bs i zb) → view k f n xs ≡ padded zb n bs
+      unfolding padded
+      view-padded each = ext-getD zb (view k f n xs) (bs ++ replicate (n - length bs) zb)
+          (length-view k f n xs ∙ sym (length-append bs (replicate (n - length bs) zb) ∙ rw length-replicate (omega arith)))
+          (λ i h. let l : i < n = rw (length-view k f n xs) at h in getD-view k f n i xs zb l ∙ each i l ∙ sym (getD-padded zb n bs i))
+
+      pub padded-rows : ((i : ℕ) → i < n → f (row k i xs) ≡ getD bs i zb) → drop (n * k) xs ≡ replicate (length xs - n * k) z → xs ≡ padded z (length xs) (flat g bs)
+      unfolding padded
+      padded-rows each rest =
+          let rows : take (n * k) xs ≡ flat g bs ++ replicate ((n - length bs) * k) z =
+          sym (flat-view k f g wide back n xs fit) ∙ ap (flat g) (view-padded each) ∙ flat-append bs (replicate (n - length bs) zb) ∙ rw (flat-zeros (n - length bs)) in
+          let joined : n - length bs + length bs ≡ n = omega arith in
+          let split : (n - length bs) * k + length bs * k ≡ n * k = sym (add-mul (n - length bs) (length bs) k) ∙ rw joined in
+          let all : (n - length bs) * k + (length xs - n * k) ≡ length xs - length (flat g bs) = rw (length-flat k f g wide bs) (omega arith) in
+          sym (take-append-drop (n * k) xs) ∙ rw (rows, rest, append-assoc, replicate-append-replicate ((n - length bs) * k) (length xs - n * k) z, all)
 
 -- ---- a loop that writes z from f on: what holds at i, with its laws at the loop's start, turn and end
 module _ {ℓ} {A : Type ℓ} where

@@ -1,6 +1,5 @@
 use borrow.Author.Needs.{needs}
 use mathlib.Core.Path.{_∙_}
-use borrow.Author.Tests.{not-true, not-false}
 use Rattle.rows.proofs.StartLaws.{good-none, good-late, good-from-zero}
 use Rattle.rows.proofs.good_starts.Statement.{statement}
 use Rattle.rows.proofs.good_starts.Tie as tie
