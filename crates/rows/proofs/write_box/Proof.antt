@@ -1,0 +1,22 @@
+use borrow.Author.Needs.{needs}
+use native.Mathlib.Omega.{arith}
+use lib.ListN.{length-set}
+use Rattle.rows.specs.Points.{boxRow}
+use Rattle.rows.proofs.RowLaws.{row-written}
+use Rattle.rows.proofs.write_box.Statement.{statement}
+use Rattle.rows.proofs.write_box.Tie as tie
+
+returns : tie.Need-returns
+returns c = row-written 6 (c .args .i) (boxRow (c .args .b)) (c .args .xs .now)
+
+pub write-box-spec : {M : Type 1} → statement M
+write-box-spec =
+    tie.close
+    (tie.spec
+    (λ c. search needs) (λ c. search needs) (λ c. search needs)
+    (λ c. search needs) (λ c. search needs) (λ c. simp length-set (omega arith))
+    (λ c. search needs) (λ c. search needs) (λ c. simp length-set (omega arith))
+    (λ c. search needs) (λ c. search needs) (λ c. simp length-set (omega arith))
+    (λ c. search needs) (λ c. search needs) (λ c. simp length-set (omega arith))
+    (λ c. search needs) (λ c. search needs) (λ c. simp length-set (omega arith))
+    (λ c. simp length-set) returns)

@@ -1,0 +1,4 @@
+pub mod Rows
+pub mod Points
+pub mod Entries
+pub mod Starts
