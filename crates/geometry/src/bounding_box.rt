@@ -28,8 +28,8 @@ fn between(low: f64, x: f64, high: f64) -> bool
     low <= x && high >= x
 }
 
-// The ends of a slab, swapped by the comparison: in the given order where one is a NaN.
-fn ordered(a: f64, b: f64) -> Span
+// The ends of a slab, or two roots, swapped by the comparison: in the given order where one is a NaN.
+pub fn ordered(a: f64, b: f64) -> Span
     ensures { λ r. ⌜ r ≡ Boxes.ordered a b ⌝ }
 {
     if a > b {

@@ -1,0 +1,2 @@
+// Scenes: what the numbers and marks of their entries stand for.
+pub mod entry;

@@ -1,0 +1,15 @@
+// The roots of a quadratic, for the cylinder and the cone.
+ghost use mathlib.Core.Path.{_≡_};
+ghost use Rattle.solids.specs.Roots.{rootsOf};
+use geometry::bounding_box::Span;
+use geometry::bounding_box::ordered;
+
+// The roots of a t^2 + b t + c whose discriminant is q, in order where both are numbers.
+pub fn roots(a: f64, b: f64, q: f64) -> Span
+    ensures { λ s. ⌜ s ≡ rootsOf a b q ⌝ }
+{
+    let s = sqrt::root(q);
+    let t0 = (-b + s) / (2.0 * a);
+    let t1 = (-b - s) / (2.0 * a);
+    ordered(t0, t1)
+}
