@@ -13,7 +13,7 @@ pub enum Simple {
 
 // Kind 1 is a sphere (centre, radius), 2 a cylinder (radius, z0, z1), 3 a cone (radius, height),
 // 4 a cube (min, max) and 5 a triangle (three corners).
-pub fn simple(kind: u32, n: Numbers) -> Simple
+pub fn simple_of(kind: u32, n: Numbers) -> Simple
     ensures { λ r. ⌜ r ≡ simpleOf kind n ⌝ }
 {
     let a = Vector::new(n.x00, n.x01, n.x02);
