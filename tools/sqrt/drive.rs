@@ -128,23 +128,19 @@ fn compare(seed: u64, count: u64) -> Tally {
     t
 }
 
-// Nanoseconds a call, each argument depending on the result before: the best of several rounds.
-fn time(f: fn(f64) -> f64) -> f64 {
-    let calls = 2_000_000u64;
-    let mut best = f64::INFINITY;
-    for _ in 0..15 {
-        let mut x = black_box(1.7f64);
-        let mut r = Random(88_172_645_463_325_252);
-        let start = Instant::now();
-        for _ in 0..calls {
-            // a positive normal pattern, with the last result's sign, which is clear, in its last place
-            let b = r.next() >> 2 | 0x1000_0000_0000_0000 | x.to_bits() >> 63;
-            x = f(f64::from_bits(b));
-        }
-        black_box(x);
-        best = best.min(start.elapsed().as_secs_f64() / calls as f64 * 1e9);
+// Nanoseconds a call, each argument depending on the result before.
+fn round(f: fn(f64) -> f64) -> f64 {
+    let calls = 1_000_000u64;
+    let mut x = black_box(1.7f64);
+    let mut r = Random(88_172_645_463_325_252);
+    let start = Instant::now();
+    for _ in 0..calls {
+        // a positive normal pattern, with the last result's sign, which is clear, in its last place
+        let b = r.next() >> 2 | 0x1000_0000_0000_0000 | x.to_bits() >> 63;
+        x = f(f64::from_bits(b));
     }
-    best
+    black_box(x);
+    start.elapsed().as_secs_f64() / calls as f64 * 1e9
 }
 
 fn main() {
@@ -154,7 +150,12 @@ fn main() {
     let (seed, count) = (args.next().expect("SEED"), args.next().expect("COUNT"));
     let t = compare(seed, count);
     println!("{} inputs, {} differ", t.inputs, t.differ);
-    let (h, p) = (time(hardware), time(proved));
+    // in turn, the best round of each
+    let (mut h, mut p) = (f64::INFINITY, f64::INFINITY);
+    for _ in 0..40 {
+        h = h.min(round(hardware));
+        p = p.min(round(proved));
+    }
     println!(
         "a call, each after the last: f64::sqrt {h:.2} ns, larnt_sqrt {p:.2} ns, ratio {:.2}",
         p / h
