@@ -3,6 +3,8 @@ use Prim.Native.Nat.{ℕ}
 use mathlib.Core.Bool.{cond}
 use lib.Dec.{eqb}
 use Rattle.geometry.specs.Vectors.{vec}
+use Rattle.matrix.specs.Matrices.{mat}
+use Rattle.matrix.specs.declared.Matrix.{Matrix}
 use Rattle.rows.specs.declared.Numbers.{Numbers}
 use Rattle.solids.specs.declared.solid.Solid.{Solid}
 use Rattle.solids.specs.declared.solid.Solid.the-variants.{Sphere, Cylinder, Cone, Cube, Triangle}
@@ -18,3 +20,11 @@ simpleOf kind n =
     (cond (eqb kind 4) (Is (Cube (vec (n .x00) (n .x01) (n .x02)) (vec (n .x03) (n .x10) (n .x11))))
     (cond (eqb kind 5) (Is (Triangle (vec (n .x00) (n .x01) (n .x02)) (vec (n .x03) (n .x10) (n .x11)) (vec (n .x12) (n .x13) (n .x20))))
     Other))))
+
+-- a matrix by rows, as a placed part has it
+unfoldable pub matrixOf : Numbers → Matrix
+matrixOf n =
+    mat (n .x00) (n .x01) (n .x02) (n .x03)
+    (n .x10) (n .x11) (n .x12) (n .x13)
+    (n .x20) (n .x21) (n .x22) (n .x23)
+    (n .x30) (n .x31) (n .x32) (n .x33)

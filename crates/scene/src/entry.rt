@@ -1,7 +1,8 @@
 // An entry's kind and numbers, read as a solid.
 ghost use mathlib.Core.Path.{_≡_};
-ghost use Rattle.scene.specs.Entries.{simpleOf};
+ghost use Rattle.scene.specs.Entries.{simpleOf, matrixOf};
 use geometry::vector::Vector;
+use matrix::Matrix;
 use rows::Numbers;
 use solids::solid::Solid;
 
@@ -48,4 +49,28 @@ pub fn simple_of(kind: u32, n: Numbers) -> Simple
         });
     }
     Simple::Other
+}
+
+// A matrix by rows.
+pub fn matrix_of(n: Numbers) -> Matrix
+    ensures { λ r. ⌜ r ≡ matrixOf n ⌝ }
+{
+    Matrix {
+        x00: n.x00,
+        x01: n.x01,
+        x02: n.x02,
+        x03: n.x03,
+        x10: n.x10,
+        x11: n.x11,
+        x12: n.x12,
+        x13: n.x13,
+        x20: n.x20,
+        x21: n.x21,
+        x22: n.x22,
+        x23: n.x23,
+        x30: n.x30,
+        x31: n.x31,
+        x32: n.x32,
+        x33: n.x33,
+    }
 }

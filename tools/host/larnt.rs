@@ -1,0 +1,65 @@
+//! The calls of libhost.a (`rt staticlib host`) for Rust. Nothing checks these declarations against
+//! crates/host/src/lib.rt: whoever changes the one changes the other. Matrices stand by rows; the
+//! kinds and the order of their numbers are in larnt.h.
+
+mod raw {
+    #[link(name = "host", kind = "static")]
+    unsafe extern "C" {
+        pub safe fn larnt_sqrt(x: f64) -> f64;
+        pub safe fn larnt_box_test(b: &[f64; 6], ray: &[f64; 6], span: &mut [f64; 2]);
+        pub safe fn larnt_project(m: &[f64; 16], p: &[f64; 3], projected: &mut [f64; 3]);
+        pub safe fn larnt_inverse(m: &[f64; 16], inverse: &mut [f64; 16]) -> f64;
+        pub safe fn larnt_solid_hit(kind: u32, n: &[f64; 16], ray: &[f64; 6], t: &mut f64, ok: &mut bool) -> u32;
+        pub safe fn larnt_solid_box(kind: u32, n: &[f64; 16], b: &mut [f64; 6]) -> u32;
+        pub safe fn larnt_solid_contains(kind: u32, n: &[f64; 16], p: &[f64; 3], f: f64, inside: &mut bool) -> u32;
+    }
+}
+
+pub fn sqrt(x: f64) -> f64 {
+    raw::larnt_sqrt(x)
+}
+
+/// Where the ray enters and leaves the box.
+pub fn box_test(b: &[f64; 6], ray: &[f64; 6]) -> [f64; 2] {
+    let mut span = [0.0; 2];
+    raw::larnt_box_test(b, ray, &mut span);
+    span
+}
+
+pub fn project(m: &[f64; 16], p: &[f64; 3]) -> [f64; 3] {
+    let mut projected = [0.0; 3];
+    raw::larnt_project(m, p, &mut projected);
+    projected
+}
+
+/// The inverse, and the determinant that it was divided by.
+pub fn inverse(m: &[f64; 16]) -> ([f64; 16], f64) {
+    let mut inverse = [0.0; 16];
+    let determinant = raw::larnt_inverse(m, &mut inverse);
+    (inverse, determinant)
+}
+
+/// The distance of the hit and whether there is one, or the number of the refusal.
+pub fn solid_hit(kind: u32, n: &[f64; 16], ray: &[f64; 6]) -> Result<(f64, bool), u32> {
+    let (mut t, mut ok) = (0.0, false);
+    match raw::larnt_solid_hit(kind, n, ray, &mut t, &mut ok) {
+        0 => Ok((t, ok)),
+        number => Err(number),
+    }
+}
+
+pub fn solid_box(kind: u32, n: &[f64; 16]) -> Result<[f64; 6], u32> {
+    let mut b = [0.0; 6];
+    match raw::larnt_solid_box(kind, n, &mut b) {
+        0 => Ok(b),
+        number => Err(number),
+    }
+}
+
+pub fn solid_contains(kind: u32, n: &[f64; 16], p: &[f64; 3], f: f64) -> Result<bool, u32> {
+    let mut inside = false;
+    match raw::larnt_solid_contains(kind, n, p, f, &mut inside) {
+        0 => Ok(inside),
+        number => Err(number),
+    }
+}
