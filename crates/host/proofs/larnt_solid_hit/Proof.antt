@@ -1,5 +1,20 @@
+use mathlib.Core.Path.{ap, _∙_}
+use borrow.Author.Needs.{needs}
+use Rattle.scene.specs.Entries.{simpleOf}
+use Rattle.host.proofs.CallLaws.{hit-is, no-hit}
 use Rattle.host.proofs.larnt_solid_hit.Statement.{statement}
 use Rattle.host.proofs.larnt_solid_hit.Tie as tie
 
+returns : tie.Need-returns
+returns c =
+    let s = c .before .before .before in
+    let e = s .before .before in
+    hit-is _ _ _ (e .simple-of .ensures ∙ ap (simpleOf _) (e .before .sixteen .ensures)) (s .s .given .1) _ _ _ (c .before .ray-from .ensures) (c .intersect .ensures)
+
+returns-2 : tie.Need-returns-2
+returns-2 c =
+    let e = c .before .before in
+    no-hit _ _ (e .simple-of .ensures ∙ ap (simpleOf _) (e .before .sixteen .ensures)) (c .enum-told .given .1) _
+
 pub larnt-solid-hit-spec : {M : Type 1} → statement M
-larnt-solid-hit-spec = ?
+larnt-solid-hit-spec = tie.close (tie.spec (λ c κs. tt) (λ c κs. tt) (λ c. search needs) (λ c κs. tt) (λ c κs. tt) (λ c. search needs) returns returns-2)

@@ -1,0 +1,56 @@
+-- What the calls on a solid answer, from what the proved functions gave. Assumes nothing.
+use mathlib.Core.Path.{_≡_, refl, sym, ap, _∙_, subst}
+use mathlib.Core.Bool.{Bool, false}
+use mathlib.Core.List.{List}
+use lib.Ieee.{Float}
+use Rattle.floats.specs.Arith.{zeroF}
+use Rattle.geometry.specs.declared.vector.Vector.{Vector}
+use Rattle.geometry.specs.declared.ray.Ray.{Ray}
+use Rattle.geometry.specs.declared.hit.Hit.{Hit}
+use Rattle.geometry.specs.declared.bounding_box.BBox.{BBox}
+use Rattle.matrix.specs.Matrices.{inverted}
+use Rattle.matrix.specs.declared.Matrix.{Matrix}
+use Rattle.matrix.specs.declared.Inverted.{Inverted}
+use Rattle.rows.specs.Points.{boxRow}
+use Rattle.solids.specs.Solids.{hitOf, solidBox, containsOf}
+use Rattle.solids.specs.declared.solid.Solid.{Solid}
+use Rattle.scene.specs.declared.entry.Simple.{Simple}
+use Rattle.scene.specs.declared.entry.Simple.the-variants.{Is, Other}
+use Rattle.host.specs.Calls.{matrixRow, answerOf, distanceTo, strikes, boxNumbers, insideOf}
+
+pub inverted-is : (m m' : Matrix) (i : Inverted) → m ≡ m' → i ≡ inverted m → (i .determinant ≡ inverted m' .determinant) × (matrixRow (i .inverse) ≡ matrixRow (inverted m' .inverse))
+inverted-is m m' i e h =
+    let k : i ≡ inverted m' = h ∙ ap inverted e in
+    (ap (λ (j : Inverted). j .determinant) k, ap (λ (j : Inverted). matrixRow (j .inverse)) k)
+
+-- the kind is one of 1 to 5
+module _ (x y : Simple) (s : Solid) (read : y ≡ x) (is : y ≡ Is s) where
+  pub hit-is : (r r' : Ray) (h : Hit) → r ≡ r' → h ≡ hitOf s r → (0 ≡ answerOf x) × ((h .t ≡ distanceTo x r') × (h .ok ≡ strikes x r'))
+  unfolding answerOf distanceTo strikes
+  hit-is r r' h e k =
+      let g : h ≡ hitOf s r' = k ∙ ap (hitOf s) e in
+      subst (λ (z : Simple). (0 ≡ answerOf z) × ((h .t ≡ distanceTo z r') × (h .ok ≡ strikes z r'))) (sym is ∙ read)
+      (refl, (ap (λ (i : Hit). i .t) g, ap (λ (i : Hit). i .ok) g))
+
+  pub box-is : (b : BBox) → b ≡ solidBox s → (0 ≡ answerOf x) × (boxRow b ≡ boxNumbers x)
+  unfolding answerOf boxNumbers
+  box-is b k = subst (λ (z : Simple). (0 ≡ answerOf z) × (boxRow b ≡ boxNumbers z)) (sym is ∙ read) (refl, ap boxRow k)
+
+  pub inside-is : (p p' : Vector) (f : Float) (a : Bool) → p ≡ p' → a ≡ containsOf s p f → (0 ≡ answerOf x) × (a ≡ insideOf x p' f)
+  unfolding answerOf insideOf
+  inside-is p p' f a e k =
+      subst (λ (z : Simple). (0 ≡ answerOf z) × (a ≡ insideOf z p' f)) (sym is ∙ read) (refl, k ∙ ap (λ (q : Vector). containsOf s q f) e)
+
+-- and none of them
+module _ (x y : Simple) (read : y ≡ x) (is : y ≡ Other) where
+  pub no-hit : (r : Ray) → (3 ≡ answerOf x) × ((zeroF ≡ distanceTo x r) × (false ≡ strikes x r))
+  unfolding answerOf distanceTo strikes
+  no-hit r = subst (λ (z : Simple). (3 ≡ answerOf z) × ((zeroF ≡ distanceTo z r) × (false ≡ strikes z r))) (sym is ∙ read) (refl, (refl, refl))
+
+  pub no-box : (3 ≡ answerOf x) × (boxNumbers Other ≡ boxNumbers x)
+  unfolding answerOf
+  no-box = subst (λ (z : Simple). (3 ≡ answerOf z) × (boxNumbers Other ≡ boxNumbers z)) (sym is ∙ read) (refl, refl)
+
+  pub no-inside : (p : Vector) (f : Float) → (3 ≡ answerOf x) × (false ≡ insideOf x p f)
+  unfolding answerOf insideOf
+  no-inside p f = subst (λ (z : Simple). (3 ≡ answerOf z) × (false ≡ insideOf z p f)) (sym is ∙ read) (refl, refl)
