@@ -37,6 +37,14 @@ module _ {ℓ} {A : Type ℓ} where
   pub sets-front : (vs l : List A) → length vs ≤ length l → sets l 0 vs ≡ vs ++ drop (length vs) l
   sets-front vs l h = sets-eq vs l 0 (omega arith) ∙ rw zero-add
 
+  -- a run of stores, and then another where it ends
+  pub sets-append : (vs ws l : List A) (i : ℕ) → sets (sets l i vs) (i + length vs) ws ≡ sets l i (vs ++ ws)
+  sets-append [] ws l i = rw add-zero
+  sets-append (v ∷ vs) ws l i = let e : i + suc (length vs) ≡ suc i + length vs = omega arith in rw e (sets-append vs ws (set l i v) (suc i))
+
+  pub sets-more : (i j : ℕ) (vs ws l m n : List A) → length vs ≡ j → m ≡ sets l i vs → n ≡ sets m (i + j) ws → n ≡ sets l i (vs ++ ws)
+  sets-more i j vs ws l m n w d e = e ∙ rw (d, ← w) (sets-append vs ws l i)
+
 -- ---- one row
 module _ {ℓ} {A : Type ℓ} where
   -- element j of row i
@@ -113,9 +121,9 @@ module _ {ℓ} {A : Type ℓ} where
   write-on b (v ∷ vs) xs j = write-on b vs (set xs (b + j) v) (suc j) ∙ ap (λ (m : ℕ). sets (set xs (b + j) v) m vs) (add-suc b j)
 
   -- what the code leaves is the row replaced
-  pub row-written : (k i : ℕ) (r xs : List A) → written xs (i * k) r ≡ setRow k i r xs
-  row-written k i [] xs = refl
-  row-written k i (v ∷ vs) xs = write-on (i * k) vs (set xs (i * k) v) 1 ∙ ap (λ (m : ℕ). sets (set xs (i * k) v) m vs) (add-one (i * k))
+  pub written-is : (b : ℕ) (r xs : List A) → written xs b r ≡ sets xs b r
+  written-is b [] xs = refl
+  written-is b (v ∷ vs) xs = write-on b vs (set xs b v) 1 ∙ ap (λ (m : ℕ). sets (set xs b v) m vs) (add-one b)
 
 -- ---- the first n rows
 module _ {ℓ κ} {A : Type ℓ} {B : Type κ} (k : ℕ) (f : List A → B) where
