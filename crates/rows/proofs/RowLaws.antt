@@ -37,6 +37,14 @@ module _ {ℓ} {A : Type ℓ} where
   pub sets-front : (vs l : List A) → length vs ≤ length l → sets l 0 vs ≡ vs ++ drop (length vs) l
   sets-front vs l h = sets-eq vs l 0 (omega arith) ∙ rw zero-add
 
+  -- a run of stores, and then another where it ends
+  pub sets-append : (vs ws l : List A) (i : ℕ) → sets (sets l i vs) (i + length vs) ws ≡ sets l i (vs ++ ws)
+  sets-append [] ws l i = rw add-zero
+  sets-append (v ∷ vs) ws l i = let e : i + suc (length vs) ≡ suc i + length vs = omega arith in rw e (sets-append vs ws (set l i v) (suc i))
+
+  pub sets-more : (i j : ℕ) (vs ws l m n : List A) → length vs ≡ j → m ≡ sets l i vs → n ≡ sets m (i + j) ws → n ≡ sets l i (vs ++ ws)
+  sets-more i j vs ws l m n w d e = e ∙ rw (d, ← w) (sets-append vs ws l i)
+
 -- ---- one row
 module _ {ℓ} {A : Type ℓ} where
   -- element j of row i
@@ -113,9 +121,9 @@ module _ {ℓ} {A : Type ℓ} where
   write-on b (v ∷ vs) xs j = write-on b vs (set xs (b + j) v) (suc j) ∙ ap (λ (m : ℕ). sets (set xs (b + j) v) m vs) (add-suc b j)
 
   -- what the code leaves is the row replaced
-  pub row-written : (k i : ℕ) (r xs : List A) → written xs (i * k) r ≡ setRow k i r xs
-  row-written k i [] xs = refl
-  row-written k i (v ∷ vs) xs = write-on (i * k) vs (set xs (i * k) v) 1 ∙ ap (λ (m : ℕ). sets (set xs (i * k) v) m vs) (add-one (i * k))
+  pub written-is : (b : ℕ) (r xs : List A) → written xs b r ≡ sets xs b r
+  written-is b [] xs = refl
+  written-is b (v ∷ vs) xs = write-on b vs (set xs b v) 1 ∙ ap (λ (m : ℕ). sets (set xs b v) m vs) (add-one b)
 
 -- ---- the first n rows
 module _ {ℓ κ} {A : Type ℓ} {B : Type κ} (k : ℕ) (f : List A → B) where
@@ -164,12 +172,16 @@ module _ {ℓ κ} {A : Type ℓ} {B : Type κ} (k : ℕ) (f : List A → B) wher
       rw (m, take-sets-le k xs (k + i * k) r (omega arith), drop-sets-add k xs (i * k) r)
       (ap (λ (t : List B). f (take k xs) ∷ t) (view-setRow n i r (drop k xs) e (le-of-suc-le-suc h) fit))
 
+  -- the rows before one that is replaced stay
+  pub view-kept : (n i : ℕ) (r xs : List A) → n ≤ i → n * k ≤ length xs → view k f n (setRow k i r xs) ≡ view k f n xs
+  view-kept n i r xs h l =
+      sym (view-take n (setRow k i r xs) (simp length-sets (omega arith)))
+      ∙ ap (view k f n) (take-sets-le (n * k) xs (i * k) r (mul-le-mul-right k h))
+      ∙ view-take n xs l
+
   -- row n written: the rows before it, and then it
   pub view-written : (n : ℕ) (r xs : List A) → length r ≡ k → n * k + k ≤ length xs → view k f (n + 1) (setRow k n r xs) ≡ view k f n xs ++ (f r ∷ [])
-  view-written n r xs wide fit =
-      let before : view k f n (setRow k n r xs) ≡ view k f n xs
-      = sym (view-take n (setRow k n r xs) (simp length-sets (omega arith))) ∙ ap (view k f n) (take-sets-le (n * k) xs (n * k) r (omega arith)) ∙ view-take n xs (omega arith) in
-      rw (add-one, view-more n (setRow k n r xs), before, row-same k n r xs wide fit)
+  view-written n r xs wide fit = rw (add-one, view-more n (setRow k n r xs), view-kept n n r xs (omega arith) (omega arith), row-same k n r xs wide fit)
 
   -- ---- values laid out as rows
   module _ (g : B → List A) (wide : (b : B) → length (g b) ≡ k) where
@@ -223,7 +235,7 @@ module _ {ℓ} {A : Type ℓ} (z : A) where
       go (y ∷ ys) zero = refl
       go (y ∷ ys) (suc j) = go ys j
 
--- values laid out as rows, then zeros: what a list is whose first n rows are those values and then zero rows, with zeros after them
+-- a list whose first n rows are those of bs and then zero rows, with zeros after them, is bs laid out and then zeros
 module _ {ℓ κ} {A : Type ℓ} {B : Type κ} (k : ℕ) (f : List A → B) (g : B → List A) (wide : (b : B) → length (g b) ≡ k) (back : (r : List A) → length r ≡ k → g (f r) ≡ r) where
   pub flat-append : (bs cs : List B) → flat g (bs ++ cs) ≡ flat g bs ++ flat g cs
   unfolding flat
@@ -243,15 +255,22 @@ module _ {ℓ κ} {A : Type ℓ} {B : Type κ} (k : ℕ) (f : List A → B) (g :
           (length-view k f n xs ∙ sym (length-append bs (replicate (n - length bs) zb) ∙ rw length-replicate (omega arith)))
           (λ i h. let l : i < n = rw (length-view k f n xs) at h in getD-view k f n i xs zb l ∙ each i l ∙ sym (getD-padded zb n bs i))
 
+      rows-padded : ((i : ℕ) → i < n → f (row k i xs) ≡ getD bs i zb) → take (n * k) xs ≡ flat g bs ++ replicate ((n - length bs) * k) z
+      unfolding padded
+      rows-padded each =
+          sym (flat-view k f g wide back n xs fit)
+          ∙ ap (flat g) (view-padded each)
+          ∙ flat-append bs (replicate (n - length bs) zb)
+          ∙ rw (flat-zeros (n - length bs))
+
       pub padded-rows : ((i : ℕ) → i < n → f (row k i xs) ≡ getD bs i zb) → drop (n * k) xs ≡ replicate (length xs - n * k) z → xs ≡ padded z (length xs) (flat g bs)
       unfolding padded
       padded-rows each rest =
-          let rows : take (n * k) xs ≡ flat g bs ++ replicate ((n - length bs) * k) z =
-          sym (flat-view k f g wide back n xs fit) ∙ ap (flat g) (view-padded each) ∙ flat-append bs (replicate (n - length bs) zb) ∙ rw (flat-zeros (n - length bs)) in
           let joined : n - length bs + length bs ≡ n = omega arith in
           let split : (n - length bs) * k + length bs * k ≡ n * k = sym (add-mul (n - length bs) (length bs) k) ∙ rw joined in
           let all : (n - length bs) * k + (length xs - n * k) ≡ length xs - length (flat g bs) = rw (length-flat k f g wide bs) (omega arith) in
-          sym (take-append-drop (n * k) xs) ∙ rw (rows, rest, append-assoc, replicate-append-replicate ((n - length bs) * k) (length xs - n * k) z, all)
+          sym (take-append-drop (n * k) xs)
+          ∙ rw (rows-padded each, rest, append-assoc, replicate-append-replicate ((n - length bs) * k) (length xs - n * k) z, all)
 
 -- ---- a loop that writes z from f on: what holds at i, with its laws at the loop's start, turn and end
 module _ {ℓ} {A : Type ℓ} where

@@ -1,9 +1,10 @@
 // Rows of a fixed width in flat lent slices: points, boxes, and what belongs to an entry of a scene;
 // clearing a slice from a place on; and the check of path starts.
 ghost use mathlib.Core.Path.{_≡_};
-ghost use mathlib.Core.List.{_++_};
+ghost use mathlib.Core.List.{[], _∷_, _++_};
 ghost use Prim.Native.Nat.{_+_, _-_, _*_, _≤_, _<_};
 ghost use lib.ListN.{length, take, replicate};
+ghost use lib.Seq.{sets};
 ghost use Rattle.floats.specs.Arith.{zeroF};
 ghost use Rattle.rows.specs.Rows.{row, setRow};
 ghost use Rattle.rows.specs.Points.{pointOf, pointRow, boxOfRow, boxRow};
@@ -111,27 +112,26 @@ pub fn read_numbers(xs: &[f64], i: usize) -> Numbers
     }
 }
 
+// Four numbers from `at` on.
+fn write_four(xs: &mut [f64], at: usize, a: f64, b: f64, c: f64, d: f64)
+    requires { ⌜ at + 4 ≤ length (now xs) ⌝ }
+    ensures { λ _. ⌜ now (xs .exit) ≡ sets (now (xs .entry)) at (a ∷ b ∷ c ∷ d ∷ []) ⌝ }
+{
+    xs[at] = a;
+    xs[at + 1] = b;
+    xs[at + 2] = c;
+    xs[at + 3] = d;
+}
+
 pub fn write_numbers(xs: &mut [f64], i: usize, m: Numbers)
     requires { ⌜ i * 16 + 16 ≤ length (now xs) ⌝ }
     ensures { λ _. ⌜ now (xs .exit) ≡ setRow 16 i (numbersRow m) (now (xs .entry)) ⌝ }
 {
     let at = i * 16;
-    xs[at] = m.x00;
-    xs[at + 1] = m.x01;
-    xs[at + 2] = m.x02;
-    xs[at + 3] = m.x03;
-    xs[at + 4] = m.x10;
-    xs[at + 5] = m.x11;
-    xs[at + 6] = m.x12;
-    xs[at + 7] = m.x13;
-    xs[at + 8] = m.x20;
-    xs[at + 9] = m.x21;
-    xs[at + 10] = m.x22;
-    xs[at + 11] = m.x23;
-    xs[at + 12] = m.x30;
-    xs[at + 13] = m.x31;
-    xs[at + 14] = m.x32;
-    xs[at + 15] = m.x33;
+    write_four(xs, at, m.x00, m.x01, m.x02, m.x03);
+    write_four(xs, at + 4, m.x10, m.x11, m.x12, m.x13);
+    write_four(xs, at + 8, m.x20, m.x21, m.x22, m.x23);
+    write_four(xs, at + 12, m.x30, m.x31, m.x32, m.x33);
 }
 
 // The marks of an entry: its kind, its detail, and the entries that it names.

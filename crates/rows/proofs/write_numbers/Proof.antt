@@ -1,32 +1,37 @@
+use mathlib.Core.Path.{refl}
+use mathlib.Core.List.{List, [], _∷_, _++_}
+use Prim.Native.Nat.{_*_}
 use borrow.Author.Needs.{needs}
-use native.Mathlib.Omega.{arith}
-use lib.ListN.{length-set}
-use Rattle.rows.specs.Entries.{numbersRow}
-use Rattle.rows.proofs.RowLaws.{row-written}
+use lib.Ieee.{Float}
+use Rattle.rows.proofs.RowLaws.{sets-more}
 use Rattle.rows.proofs.write_numbers.Statement.{statement}
 use Rattle.rows.proofs.write_numbers.Tie as tie
 
 returns : tie.Need-returns
-returns c = row-written 16 (c .args .i) (numbersRow (c .args .m)) (c .args .xs .now)
+returns c =
+    let s = c .before .before .before .before .before .before .before .before .before .before .before .before .before .before .before .before .before in
+    let xs = s .args .xs .now in
+    let m = s .args .m in
+    let b = s .args .i * 16 in
+    let p : List Float = m .x00 ∷ m .x01 ∷ m .x02 ∷ m .x03 ∷ [] in
+    let q : List Float = m .x10 ∷ m .x11 ∷ m .x12 ∷ m .x13 ∷ [] in
+    let r : List Float = m .x20 ∷ m .x21 ∷ m .x22 ∷ m .x23 ∷ [] in
+    let t : List Float = m .x30 ∷ m .x31 ∷ m .x32 ∷ m .x33 ∷ [] in
+    let two = sets-more b 4 p q xs _ _ refl (c .before .before .before .before .before .before .before .before .before .before .before .before .before .before .write-four .ensures) (c .before .before .before .before .before .before .before .before .before .before .write-four2 .ensures) in
+    let three = sets-more b 8 (p ++ q) r xs _ _ refl two (c .before .before .before .before .before .before .write-four3 .ensures) in
+    sets-more b 12 (p ++ q ++ r) t xs _ _ refl three (c .before .before .write-four4 .ensures)
 
 pub write-numbers-spec : {M : Type 1} → statement M
 write-numbers-spec =
     tie.close
     (tie.spec
-    (λ c. search needs) (λ c. search needs) (λ c. search needs)
-    (λ c. search needs) (λ c. search needs) (λ c. simp length-set (omega arith))
-    (λ c. search needs) (λ c. search needs) (λ c. simp length-set (omega arith))
-    (λ c. search needs) (λ c. search needs) (λ c. simp length-set (omega arith))
-    (λ c. search needs) (λ c. search needs) (λ c. simp length-set (omega arith))
-    (λ c. search needs) (λ c. search needs) (λ c. simp length-set (omega arith))
-    (λ c. search needs) (λ c. search needs) (λ c. simp length-set (omega arith))
-    (λ c. search needs) (λ c. search needs) (λ c. simp length-set (omega arith))
-    (λ c. search needs) (λ c. search needs) (λ c. simp length-set (omega arith))
-    (λ c. search needs) (λ c. search needs) (λ c. simp length-set (omega arith))
-    (λ c. search needs) (λ c. search needs) (λ c. simp length-set (omega arith))
-    (λ c. search needs) (λ c. search needs) (λ c. simp length-set (omega arith))
-    (λ c. search needs) (λ c. search needs) (λ c. simp length-set (omega arith))
-    (λ c. search needs) (λ c. search needs) (λ c. simp length-set (omega arith))
-    (λ c. search needs) (λ c. search needs) (λ c. simp length-set (omega arith))
-    (λ c. search needs) (λ c. search needs) (λ c. simp length-set (omega arith))
-    (λ c. simp length-set) returns)
+    (λ c. search needs)
+    (λ c κs. search needs)
+    (λ c. search needs)
+    (λ c κs. search needs)
+    (λ c. search needs)
+    (λ c κs. search needs)
+    (λ c. search needs)
+    (λ c κs. search needs)
+    (λ c. search needs)
+    returns)

@@ -1,13 +1,14 @@
+use Prim.Native.Nat.{_*_}
 use borrow.Author.Needs.{needs}
 use native.Mathlib.Omega.{arith}
 use lib.ListN.{length-set}
 use Rattle.rows.specs.Entries.{tripleRow}
-use Rattle.rows.proofs.RowLaws.{row-written}
+use Rattle.rows.proofs.RowLaws.{written-is}
 use Rattle.rows.proofs.write_triple.Statement.{statement}
 use Rattle.rows.proofs.write_triple.Tie as tie
 
 returns : tie.Need-returns
-returns c = row-written 3 (c .args .i) (tripleRow (c .args .t)) (c .args .xs .now)
+returns c = written-is (c .args .i * 3) (tripleRow (c .args .t)) (c .args .xs .now)
 
 pub write-triple-spec : {M : Type 1} → statement M
 write-triple-spec =
