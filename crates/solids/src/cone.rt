@@ -43,11 +43,13 @@ pub fn intersect(radius: f64, height: f64, ray: Ray) -> Hit
         return Hit::no_hit();
     }
     let t = roots(a, b, q);
-    if on_cone(height, ray, t.tmin) {
-        return Hit::new(t.tmin);
+    let t0 = t.tmin;
+    let t1 = t.tmax;
+    if on_cone(height, ray, t0) {
+        return Hit::new(t0);
     }
-    if on_cone(height, ray, t.tmax) {
-        return Hit::new(t.tmax);
+    if on_cone(height, ray, t1) {
+        return Hit::new(t1);
     }
     Hit::no_hit()
 }

@@ -49,11 +49,15 @@ pub fn intersect(radius: f64, z0: f64, z1: f64, ray: Ray) -> Hit
         return Hit::no_hit();
     }
     let t = roots(a, b, q);
-    if on_tube(z0, z1, t.tmin, o.z + t.tmin * d.z) {
-        return Hit::new(t.tmin);
+    let t0 = t.tmin;
+    let t1 = t.tmax;
+    let at0 = o.z + t0 * d.z;
+    let at1 = o.z + t1 * d.z;
+    if on_tube(z0, z1, t0, at0) {
+        return Hit::new(t0);
     }
-    if on_tube(z0, z1, t.tmax, o.z + t.tmax * d.z) {
-        return Hit::new(t.tmax);
+    if on_tube(z0, z1, t1, at1) {
+        return Hit::new(t1);
     }
     Hit::no_hit()
 }
