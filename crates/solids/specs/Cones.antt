@@ -4,12 +4,12 @@ use lib.Ieee.{Float, lt, le, neg}
 use Rattle.floats.specs.Arith.{_⊕_, _⊖_, _⊗_, _⊘_, zeroF, twoF, fourF, millionth}
 use Rattle.geometry.specs.Vectors.{vec}
 use Rattle.geometry.specs.Rays.{position}
-use Rattle.geometry.specs.Hits.{hitAt, noHit}
+use Rattle.geometry.specs.Hits.{noHit}
 use Rattle.geometry.specs.Boxes.{boxOf}
 use Rattle.geometry.specs.declared.ray.Ray.{Ray}
 use Rattle.geometry.specs.declared.hit.Hit.{Hit}
 use Rattle.geometry.specs.declared.bounding_box.BBox.{BBox}
-use Rattle.solids.specs.Roots.{rootsOf}
+use Rattle.solids.specs.Roots.{firstOf, rootsOf}
 
 unfoldable pub coneBox : Float → Float → BBox
 coneBox radius height = boxOf (vec (neg radius) (neg radius) zeroF) (vec radius radius height)
@@ -32,6 +32,4 @@ coneHit radius height ray =
     let c = o .x ⊗ o .x ⊕ o .y ⊗ o .y ⊖ k ⊗ (o .z ⊖ height) ⊗ (o .z ⊖ height) in
     let q = b ⊗ b ⊖ fourF ⊗ a ⊗ c in
     let t = rootsOf a b q in
-    cond (le q zeroF) noHit
-    (cond (onCone height ray (t .tmin)) (hitAt (t .tmin))
-    (cond (onCone height ray (t .tmax)) (hitAt (t .tmax)) noHit))
+    cond (le q zeroF) noHit (firstOf t (onCone height ray (t .tmin)) (onCone height ray (t .tmax)))

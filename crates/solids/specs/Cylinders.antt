@@ -3,13 +3,13 @@ use mathlib.Core.Bool.{Bool, false, cond, _&&_}
 use lib.Ieee.{Float, lt, le, neg}
 use Rattle.floats.specs.Arith.{_⊕_, _⊖_, _⊗_, zeroF, twoF, fourF, millionth}
 use Rattle.geometry.specs.Vectors.{vec, lengthOf}
-use Rattle.geometry.specs.Hits.{hitAt, noHit}
+use Rattle.geometry.specs.Hits.{noHit}
 use Rattle.geometry.specs.Boxes.{boxOf}
 use Rattle.geometry.specs.declared.vector.Vector.{Vector}
 use Rattle.geometry.specs.declared.ray.Ray.{Ray}
 use Rattle.geometry.specs.declared.hit.Hit.{Hit}
 use Rattle.geometry.specs.declared.bounding_box.BBox.{BBox}
-use Rattle.solids.specs.Roots.{rootsOf}
+use Rattle.solids.specs.Roots.{firstOf, rootsOf}
 
 unfoldable pub cylinderBox : Float → Float → Float → BBox
 cylinderBox radius z0 z1 = boxOf (vec (neg radius) (neg radius) z0) (vec radius radius z1)
@@ -33,6 +33,6 @@ cylinderHit radius z0 z1 ray =
     let c = o .x ⊗ o .x ⊕ o .y ⊗ o .y ⊖ radius ⊗ radius in
     let q = b ⊗ b ⊖ fourF ⊗ a ⊗ c in
     let t = rootsOf a b q in
-    cond (lt q zeroF) noHit
-    (cond (onTube z0 z1 (t .tmin) (o .z ⊕ t .tmin ⊗ d .z)) (hitAt (t .tmin))
-    (cond (onTube z0 z1 (t .tmax) (o .z ⊕ t .tmax ⊗ d .z)) (hitAt (t .tmax)) noHit))
+    let near = onTube z0 z1 (t .tmin) (o .z ⊕ t .tmin ⊗ d .z) in
+    let far = onTube z0 z1 (t .tmax) (o .z ⊕ t .tmax ⊗ d .z) in
+    cond (lt q zeroF) noHit (firstOf t near far)

@@ -15,7 +15,7 @@ triangleBox v1 v2 v3 = boxOf (minV (minV v1 v2) v3) (maxV (maxV v1 v2) v3)
 
 -- Document 01's triangle: Möller–Trumbore with an EPS band. Of origin + d direction = v1 + u e1 + v e2, where e1 and e2 are the edges from v1,
 -- Cramer's rule gives u, v and d, each over det = e1 · (direction × e2). A miss where det lies in the band about 0, where the point is
--- beyond an edge, and where d is below EPS.
+-- beyond an edge, and where d is below EPS. The Rust writes these products out, in the order that dot and cross have.
 unfoldable pub triangleHit : Vector → Vector → Vector → Ray → Hit
 triangleHit v1 v2 v3 r =
     let e1 = subV v2 v1 in

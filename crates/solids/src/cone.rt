@@ -2,6 +2,7 @@
 // contains nothing.
 ghost use mathlib.Core.Path.{_≡_};
 ghost use Rattle.solids.specs.Cones.{coneBox, coneHit, onCone};
+use crate::roots::first;
 use crate::roots::roots;
 use geometry::bounding_box::BBox;
 use geometry::hit::Hit;
@@ -17,7 +18,7 @@ pub fn bounding_box(radius: f64, height: f64) -> BBox
     )
 }
 
-// Whether the ray, which meets the endless cone at t, is there ahead and strictly between base and tip.
+// Whether the root t is ahead, and the ray there strictly between base and tip.
 fn on_cone(height: f64, ray: Ray, t: f64) -> bool
     ensures { λ r. ⌜ r ≡ onCone height ray t ⌝ }
 {
@@ -43,11 +44,7 @@ pub fn intersect(radius: f64, height: f64, ray: Ray) -> Hit
         return Hit::no_hit();
     }
     let t = roots(a, b, q);
-    if on_cone(height, ray, t.tmin) {
-        return Hit::new(t.tmin);
-    }
-    if on_cone(height, ray, t.tmax) {
-        return Hit::new(t.tmax);
-    }
-    Hit::no_hit()
+    let near = on_cone(height, ray, t.tmin);
+    let far = on_cone(height, ray, t.tmax);
+    first(t, near, far)
 }

@@ -1,6 +1,7 @@
 // A cylinder about the Z axis, by its radius and the z of its ends. It is a tube: its ends are open.
 ghost use mathlib.Core.Path.{_≡_};
 ghost use Rattle.solids.specs.Cylinders.{cylinderBox, cylinderContains, cylinderHit, onTube};
+use crate::roots::first;
 use crate::roots::roots;
 use geometry::bounding_box::BBox;
 use geometry::hit::Hit;
@@ -49,11 +50,7 @@ pub fn intersect(radius: f64, z0: f64, z1: f64, ray: Ray) -> Hit
         return Hit::no_hit();
     }
     let t = roots(a, b, q);
-    if on_tube(z0, z1, t.tmin, o.z + t.tmin * d.z) {
-        return Hit::new(t.tmin);
-    }
-    if on_tube(z0, z1, t.tmax, o.z + t.tmax * d.z) {
-        return Hit::new(t.tmax);
-    }
-    Hit::no_hit()
+    let near = on_tube(z0, z1, t.tmin, o.z + t.tmin * d.z);
+    let far = on_tube(z0, z1, t.tmax, o.z + t.tmax * d.z);
+    first(t, near, far)
 }

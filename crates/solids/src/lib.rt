@@ -2,7 +2,7 @@
 pub mod cone;
 pub mod cube;
 pub mod cylinder;
-pub mod roots;
+mod roots;
 pub mod solid;
 pub mod sphere;
 pub mod triangle;

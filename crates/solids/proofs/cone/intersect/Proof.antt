@@ -8,15 +8,7 @@ returns c = simp (c .before .if1 .taken, ← c .no-hit .ensures)
 
 returns-2 : tie.Need-returns-2
 unfolding coneHit
-returns-2 c = simp (c .before .before .before .before .if1 .left, ← c .before .before .before .roots .ensures, ← c .before .before .on-cone .ensures, c .before .if2 .taken, ← c .new .ensures)
-
-returns-3 : tie.Need-returns-3
-unfolding coneHit
-returns-3 c = simp (c .before .before .before .before .before .before .if1 .left, ← c .before .before .before .before .before .roots .ensures, ← c .before .before .before .before .on-cone .ensures, c .before .before .before .if2 .left, ← c .before .before .on-cone2 .ensures, c .before .if3 .taken, ← c .new2 .ensures)
-
-returns-4 : tie.Need-returns-4
-unfolding coneHit
-returns-4 c = simp (c .before .before .before .before .before .before .if1 .left, ← c .before .before .before .before .before .roots .ensures, ← c .before .before .before .before .on-cone .ensures, c .before .before .before .if2 .left, ← c .before .before .on-cone2 .ensures, c .before .if3 .left, ← c .no-hit2 .ensures)
+returns-2 c = simp (c .before .before .before .before .if1 .left, ← c .before .before .before .roots .ensures, ← c .before .before .on-cone .ensures, ← c .before .on-cone2 .ensures, ← c .first .ensures)
 
 pub intersect-spec : {M : Type 1} → statement M
-intersect-spec = tie.close (tie.spec (λ c κs. tt) returns (λ c κs. tt) (λ c κs. tt) (λ c κs. tt) returns-2 (λ c κs. tt) (λ c κs. tt) returns-3 (λ c κs. tt) returns-4)
+intersect-spec = tie.close (tie.spec (λ c κs. tt) returns (λ c κs. tt) (λ c κs. tt) (λ c κs. tt) (λ c κs. tt) returns-2)
