@@ -1,0 +1,11 @@
+use borrow.Author.Needs.{needs}
+use Rattle.leaves_check.specs.Words.{boxAt}
+use Rattle.leaves_check.proofs.box_at.Statement.{statement}
+use Rattle.leaves_check.proofs.box_at.Tie as tie
+
+returns : tie.Need-returns
+unfolding boxAt
+returns c = simp (← c .before .before .point-at .ensures, ← c .before .point-at2 .ensures, ← c .new .ensures)
+
+pub box-at-spec : {M : Type 1} → statement M
+box-at-spec = tie.close (tie.spec (λ c κs. search needs) (λ c. search needs) (λ c κs. search needs) (λ c κs. tt) returns)
