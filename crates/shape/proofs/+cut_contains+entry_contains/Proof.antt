@@ -15,6 +15,9 @@ use Rattle.shape.proofs.entry_contains.Reads as entry-contains
 use Rattle.shape.proofs.entry_contains.Kinds as entry-contains-kinds
 use Rattle.shape.proofs.+cut_contains+entry_contains.Lts-entry_contains as entry-contains-lts
 use Rattle.shape.proofs.+cut_contains+entry_contains.{statement}
+use Rattle.solids.proofs.solid.Solid.contains.Reads as contains-reads
+use Rattle.scene.proofs.entry.entry_at.Reads as entry-at-reads
+use Rattle.matrix.proofs.Matrix.mul_position.Reads as mul-position-reads
 use Rattle.shape.proofs.+cut_contains+entry_contains.Tie.{close}
 
 abbrev μ-cut-contains : Measures 3 cut-contains-kinds.ps ℕ

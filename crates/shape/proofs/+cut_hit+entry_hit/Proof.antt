@@ -13,6 +13,16 @@ use Rattle.shape.proofs.entry_hit.Reads as entry-hit
 use Rattle.shape.proofs.entry_hit.Kinds as entry-hit-kinds
 use Rattle.shape.proofs.+cut_hit+entry_hit.Lts-entry_hit as entry-hit-lts
 use Rattle.shape.proofs.+cut_hit+entry_hit.{statement}
+use Rattle.shape.proofs.both.Reads as both-reads
+use Rattle.shape.proofs.cut_contains.Reads as cut-contains-reads
+use Rattle.scene.proofs.entry.entry_at.Reads as entry-at-reads
+use Rattle.solids.proofs.solid.Solid.intersect.Reads as intersect-reads
+use Rattle.geometry.proofs.hit.Hit.is_ok.Reads as is-ok-reads
+use Rattle.matrix.proofs.Matrix.mul_ray.Reads as mul-ray-reads
+use Rattle.geometry.proofs.hit.Hit.no_hit.Reads as no-hit-reads
+use Rattle.geometry.proofs.ray.Ray.position.Reads as position-reads
+use Rattle.shape.proofs.rescaled.Reads as rescaled-reads
+use Rattle.shape.proofs.restarted.Reads as restarted-reads
 use Rattle.shape.proofs.+cut_hit+entry_hit.Tie.{close}
 
 abbrev μ-cut-hit : Measures 3 cut-hit-kinds.ps ℕ
