@@ -1,15 +1,25 @@
 -- What an entry's kind and its 16 numbers stand for (document 01, "Scene").
-use Prim.Native.Nat.{ℕ}
-use mathlib.Core.Bool.{cond}
-use lib.Dec.{eqb}
+use Prim.Native.Nat.{ℕ, _/_}
+use mathlib.Core.Bool.{cond, _&&_}
+use mathlib.Core.List.{List}
+use lib.ListN.{length}
+use lib.Dec.{ltb, eqb}
+use lib.Ieee.{Float}
 use Rattle.geometry.specs.Vectors.{vec}
 use Rattle.matrix.specs.Matrices.{mat}
 use Rattle.matrix.specs.declared.Matrix.{Matrix}
+use Rattle.rows.specs.Rows.{row}
+use Rattle.rows.specs.Entries.{numbersOf, marksOf}
 use Rattle.rows.specs.declared.Numbers.{Numbers}
+use Rattle.rows.specs.declared.Marks.{Marks}
 use Rattle.solids.specs.declared.solid.Solid.{Solid}
 use Rattle.solids.specs.declared.solid.Solid.the-variants.{Sphere, Cylinder, Cone, Cube, Triangle}
 use Rattle.scene.specs.declared.entry.Simple.{Simple}
 use Rattle.scene.specs.declared.entry.Simple.the-variants.{Is, Other}
+use Rattle.scene.specs.declared.entry.Op.{Op}
+use Rattle.scene.specs.declared.entry.Op.the-variants.{Intersection, Difference}
+use Rattle.scene.specs.declared.entry.Entry.{Entry}
+use Rattle.scene.specs.declared.entry.Entry.the-variants.{Simple as SimpleEntry, Placed, Cut, None}
 
 -- kinds 1 to 5, sphere, cylinder, cone, cube and triangle, with their measures
 unfoldable pub simpleOf : ℕ → Numbers → Simple
@@ -28,3 +38,28 @@ matrixOf n =
     (n .x10) (n .x11) (n .x12) (n .x13)
     (n .x20) (n .x21) (n .x22) (n .x23)
     (n .x30) (n .x31) (n .x32) (n .x33)
+
+-- kind 7, a cut: operation 0 is the intersection, 1 the difference
+unfoldable pub cutOf : Marks → Entry
+cutOf m =
+    cond (eqb (m .detail) 0) (Cut Intersection (m .first) (m .second))
+    (cond (eqb (m .detail) 1) (Cut Difference (m .first) (m .second)) None)
+
+-- kind 6, a placed part with its matrix and its inverse, and kind 7
+unfoldable pub compositeOf : Marks → Numbers → Numbers → Entry
+compositeOf m n inverse =
+    cond (eqb (m .kind) 6) (Placed (matrixOf n) (matrixOf inverse) (m .first))
+    (cond (eqb (m .kind) 7) (cutOf m) None)
+
+unfoldable pub simpleOr : Simple → Entry → Entry
+simpleOr (Is s) e = SimpleEntry s
+simpleOr Other e = e
+
+unfoldable pub entryOf : Marks → Numbers → Numbers → Entry
+entryOf m n inverse = simpleOr (simpleOf (m .kind) n) (compositeOf m n inverse)
+
+-- entry i of a scene with its inverses; `None` where a list does not have it
+unfoldable pub entryAt : List Float → List Float → List ℕ → ℕ → Entry
+entryAt numbers inverses marks i =
+    cond (ltb i (length numbers / 16) && (ltb i (length inverses / 16) && ltb i (length marks / 4)))
+    (entryOf (marksOf (row 4 i marks)) (numbersOf (row 16 i numbers)) (numbersOf (row 16 i inverses))) None

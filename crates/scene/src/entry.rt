@@ -1,8 +1,9 @@
-// An entry's kind and numbers, read as a solid.
+// An entry of a scene: its 16 numbers and 4 marks, read as what they stand for.
 ghost use mathlib.Core.Path.{_≡_};
-ghost use Rattle.scene.specs.Entries.{simpleOf, matrixOf};
+ghost use Rattle.scene.specs.Entries.{simpleOf, matrixOf, cutOf, compositeOf, entryOf, entryAt};
 use geometry::vector::Vector;
 use matrix::Matrix;
+use rows::Marks;
 use rows::Numbers;
 use solids::solid::Solid;
 
@@ -73,4 +74,72 @@ pub fn matrix_of(n: Numbers) -> Matrix
         x32: n.x32,
         x33: n.x33,
     }
+}
+
+// The operation of a cut.
+pub enum Op {
+    Intersection,
+    Difference,
+}
+
+// What an entry stands for: a simple solid, a placing (its matrix, the inverse, its part), a cut (its
+// operation and parts), or nothing.
+pub enum Entry {
+    Simple(Solid),
+    Placed(Matrix, Matrix, usize),
+    Cut(Op, usize, usize),
+    None,
+}
+
+fn cut_of(m: Marks) -> Entry
+    ensures { λ e. ⌜ e ≡ cutOf m ⌝ }
+{
+    if m.detail == 0 {
+        return Entry::Cut(Op::Intersection, m.first as usize, m.second as usize);
+    }
+    if m.detail == 1 {
+        return Entry::Cut(Op::Difference, m.first as usize, m.second as usize);
+    }
+    Entry::None
+}
+
+// Kinds 6 and 7, by the marks, the numbers and the numbers of the inverse.
+fn composite_of(m: Marks, n: Numbers, inverse: Numbers) -> Entry
+    ensures { λ e. ⌜ e ≡ compositeOf m n inverse ⌝ }
+{
+    if m.kind == 6 {
+        return Entry::Placed(matrix_of(n), matrix_of(inverse), m.first as usize);
+    }
+    if m.kind == 7 {
+        return cut_of(m);
+    }
+    Entry::None
+}
+
+pub fn entry_of(m: Marks, n: Numbers, inverse: Numbers) -> Entry
+    ensures { λ e. ⌜ e ≡ entryOf m n inverse ⌝ }
+{
+    let s = simple_of(m.kind, n);
+    match s {
+        Simple::Is(solid) => Entry::Simple(solid),
+        Simple::Other => composite_of(m, n, inverse),
+    }
+}
+
+// Entry i of a scene with its inverses, nothing where a slice does not have it.
+pub fn entry_at(numbers: &[f64], inverses: &[f64], marks: &[u32], i: usize) -> Entry
+    ensures { λ e. ⌜ e ≡ entryAt (now (numbers .entry)) (now (inverses .entry)) (now (marks .entry)) i ⌝ }
+{
+    if i < numbers.len() / 16 {
+        if i < inverses.len() / 16 {
+            if i < marks.len() / 4 {
+                return entry_of(
+                    rows::read_marks(marks, i),
+                    rows::read_numbers(numbers, i),
+                    rows::read_numbers(inverses, i),
+                );
+            }
+        }
+    }
+    Entry::None
 }
