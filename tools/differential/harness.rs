@@ -18,7 +18,7 @@ impl Run {
     }
 
     /// Puts each case to the Rust and to every form of the core, and prints one line.
-    /// The share of answers that `counts` says how much the comparison bites.
+    /// The share of answers that `counts` takes tells how much the comparison bites.
     pub fn compare<I: AsRef<[u64]>, A: AsRef<[u64]> + PartialEq>(
         &mut self,
         name: &str,

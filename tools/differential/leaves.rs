@@ -62,8 +62,8 @@ fn refused(a: &Answer) -> bool {
     a[0] == 3 && a[1..].iter().all(|word| *word == 0)
 }
 
-/// Ordinary inputs, put to each side in one pass.
-const INPUTS: usize = 4096;
+/// Ordinary inputs, put to each side in one pass: more than a processor learns by heart.
+const INPUTS: usize = 8192;
 
 pub fn speed() {
     timed("sqrt", inputs::squared_length, |calls, xs| {
