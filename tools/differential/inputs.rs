@@ -127,11 +127,11 @@ fn spoilt_solid(rng: &mut Rng, kind: u32, n: &Numbers, more: &[f64]) -> Input {
 
 pub fn solid_and_ray(rng: &mut Rng, kind: u32) -> (Numbers, Ray) {
     let grain = grain(rng);
-    let n = solid(rng, grain, kind);
-    match kind {
-        1 | 4 | 5 if rng.chance(5) => next_to_origin(rng, grain, kind, n),
-        _ => (n, ray(rng, grain, kind, &n)),
+    if rng.chance(5) {
+        return at_threshold(rng, grain, kind);
     }
+    let n = solid(rng, grain, kind);
+    (n, ray(rng, grain, kind, &n))
 }
 
 pub fn solid_and_point(rng: &mut Rng, kind: u32) -> (Numbers, Point, f64) {
@@ -351,14 +351,40 @@ fn ray(rng: &mut Rng, grain: Grain, kind: u32, n: &Numbers) -> Ray {
     [origin[0], origin[1], origin[2], direction[0], direction[1], direction[2]]
 }
 
-/// A solid moved so that a point of it stands exactly at a threshold's distance along the ray.
-fn next_to_origin(rng: &mut Rng, grain: Grain, kind: u32, n: Numbers) -> (Numbers, Ray) {
-    let (aim, d, t) = (spot(rng, grain, kind, &n), axis(rng), threshold(rng));
-    let mut moved = n;
-    for (k, x) in moved[..used_numbers(kind) / 3 * 3].iter_mut().enumerate() {
-        *x = (*x - aim.point[k % 3]) + d[k % 3] * t;
+/// A solid and a ray whose distance comes out at a threshold, often exactly.
+fn at_threshold(rng: &mut Rng, grain: Grain, kind: u32) -> (Numbers, Ray) {
+    let (d, t) = (axis(rng), threshold(rng));
+    let mut n = solid(rng, grain, kind);
+    let mut origin = [0.0; 3];
+    // a round solid of radius t: from its axis, or from as far again before it
+    let before = along(origin, d, -t * rng.pick(&[0.0, 2.0]));
+    match kind {
+        1 => {
+            n[..4].copy_from_slice(&[0.0, 0.0, 0.0, t]);
+            origin = before;
+        }
+        2 => {
+            n[..3].copy_from_slice(&[t, -1.0, 1.0]);
+            origin = before;
+        }
+        3 => {
+            n[..2].copy_from_slice(&[2.0 * t, 2.0]);
+            origin = along(before, [0.0, 0.0, 1.0], 1.0);
+        }
+        5 if rng.chance(50) => {
+            // a sliver, across the ray if that is upright
+            n[..9].copy_from_slice(&[0.0, 0.0, 0.0, t, 0.0, 0.0, 0.0, 1.0, 0.0]);
+            origin = along([0.0, 0.25, 0.0], d, -1.0);
+        }
+        _ => {
+            // a point of the solid moved to where the ray is at t
+            let aim = spot(rng, grain, kind, &n).point;
+            for (k, x) in n[..used_numbers(kind)].iter_mut().enumerate() {
+                *x = (*x - aim[k % 3]) + d[k % 3] * t;
+            }
+        }
     }
-    (moved, [0.0, 0.0, 0.0, d[0], d[1], d[2]])
+    (n, [origin[0], origin[1], origin[2], d[0], d[1], d[2]])
 }
 
 fn axis(rng: &mut Rng) -> Point {

@@ -145,8 +145,8 @@ fn boxes(list: &mut List) {
     list.box_test([-1e308, -1.0, -1.0, 1e308, 1.0, 1.0], [1e308, 0.0, 0.0, -1.0, 0.0, 0.0]);
     list.box_test(unit, [0.0, 0.0, 5.0, 0.0, 0.0, -5e-324]);
     for (count, wanted) in [
-        (10, met as fn(&Input, &Answer) -> bool),
-        (8, |i, a| sound(i) && !met(i, a)),
+        (7, met as fn(&Input, &Answer) -> bool),
+        (5, |i, a| sound(i) && !met(i, a)),
         (3, |_, a| a[0] == NAN || a[1] == NAN),
         (4, |i, a| !sound(i) && met(i, a)),
         (4, |i, a| !sound(i) && !met(i, a)),
@@ -196,7 +196,7 @@ fn matrices(list: &mut List) {
     list.inverse(with(&[(6, FAR)]));
     let finite = |_: &Input, a: &Answer| a.iter().all(|w| f64::from_bits(*w).is_finite());
     let not_finite = |_: &Input, a: &Answer| !a.iter().all(|w| f64::from_bits(*w).is_finite());
-    list.pick(10, Call::Project, inputs::project, finite);
+    list.pick(8, Call::Project, inputs::project, finite);
     list.pick(6, Call::Project, inputs::project, not_finite);
     list.pick(10, Call::Inverse, inputs::inverse, |i, a| a[0] != 0 && finite(i, a));
     list.pick(5, Call::Inverse, inputs::inverse, |i, a| a[0] == 0 && sound(i));
@@ -204,7 +204,7 @@ fn matrices(list: &mut List) {
 }
 
 fn hits(list: &mut List) {
-    // sphere: met, from its centre, touched, from behind; then t next to 1e-2
+    // sphere: met, from its centre, touched, from behind; t next to 1e-2
     let unit = [0.0, 0.0, 0.0, 1.0];
     for z in [5.0, 0.0, -5.0, 1.0, -1.0, 0.5] {
         list.hit(1, &unit, down([0.0, 0.0, z]));
@@ -212,11 +212,11 @@ fn hits(list: &mut List) {
     list.hit(1, &unit, down([1.0, 0.0, 5.0]));
     list.hit(1, &unit, down([1.0f64.next_down(), 0.0, 5.0]));
     list.hit(1, &[0.0, 0.0, 0.0, 0.0], down([0.0, 0.0, 5.0]));
-    for z in around(1.01) {
-        list.hit(1, &unit, down([0.0, 0.0, z]));
-        list.hit(1, &unit, down([0.0, 0.0, -2.0 + z]));
+    for t in around(1e-2) {
+        list.hit(1, &[0.0, 0.0, 0.0, t], down([0.0, 0.0, 0.0]));
+        list.hit(1, &[0.0, 0.0, 0.0, t], down([0.0, 0.0, 2.0 * t]));
     }
-    // cylinder: met from either side, from within, along its axis, touched, rays at its ends
+    // cylinder: met from either side, from within, along its axis, touched, at its ends; t next to 1e-6
     let tube = [1.0, -1.0, 1.0];
     let across = |x: f64, y: f64, z: f64| [x, y, z, -1.0, 0.0, 0.0];
     for x in [5.0, 0.0, -5.0, 1.0, -1.0] {
@@ -230,8 +230,9 @@ fn hits(list: &mut List) {
     for z in around(1.0).into_iter().chain(around(-1.0)) {
         list.hit(2, &tube, across(5.0, 0.0, z));
     }
-    for x in around(1.0 + 1e-6) {
-        list.hit(2, &tube, across(x, 0.0, 0.0));
+    for t in around(1e-6) {
+        list.hit(2, &[t, -1.0, 1.0], across(0.0, 0.0, 0.0));
+        list.hit(2, &[t, -1.0, 1.0], across(2.0 * t, 0.0, 0.0));
     }
     // over the first edge, onto the far side
     list.hit(2, &tube, [2.0, 0.0, 2.0, -0.8, 0.0, -0.6]);
@@ -249,8 +250,13 @@ fn hits(list: &mut List) {
         list.hit(3, &cone, across(5.0, 0.0, z));
     }
     list.hit(3, &cone, across(5.0, 0.5, 1.0));
-    for x in around(0.5 + 1e-6) {
-        list.hit(3, &cone, across(x, 0.0, 1.0));
+    for t in around(1e-6) {
+        list.hit(3, &[2.0 * t, 2.0], across(0.0, 0.0, 1.0));
+        list.hit(3, &[2.0 * t, 2.0], across(2.0 * t, 0.0, 1.0));
+    }
+    // so high that the hit's z is rounded to the tip's
+    for x in [1e-5, 1.2e-6] {
+        list.hit(3, &[1e12, 1e12], [x, 0.0, 1e12, -1.0, 0.0, -0.3]);
     }
     list.hit(3, &[1.0, 0.0], across(5.0, 0.0, 1.0));
     list.hit(3, &[0.0, 2.0], across(5.0, 0.0, 1.0));
