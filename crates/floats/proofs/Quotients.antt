@@ -1,5 +1,5 @@
--- Quotients by +0, by a NaN, by an infinity and by any sign: by a divisor that is not -0 they keep or turn round the order, and the quotient of
--- two numbers is a NaN only at 0 / 0 and inf / inf. The quotient by +0 is an infinity or a NaN; `orBot` and `orTop` place that NaN. Assumes nothing.
+-- Quotients by +0, by a NaN, by an infinity and by either sign: by a divisor that is not -0 they keep the order or turn it round, and a number over a
+-- finite divisor that is not a zero is a number. The quotient by +0 is an infinity or a NaN; `orBot` and `orTop` place that NaN. Assumes nothing.
 use mathlib.Core.Path.{_≡_, refl, subst₂}
 use Prim.Native.Nat.{ℕ, zero, suc, _+_, _*_, _≤_, _<_}
 use native.Mathlib.Nat.{mul-pos, zero-lt-suc}
