@@ -6,7 +6,7 @@ use lib.ListN.{length}
 use lib.Dec.{ltb, eqb}
 use lib.Ieee.{Float}
 use Rattle.geometry.specs.Vectors.{vec}
-use Rattle.matrix.specs.Matrices.{mat}
+use Rattle.matrix.specs.Matrices.{mat, inverted}
 use Rattle.matrix.specs.declared.Matrix.{Matrix}
 use Rattle.rows.specs.Rows.{row}
 use Rattle.rows.specs.Entries.{numbersOf, marksOf}
@@ -58,8 +58,41 @@ simpleOr Other e = e
 unfoldable pub entryOf : Marks → Numbers → Numbers → Entry
 entryOf m n inverse = simpleOr (simpleOf (m .kind) n) (compositeOf m n inverse)
 
+-- the numbers of a matrix, by rows
+unfoldable pub matrixNumbers : Matrix → Numbers
+matrixNumbers m = record {
+  x00 = m .x00;
+  x01 = m .x01;
+  x02 = m .x02;
+  x03 = m .x03;
+  x10 = m .x10;
+  x11 = m .x11;
+  x12 = m .x12;
+  x13 = m .x13;
+  x20 = m .x20;
+  x21 = m .x21;
+  x22 = m .x22;
+  x23 = m .x23;
+  x30 = m .x30;
+  x31 = m .x31;
+  x32 = m .x32;
+  x33 = m .x33;
+}
+
+abbrev pub marksAt : List ℕ → ℕ → Marks
+marksAt marks i = marksOf (row 4 i marks)
+
+abbrev pub numbersAt : List Float → ℕ → Numbers
+numbersAt numbers i = numbersOf (row 16 i numbers)
+
 -- entry i of a scene with its inverses; `None` where a list does not have it
 unfoldable pub entryAt : List Float → List Float → List ℕ → ℕ → Entry
 entryAt numbers inverses marks i =
     cond (ltb i (length numbers / 16) && (ltb i (length inverses / 16) && ltb i (length marks / 4)))
-    (entryOf (marksOf (row 4 i marks)) (numbersOf (row 16 i numbers)) (numbersOf (row 16 i inverses))) None
+    (entryOf (marksAt marks i) (numbersAt numbers i) (numbersAt inverses i)) None
+
+-- entry i of a scene, a placing with the inverse of its own matrix
+unfoldable pub ownEntry : List Float → List ℕ → ℕ → Entry
+ownEntry numbers marks i =
+    cond (ltb i (length numbers / 16) && ltb i (length marks / 4))
+    (entryOf (marksAt marks i) (numbersAt numbers i) (matrixNumbers (inverted (matrixOf (numbersAt numbers i)) .inverse))) None

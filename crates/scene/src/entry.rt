@@ -1,6 +1,6 @@
 // An entry of a scene: its 16 numbers and 4 marks, read as what they stand for.
 ghost use mathlib.Core.Path.{_≡_};
-ghost use Rattle.scene.specs.Entries.{simpleOf, matrixOf, cutOf, compositeOf, entryOf, entryAt};
+ghost use Rattle.scene.specs.Entries.{simpleOf, matrixOf, matrixNumbers, cutOf, compositeOf, entryOf, entryAt};
 use geometry::vector::Vector;
 use matrix::Matrix;
 use rows::Marks;
@@ -73,6 +73,30 @@ pub fn matrix_of(n: Numbers) -> Matrix
         x31: n.x31,
         x32: n.x32,
         x33: n.x33,
+    }
+}
+
+// Its numbers again.
+pub fn matrix_numbers(m: Matrix) -> Numbers
+    ensures { λ r. ⌜ r ≡ matrixNumbers m ⌝ }
+{
+    Numbers {
+        x00: m.x00,
+        x01: m.x01,
+        x02: m.x02,
+        x03: m.x03,
+        x10: m.x10,
+        x11: m.x11,
+        x12: m.x12,
+        x13: m.x13,
+        x20: m.x20,
+        x21: m.x21,
+        x22: m.x22,
+        x23: m.x23,
+        x30: m.x30,
+        x31: m.x31,
+        x32: m.x32,
+        x33: m.x33,
     }
 }
 

@@ -14,14 +14,14 @@ use Rattle.scene.specs.Entries.{entryAt}
 use Rattle.scene.specs.declared.entry.Entry.{Entry}
 use Rattle.scene.specs.declared.refusal.Refusal.{Refusal}
 use Rattle.scene.specs.declared.refusal.Refusal.the-variants.{Restarts}
-use Rattle.shape.specs.Shapes.{Shape, decode, shapeOf, cutFrom}
+use Rattle.shape.specs.Shapes.{Shape, read, decode, shapeOf, cutFrom}
 use Rattle.shape.specs.Steps.{both, step, kept, restarted}
 use Rattle.shape.specs.declared.Struck.{Struck}
 use Rattle.shape.specs.declared.Struck.the-variants.{At, Refused}
 
 -- where depth is left, a solid is its entry with the parts read a level down
 pub decode-as : (d : ℕ) (ns vs : List Float) (ms : List ℕ) (i : ℕ) {e x : Entry} → (d ≡ 0 → ⊥) → e ≡ entryAt ns vs ms i → e ≡ x → decode d ns vs ms i ≡ shapeOf (decode (d - 1) ns vs ms) x
-unfolding decode
+unfolding read
 decode-as zero ns vs ms i f p q = absurd (f refl)
 decode-as (suc d) ns vs ms i f p q = rw (sub-one, ← q, p)
 

@@ -14,7 +14,7 @@ use Rattle.matrix.specs.Matrices.{mulPosition, mulRay, mulBox}
 use Rattle.matrix.specs.declared.Matrix.{Matrix}
 use Rattle.solids.specs.Solids.{hitOf, solidBox, containsOf}
 use Rattle.solids.specs.declared.solid.Solid.{Solid}
-use Rattle.scene.specs.Entries.{entryAt}
+use Rattle.scene.specs.Entries.{entryAt, ownEntry}
 use Rattle.scene.specs.declared.entry.Op.{Op}
 use Rattle.scene.specs.declared.entry.Entry.{Entry}
 use Rattle.scene.specs.declared.entry.Entry.the-variants.{Simple, Placed, Cut, None}
@@ -37,10 +37,18 @@ shapeOf f (Placed m v k) = placed m v (f k)
 shapeOf f (Cut o a b) = cut o (f a) (f b)
 shapeOf f None = none
 
--- the solid at entry i, nested at most so deep
-unfoldable pub decode : ℕ → List Float → List Float → List ℕ → ℕ → Shape
-decode zero numbers inverses marks i = none
-decode (suc d) numbers inverses marks i = shapeOf (decode d numbers inverses marks) (entryAt numbers inverses marks i)
+-- the solid at entry i, nested at most so deep, where `at` gives the entries
+unfoldable pub read : ℕ → (ℕ → Entry) → ℕ → Shape
+read zero at i = none
+read (suc d) at i = shapeOf (read d at) (at i)
+
+-- with the inverses from a list beside the numbers
+abbrev pub decode : ℕ → List Float → List Float → List ℕ → ℕ → Shape
+decode d numbers inverses marks = read d (entryAt numbers inverses marks)
+
+-- document 01's solid at entry i: each placing with its own inverse
+abbrev pub solidOf : List Float → List ℕ → ℕ → Shape
+solidOf numbers marks = read 8 (ownEntry numbers marks)
 
 unfoldable pub shapeContains : Shape → Vector → Float → Bool
 shapeContains none p f = false

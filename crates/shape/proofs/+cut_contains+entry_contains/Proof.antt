@@ -1,5 +1,5 @@
 use Rattle.shape.proofs.ShapeLaws.{decode-as, and-then, and-not}
-use Rattle.shape.specs.Shapes.{decode, shapeOf, shapeContains}
+use Rattle.shape.specs.Shapes.{read, shapeOf, shapeContains}
 use Rattle.shape.specs.Steps.{cutContains}
 use native.Mathlib.Omega.{arith}
 use mathlib.Core.Bool.{not}
@@ -95,7 +95,7 @@ unfolding cutContains
 cut-contains-returns-4 t c = rw (c .before .before .enum-told2 .given .1) (and-not _ (c .before .entry-contains3 .ensures) (c .if2 .left))
 
 entry-contains-returns : (t : ℕ) → entry-contains-lts.Need-returns (entry-contains-claims t) (entry-contains-at t) entry-contains.Post
-unfolding decode shapeContains
+unfolding read shapeContains
 entry-contains-returns t c = rw (c .if1 .taken)
 
 entry-contains-entry-at-requires : (t : ℕ) → entry-contains-lts.Need-entry-at-requires (entry-contains-claims t) (entry-contains-at t) entry-contains.Post
@@ -136,7 +136,7 @@ unfolding shapeOf shapeContains
 entry-contains-returns-2 t c = rw (decode-as _ _ _ _ _ (c .before .before .before .before .before .if1 .left) (c .before .before .before .before .entry-at .ensures) (c .before .before .e .given .1), c .contains .ensures)
 
 entry-contains-returns-3 : (t : ℕ) → entry-contains-lts.Need-returns-3 (entry-contains-claims t) (entry-contains-at t) entry-contains.Post
-unfolding shapeOf shapeContains decode
+unfolding shapeOf shapeContains read
 entry-contains-returns-3 t c = rw (decode-as _ _ _ _ _ (c .before .before .before .before .before .before .if1 .left) (c .before .before .before .before .before .entry-at .ensures) (c .before .before .before .e2 .given .1), ← (c .before .mul-position .ensures)) (c .entry-contains .ensures)
 
 entry-contains-returns-4 : (t : ℕ) → entry-contains-lts.Need-returns-4 (entry-contains-claims t) (entry-contains-at t) entry-contains.Post

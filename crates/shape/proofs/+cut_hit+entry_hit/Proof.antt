@@ -1,5 +1,5 @@
 use Rattle.shape.proofs.ShapeLaws.{decode-as, cut-refused, cut-missed, cut-inside, cut-spent, cut-again}
-use Rattle.shape.specs.Shapes.{decode, shapeOf, shapeHit}
+use Rattle.shape.specs.Shapes.{read, shapeOf, shapeHit}
 use native.Mathlib.Omega.{arith}
 use mathlib.Core.Path.{_∙_}
 use borrow.Author.Needs.{needs}
@@ -102,7 +102,7 @@ entry-hit-no-hit-requires : (t : ℕ) → entry-hit-lts.Need-no-hit-requires (en
 entry-hit-no-hit-requires t c κs = search needs
 
 entry-hit-returns : (t : ℕ) → entry-hit-lts.Need-returns (entry-hit-claims t) (entry-hit-at t) entry-hit.Post
-unfolding decode shapeHit
+unfolding read shapeHit
 entry-hit-returns t c = rw (c .before .if1 .taken, c .no-hit .ensures)
 
 entry-hit-entry-at-requires : (t : ℕ) → entry-hit-lts.Need-entry-at-requires (entry-hit-claims t) (entry-hit-at t) entry-hit.Post
@@ -149,7 +149,7 @@ unfolding shapeOf shapeHit
 entry-hit-returns-2 t c = rw (decode-as _ _ _ _ _ (c .before .before .before .before .before .if1 .left) (c .before .before .before .before .entry-at .ensures) (c .before .before .e .given .1), c .intersect .ensures)
 
 entry-hit-returns-3 : (t : ℕ) → entry-hit-lts.Need-returns-3 (entry-hit-claims t) (entry-hit-at t) entry-hit.Post
-unfolding shapeOf shapeHit decode
+unfolding shapeOf shapeHit read
 entry-hit-returns-3 t c = rw (decode-as _ _ _ _ _ (c .before .before .before .before .before .before .before .if1 .left) (c .before .before .before .before .before .before .entry-at .ensures) (c .before .before .before .before .e2 .given .1), ← (c .before .before .mul-ray .ensures), ← (c .before .entry-hit .ensures)) (c .rescaled .ensures)
 
 entry-hit-returns-4 : (t : ℕ) → entry-hit-lts.Need-returns-4 (entry-hit-claims t) (entry-hit-at t) entry-hit.Post
