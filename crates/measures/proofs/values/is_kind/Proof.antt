@@ -1,0 +1,17 @@
+use borrow.Author.Tests.{le-leb, lt-leb}
+use borrow.Author.Needs.{needs}
+use mathlib.Core.Path.{refl}
+use Rattle.measures.specs.Values.{isKind}
+use Rattle.measures.proofs.values.is_kind.Statement.{statement}
+use Rattle.measures.proofs.values.is_kind.Tie as tie
+
+returns : tie.Need-returns
+unfolding isKind
+returns c = rw (lt-leb 1 (c .before .args .kind) (c .if1 .taken))
+
+returns-2 : tie.Need-returns-2
+unfolding isKind
+returns-2 c = rw (le-leb 1 (c .before .args .kind) (c .if1 .left))
+
+pub is-kind-spec : {M : Type 1} → statement M
+is-kind-spec = tie.close (tie.spec returns returns-2)

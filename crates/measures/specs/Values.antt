@@ -1,0 +1,16 @@
+-- Document 01's number 3: kind, operation and stripe count are among their values.
+use Prim.Native.Nat.{ℕ}
+use mathlib.Core.Bool.{Bool, _&&_, cond}
+use lib.Dec.{leb, eqb}
+use Rattle.rows.specs.declared.Marks.{Marks}
+
+unfoldable pub isKind : ℕ → Bool
+isKind kind = leb 1 kind && leb kind 7
+
+-- 1 to 1,000 stripes
+unfoldable pub isStripes : ℕ → Bool
+isStripes count = leb 1 count && leb count 1000
+
+-- a cube's detail is its stripes, a cut's is its operation, 0 or 1; another kind has none
+unfoldable pub known : Marks → Bool
+known m = cond (eqb (m .kind) 4) (isStripes (m .detail)) (cond (eqb (m .kind) 7) (leb (m .detail) 1) (isKind (m .kind)))
