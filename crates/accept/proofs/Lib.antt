@@ -1,0 +1,4 @@
+pub mod Reading
+pub mod Filling
+pub mod BoxLaws
+pub mod PlacingLaws
