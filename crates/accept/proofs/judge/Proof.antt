@@ -1,121 +1,97 @@
+use Prim.Native.Nat.{_/_}
+use Rattle.accept.proofs.CheckLaws.{lengths-few, lengths-numbers, is-lengths, is-values, is-named, is-owners, is-starts, is-measures, is-placing, is-extent, is-accepted, not-accepted, held-as}
+use Rattle.accept.proofs.Reading.{stored-entry}
+use Rattle.parts.proofs.DrawnLaws.{unnamed-as}
+use borrow.Author.Tests.{not-true, not-false}
+use native.Mathlib.Omega.{arith}
+use lib.ListN.{length}
+use mathlib.Core.Path.{sym, ap, _∙_}
 use borrow.Author.Needs.{needs}
 use Rattle.accept.proofs.judge.Statement.{statement}
 use Rattle.accept.proofs.judge.Tie as tie
-use Rattle.accept.proofs.judge.Reads as reads
-use Rattle.accept.proofs.judge.Lts as lts
-use Rattle.accept.proofs.extents.all_within.Reads as all-within-reads
-use Rattle.accept.proofs.lengths_agree.Reads as lengths-agree-reads
-use Rattle.accept.proofs.placings.invert_all.Reads as invert-all-reads
-use Rattle.measures.proofs.measures.all_measured.Reads as all-measured-reads
-use Rattle.measures.proofs.values.all_known.Reads as all-known-reads
-use Rattle.parts.proofs.good_owners.Reads as good-owners-reads
-use Rattle.parts.proofs.list_unnamed.Reads as list-unnamed-reads
-use Rattle.parts.proofs.well_named.Reads as well-named-reads
-use Rattle.rows.proofs.good_starts.Reads as good-starts-reads
 
--- src/lib.rt:61:9
 lengths-agree-requires : tie.Need-lengths-agree-requires
 lengths-agree-requires c κs = search needs
 
--- src/lib.rt:62:9
 returns : tie.Need-returns
-returns c = search needs
+returns c = (is-lengths _ (c .before .lengths-agree .ensures) (not-true _ (c .if1 .taken)), λ n e. not-accepted e)
 
--- src/lib.rt:64:9
 all-known-requires : tie.Need-all-known-requires
 all-known-requires c κs = search needs
 
--- src/lib.rt:65:9
 returns-2 : tie.Need-returns-2
-returns-2 c = search needs
+returns-2 c = (is-values _ (c .before .before .before .lengths-agree .ensures) (not-false _ (c .before .before .if1 .left)) (c .before .all-known .ensures) (not-true _ (c .if2 .taken)), λ n e. not-accepted e)
 
--- src/lib.rt:68:34
 slice-aggregate-well-named : tie.Need-slice-aggregate-well-named
 slice-aggregate-well-named c = search needs
 
--- src/lib.rt:68:9
 well-named-requires : tie.Need-well-named-requires
-well-named-requires c κs = search needs
+well-named-requires c κs = (lengths-few _ (c .before .before .before .before .lengths-agree .ensures) (not-false _ (c .before .before .before .if1 .left)), omega (arith, lengths-few _ (c .before .before .before .before .lengths-agree .ensures) (not-false _ (c .before .before .before .if1 .left))))
 
--- src/lib.rt:69:9
 returns-3 : tie.Need-returns-3
-returns-3 c = search needs
+returns-3 c = (is-named _ (c .before .before .before .before .before .before .before .lengths-agree .ensures) (not-false _ (c .before .before .before .before .before .before .if1 .left)) (c .before .before .before .before .before .all-known .ensures) (not-false _ (c .before .before .before .before .if2 .left)) (c .before .before .well-named .ensures .0) (not-true _ (c .if3 .taken)), λ n e. not-accepted e)
 
--- src/lib.rt:71:9
 good-owners-requires : tie.Need-good-owners-requires
 good-owners-requires c κs = search needs
 
--- src/lib.rt:72:9
 returns-4 : tie.Need-returns-4
-returns-4 c = search needs
+returns-4 c = (is-owners _ (c .before .before .before .before .before .before .before .before .before .lengths-agree .ensures) (not-false _ (c .before .before .before .before .before .before .before .before .if1 .left)) (c .before .before .before .before .before .before .before .all-known .ensures) (not-false _ (c .before .before .before .before .before .before .if2 .left)) (c .before .before .before .before .well-named .ensures .0) (not-false _ (c .before .before .if3 .left)) (c .before .good-owners .ensures) (not-true _ (c .if4 .taken)), λ n e. not-accepted e)
 
--- src/lib.rt:74:9
 good-starts-requires : tie.Need-good-starts-requires
 good-starts-requires c κs = search needs
 
--- src/lib.rt:75:9
 returns-5 : tie.Need-returns-5
-returns-5 c = search needs
+returns-5 c = (is-starts _ (c .before .before .before .before .before .before .before .before .before .before .before .lengths-agree .ensures) (not-false _ (c .before .before .before .before .before .before .before .before .before .before .if1 .left)) (c .before .before .before .before .before .before .before .before .before .all-known .ensures) (not-false _ (c .before .before .before .before .before .before .before .before .if2 .left)) (c .before .before .before .before .before .before .well-named .ensures .0) (not-false _ (c .before .before .before .before .if3 .left)) (c .before .before .before .good-owners .ensures) (not-false _ (c .before .before .if4 .left)) (c .before .good-starts .ensures) (not-true _ (c .if5 .taken)), λ n e. not-accepted e)
 
--- src/lib.rt:77:9
 all-measured-requires : tie.Need-all-measured-requires
-all-measured-requires c κs = search needs
+all-measured-requires c κs = omega (arith, lengths-numbers _ (c .before .before .before .before .before .before .before .before .before .before .before .lengths-agree .ensures) (not-false _ (c .before .before .before .before .before .before .before .before .before .before .if1 .left)))
 
--- src/lib.rt:78:9
 returns-6 : tie.Need-returns-6
-returns-6 c = search needs
+returns-6 c = (is-measures _ (c .before .before .before .before .before .before .before .before .before .before .before .before .before .lengths-agree .ensures) (not-false _ (c .before .before .before .before .before .before .before .before .before .before .before .before .if1 .left)) (c .before .before .before .before .before .before .before .before .before .before .before .all-known .ensures) (not-false _ (c .before .before .before .before .before .before .before .before .before .before .if2 .left)) (c .before .before .before .before .before .before .before .before .well-named .ensures .0) (not-false _ (c .before .before .before .before .before .before .if3 .left)) (c .before .before .before .before .before .good-owners .ensures) (not-false _ (c .before .before .before .before .if4 .left)) (c .before .before .before .good-starts .ensures) (not-false _ (c .before .before .if5 .left)) (c .before .all-measured .ensures) (not-true _ (c .if6 .taken)), λ n e. not-accepted e)
 
--- src/lib.rt:80:9
 invert-all-requires : tie.Need-invert-all-requires
-invert-all-requires c κs = search needs
+invert-all-requires c κs = (omega (arith, lengths-numbers _ (c .before .before .before .before .before .before .before .before .before .before .before .before .before .before .lengths-agree .ensures) (not-false _ (c .before .before .before .before .before .before .before .before .before .before .before .before .before .if1 .left))), omega (arith, lengths-few _ (c .before .before .before .before .before .before .before .before .before .before .before .before .before .before .lengths-agree .ensures) (not-false _ (c .before .before .before .before .before .before .before .before .before .before .before .before .before .if1 .left)), c .before .before .before .before .before .before .before .before .before .before .before .before .before .before .before .before .before .before .before .before .before .before .before .pre .0))
 
--- src/lib.rt:81:9
 same-length : tie.Need-same-length
 same-length c = search needs
 
--- src/lib.rt:81:9
 returns-7 : tie.Need-returns-7
-returns-7 c = search needs
+returns-7 c = (is-placing _ (c .before .before .before .before .before .before .before .before .before .before .before .before .before .before .before .before .before .before .lengths-agree .ensures) (not-false _ (c .before .before .before .before .before .before .before .before .before .before .before .before .before .before .before .before .before .if1 .left)) (c .before .before .before .before .before .before .before .before .before .before .before .before .before .before .before .before .all-known .ensures) (not-false _ (c .before .before .before .before .before .before .before .before .before .before .before .before .before .before .before .if2 .left)) (c .before .before .before .before .before .before .before .before .before .before .before .before .before .well-named .ensures .0) (not-false _ (c .before .before .before .before .before .before .before .before .before .before .before .if3 .left)) (c .before .before .before .before .before .before .before .before .before .before .good-owners .ensures) (not-false _ (c .before .before .before .before .before .before .before .before .before .if4 .left)) (c .before .before .before .before .before .before .before .before .good-starts .ensures) (not-false _ (c .before .before .before .before .before .before .before .if5 .left)) (c .before .before .before .before .before .before .all-measured .ensures) (not-false _ (c .before .before .before .before .before .if6 .left)) (c .before .before .before .invert-all .ensures .0) (not-true _ (c .if7 .taken)), λ n e. not-accepted e)
 
--- src/lib.rt:83:9
 all-within-requires : tie.Need-all-within-requires
-all-within-requires c κs = search needs
+all-within-requires c κs = (omega (arith, lengths-few _ (c .before .before .before .before .before .before .before .before .before .before .before .before .before .before .before .before .before .before .before .before .lengths-agree .ensures) (not-false _ (c .before .before .before .before .before .before .before .before .before .before .before .before .before .before .before .before .before .before .before .if1 .left)), c .before .before .before .before .before .before .before .before .before .before .before .before .before .before .before .before .before .before .before .before .before .before .before .before .before .before .before .before .before .pre .1 .0), record { parts = sym (c .before .before .before .before .before .before .before .before .before .before .before .before .before .before .before .well-named .ensures .0) ∙ (not-false _ (c .before .before .before .before .before .before .before .before .before .before .before .before .before .if3 .left)); same = stored-entry _ _ _ (omega (arith, lengths-numbers _ (c .before .before .before .before .before .before .before .before .before .before .before .before .before .before .before .before .before .before .before .before .lengths-agree .ensures) (not-false _ (c .before .before .before .before .before .before .before .before .before .before .before .before .before .before .before .before .before .before .before .if1 .left)))) (omega (arith, lengths-few _ (c .before .before .before .before .before .before .before .before .before .before .before .before .before .before .before .before .before .before .before .before .lengths-agree .ensures) (not-false _ (c .before .before .before .before .before .before .before .before .before .before .before .before .before .before .before .before .before .before .before .if1 .left)), c .before .before .before .before .before .before .before .before .before .before .before .before .before .before .before .before .before .before .before .before .before .before .before .before .before .before .before .before .before .pre .0, c .before .before .before .before .before .invert-all .kept .1 .1 .0)) (c .before .before .before .before .before .invert-all .ensures .1 (not-false _ (c .before .before .if7 .left))) })
 
--- src/lib.rt:84:9
 same-length-2 : tie.Need-same-length-2
 same-length-2 c = search needs
 
--- src/lib.rt:84:9
 same-length-3 : tie.Need-same-length-3
 same-length-3 c = search needs
 
--- src/lib.rt:84:9
 returns-8 : tie.Need-returns-8
-returns-8 c = search needs
+returns-8 c = (is-extent _ (c .before .before .before .before .before .before .before .before .before .before .before .before .before .before .before .before .before .before .before .before .before .before .before .before .lengths-agree .ensures) (not-false _ (c .before .before .before .before .before .before .before .before .before .before .before .before .before .before .before .before .before .before .before .before .before .before .before .if1 .left)) (c .before .before .before .before .before .before .before .before .before .before .before .before .before .before .before .before .before .before .before .before .before .before .all-known .ensures) (not-false _ (c .before .before .before .before .before .before .before .before .before .before .before .before .before .before .before .before .before .before .before .before .before .if2 .left)) (c .before .before .before .before .before .before .before .before .before .before .before .before .before .before .before .before .before .before .before .well-named .ensures .0) (not-false _ (c .before .before .before .before .before .before .before .before .before .before .before .before .before .before .before .before .before .if3 .left)) (c .before .before .before .before .before .before .before .before .before .before .before .before .before .before .before .before .good-owners .ensures) (not-false _ (c .before .before .before .before .before .before .before .before .before .before .before .before .before .before .before .if4 .left)) (c .before .before .before .before .before .before .before .before .before .before .before .before .before .before .good-starts .ensures) (not-false _ (c .before .before .before .before .before .before .before .before .before .before .before .before .before .if5 .left)) (c .before .before .before .before .before .before .before .before .before .before .before .before .all-measured .ensures) (not-false _ (c .before .before .before .before .before .before .before .before .before .before .before .if6 .left)) (c .before .before .before .before .before .before .before .before .before .invert-all .ensures .0) (not-false _ (c .before .before .before .before .before .before .if7 .left)) (c .before .before .before .all-within .ensures .0) (not-true _ (c .if8 .taken)), λ n e. not-accepted e)
 
--- src/lib.rt:86:43
 slice-aggregate-list-unnamed : tie.Need-slice-aggregate-list-unnamed
 slice-aggregate-list-unnamed c = search needs
 
--- src/lib.rt:86:23
 list-unnamed-requires : tie.Need-list-unnamed-requires
-list-unnamed-requires c κs = search needs
+list-unnamed-requires c κs = (omega (arith, lengths-few _ (c .before .before .before .before .before .before .before .before .before .before .before .before .before .before .before .before .before .before .before .before .before .before .before .before .before .before .lengths-agree .ensures) (not-false _ (c .before .before .before .before .before .before .before .before .before .before .before .before .before .before .before .before .before .before .before .before .before .before .before .before .before .if1 .left))), (omega (arith, lengths-few _ (c .before .before .before .before .before .before .before .before .before .before .before .before .before .before .before .before .before .before .before .before .before .before .before .before .before .before .lengths-agree .ensures) (not-false _ (c .before .before .before .before .before .before .before .before .before .before .before .before .before .before .before .before .before .before .before .before .before .before .before .before .before .if1 .left)), c .before .before .before .before .before .before .before .before .before .before .before .before .before .before .before .before .before .before .before .before .before .before .before .before .before .before .before .before .before .before .before .before .before .before .before .pre .1 .1), lengths-few _ (c .before .before .before .before .before .before .before .before .before .before .before .before .before .before .before .before .before .before .before .before .before .before .before .before .before .before .lengths-agree .ensures) (not-false _ (c .before .before .before .before .before .before .before .before .before .before .before .before .before .before .before .before .before .before .before .before .before .before .before .before .before .if1 .left))))
 
--- src/lib.rt:47:1
 same-length-4 : tie.Need-same-length-4
 same-length-4 c = search needs
 
--- src/lib.rt:47:1
 same-length-5 : tie.Need-same-length-5
 same-length-5 c = search needs
 
--- src/lib.rt:47:1
 same-length-6 : tie.Need-same-length-6
 same-length-6 c = search needs
 
--- src/lib.rt:47:1
 returns-9 : tie.Need-returns-9
-returns-9 c = search needs
+returns-9 c = let few = lengths-few _ (c .before .before .before .before .before .before .before .before .before .before .before .before .before .before .before .before .before .before .before .before .before .before .before .before .before .before .before .before .before .lengths-agree .ensures) (not-false _ (c .before .before .before .before .before .before .before .before .before .before .before .before .before .before .before .before .before .before .before .before .before .before .before .before .before .before .before .before .if1 .left)) in
+    let same = unnamed-as _ (c .before .before .before .before .before .before .before .before .before .before .before .before .before .before .before .before .before .before .before .before .before .before .before .before .well-named .last .1 .0) (c .before .before .before .before .before .before .before .before .before .before .before .before .before .before .before .before .before .before .before .before .before .before .before .before .well-named .ensures .1 (not-false _ (c .before .before .before .before .before .before .before .before .before .before .before .before .before .before .before .before .before .before .before .before .before .before .if3 .left))) (length (c .before .before .before .before .before .before .before .before .before .before .before .before .before .before .before .before .before .before .before .before .before .before .before .before .before .before .before .before .before .before .before .before .before .before .before .before .before .before .args .marks .now) / 4) (omega (arith, lengths-few _ (c .before .before .before .before .before .before .before .before .before .before .before .before .before .before .before .before .before .before .before .before .before .before .before .before .before .before .before .before .before .lengths-agree .ensures) (not-false _ (c .before .before .before .before .before .before .before .before .before .before .before .before .before .before .before .before .before .before .before .before .before .before .before .before .before .before .before .before .if1 .left)))) in
+    let many = c .before .before .list-unnamed .ensures .0 ∙ ap length same in (
+      is-accepted _ (c .before .before .before .before .before .before .before .before .before .before .before .before .before .before .before .before .before .before .before .before .before .before .before .before .before .before .before .before .before .lengths-agree .ensures) (not-false _ (c .before .before .before .before .before .before .before .before .before .before .before .before .before .before .before .before .before .before .before .before .before .before .before .before .before .before .before .before .if1 .left)) (c .before .before .before .before .before .before .before .before .before .before .before .before .before .before .before .before .before .before .before .before .before .before .before .before .before .before .before .all-known .ensures) (not-false _ (c .before .before .before .before .before .before .before .before .before .before .before .before .before .before .before .before .before .before .before .before .before .before .before .before .before .before .if2 .left)) (c .before .before .before .before .before .before .before .before .before .before .before .before .before .before .before .before .before .before .before .before .before .before .before .before .well-named .ensures .0) (not-false _ (c .before .before .before .before .before .before .before .before .before .before .before .before .before .before .before .before .before .before .before .before .before .before .if3 .left)) (c .before .before .before .before .before .before .before .before .before .before .before .before .before .before .before .before .before .before .before .before .before .good-owners .ensures) (not-false _ (c .before .before .before .before .before .before .before .before .before .before .before .before .before .before .before .before .before .before .before .before .if4 .left)) (c .before .before .before .before .before .before .before .before .before .before .before .before .before .before .before .before .before .before .before .good-starts .ensures) (not-false _ (c .before .before .before .before .before .before .before .before .before .before .before .before .before .before .before .before .before .before .if5 .left)) (c .before .before .before .before .before .before .before .before .before .before .before .before .before .before .before .before .before .all-measured .ensures) (not-false _ (c .before .before .before .before .before .before .before .before .before .before .before .before .before .before .before .before .if6 .left)) (c .before .before .before .before .before .before .before .before .before .before .before .before .before .before .invert-all .ensures .0) (not-false _ (c .before .before .before .before .before .before .before .before .before .before .before .if7 .left)) (c .before .before .before .before .before .before .before .before .all-within .ensures .0) (not-false _ (c .before .before .before .before .before .if8 .left)) many,
+      held-as (record { inverted = c .before .before .before .before .before .before .before .before .before .before .before .before .before .before .invert-all .ensures .1 (not-false _ (c .before .before .before .before .before .before .before .before .before .before .before .if7 .left)); boxed = c .before .before .before .before .before .before .before .before .all-within .ensures .1 (not-false _ (c .before .before .before .before .before .if8 .left)); few = few; count = many; listed-is = c .before .before .list-unnamed .ensures .1 ∙ same }),
+    )
 
 pub judge-spec : {M : Type 1} → statement M
 judge-spec =

@@ -3,42 +3,32 @@ use borrow.Author.Tests.{le-leb, lt-leb, eq-eqb, ne-eqb}
 use borrow.Author.Needs.{needs}
 use Rattle.accept.proofs.lengths_agree.Statement.{statement}
 use Rattle.accept.proofs.lengths_agree.Tie as tie
-use Rattle.accept.proofs.lengths_agree.Reads as reads
-use Rattle.accept.proofs.lengths_agree.Lts as lts
 
--- src/lib.rt:32:9
 returns : tie.Need-returns
 unfolding lengthsAgree
 returns c = rw (lt-leb _ _ (c .if1 .taken))
 
--- src/lib.rt:34:8
 mul-if2 : tie.Need-mul-if2
 mul-if2 c = search needs
 
--- src/lib.rt:35:9
 returns-2 : tie.Need-returns-2
 unfolding lengthsAgree
 returns-2 c = rw (le-leb _ _ (c .before .if1 .left), ne-eqb _ _ (c .if2 .taken))
 
--- src/lib.rt:37:8
 mul-if3 : tie.Need-mul-if3
 mul-if3 c = search needs
 
--- src/lib.rt:38:9
 returns-3 : tie.Need-returns-3
 unfolding lengthsAgree
 returns-3 c = rw (le-leb _ _ (c .before .before .if1 .left), eq-eqb _ _ (c .before .if2 .left), ne-eqb _ _ (c .if3 .taken))
 
--- src/lib.rt:41:9
 returns-4 : tie.Need-returns-4
 unfolding lengthsAgree
 returns-4 c = rw (le-leb _ _ (c .before .before .before .if1 .left), eq-eqb _ _ (c .before .before .if2 .left), eq-eqb _ _ (c .before .if3 .left), ne-eqb _ _ (c .if4 .taken))
 
--- src/lib.rt:43:5
 mul-result : tie.Need-mul-result
 mul-result c = search needs
 
--- src/lib.rt:21:1
 returns-5 : tie.Need-returns-5
 unfolding lengthsAgree
 returns-5 c = rw (le-leb _ _ (c .before .before .before .if1 .left), eq-eqb _ _ (c .before .before .if2 .left), eq-eqb _ _ (c .before .if3 .left), eq-eqb _ _ (c .if4 .left))

@@ -11,12 +11,6 @@ use Prim.Native.Nat.{_-_}
 use borrow.Author.Needs.{needs}
 use Rattle.accept.proofs.extents.all_within.Statement.{statement}
 use Rattle.accept.proofs.extents.all_within.Tie as tie
-use Rattle.accept.proofs.extents.all_within.Reads as reads
-use Rattle.accept.proofs.extents.all_within.Lts as lts
-use Rattle.accept.proofs.extents.entry_box.Reads as entry-box-reads
-use Rattle.limits.proofs.within_box.Reads as within-box-reads
-use Rattle.rows.proofs.write_box.Reads as write-box-reads
-use Rattle.scene.proofs.entry.entry_at.Reads as entry-at-reads
 
 abbrev Inv-loop : tie.InvT-loop
 Inv-loop numbers inverses marks boxes₀ n i₀ boxes i = Filling 6 boxOfRow (ownBox numbers marks) (λ k. withinBox (ownBox numbers marks k)) n boxes₀ boxes i
@@ -24,51 +18,39 @@ Inv-loop numbers inverses marks boxes₀ n i₀ boxes i = Filling 6 boxOfRow (ow
 abbrev μ-loop : tie.MeasureT-loop
 μ-loop numbers inverses marks boxes₀ n i₀ boxes i = n - i
 
--- src/extents.rt:62:5
 loop-holds : tie.Need-loop-holds Inv-loop μ-loop
 loop-holds c = filling-start _ _ _ _ _ _
 
--- src/extents.rt:63:13
 entry-at-requires : tie.Need-entry-at-requires Inv-loop μ-loop
 entry-at-requires c κs = search needs
 
--- src/extents.rt:64:13
 entry-box-requires : tie.Need-entry-box-requires Inv-loop μ-loop
 entry-box-requires c κs = search needs
 
--- src/extents.rt:65:9
 write-box-requires : tie.Need-write-box-requires Inv-loop μ-loop
 write-box-requires c κs = omega (arith, c .before .before .before .before .loop-test .taken, c .before .before .before .before .before .before .before .before .before .before .pre .0, c .before .before .before .before .before .loop .inv .same)
 
--- src/extents.rt:66:13
 within-box-requires : tie.Need-within-box-requires Inv-loop μ-loop
 within-box-requires c κs = search needs
 
--- src/extents.rt:67:13
 same-length : tie.Need-same-length Inv-loop μ-loop
 same-length c = c .before .before .before .before .write-box .kept .0 ∙ c .before .before .before .before .before .before .before .before .before .before .loop .inv .same
 
--- src/extents.rt:67:13
 returns : tie.Need-returns Inv-loop μ-loop
 returns c = (filling-fails _ _ _ _ _ _ _ _ (c .before .before .before .before .before .before .before .before .before .before .loop .inv) (c .before .before .before .before .before .before .before .before .before .loop-test .taken) (c .before .within-box .ensures ∙ ap withinBox (formed _ _ _ (c .before .before .before .before .before .before .before .before .before .before .before .before .before .before .before .pre .1) (c .before .before .before .before .before .before .before .before .before .before .before .before .before .before .before .args .boxes .now) (c .before .before .before .before .before .before .before .before .before .before .loop .boxes) _ (c .before .before .before .before .before .before .before .before .before .loop-test .taken) (c .before .before .before .before .before .before .before .before .before .before .before .before .before .before .before .pre .0) (c .before .before .before .before .before .before .before .before .before .before .loop .inv .same) (c .before .before .before .before .before .before .before .before .before .before .loop .inv .filled) (c .before .before .before .before .before .before .before .before .entry-at .ensures) (c .before .before .before .before .before .before .entry-box .ensures))) (not-true _ (c .if1 .taken)), never)
 
--- src/extents.rt:69:9
 add-i : tie.Need-add-i Inv-loop μ-loop
 add-i c = omega (arith, c .before .before .before .before .before .before .before .before .before .loop-test .taken)
 
--- src/extents.rt:62:5
 loop-less : tie.Need-loop-less Inv-loop μ-loop
 loop-less c = omega (arith, c .before .before .before .before .before .before .before .before .before .loop-test .taken)
 
--- src/extents.rt:62:5
 loop-again : tie.Need-loop-again Inv-loop μ-loop
 loop-again c = filling-turn _ _ _ _ _ _ _ _ (c .before .before .before .before .before .before .before .before .before .before .loop .inv) (c .before .before .before .before .before .before .before .before .before .loop-test .taken) (c .before .within-box .ensures ∙ ap withinBox (formed _ _ _ (c .before .before .before .before .before .before .before .before .before .before .before .before .before .before .before .pre .1) (c .before .before .before .before .before .before .before .before .before .before .before .before .before .before .before .args .boxes .now) (c .before .before .before .before .before .before .before .before .before .before .loop .boxes) _ (c .before .before .before .before .before .before .before .before .before .loop-test .taken) (c .before .before .before .before .before .before .before .before .before .before .before .before .before .before .before .pre .0) (c .before .before .before .before .before .before .before .before .before .before .loop .inv .same) (c .before .before .before .before .before .before .before .before .before .before .loop .inv .filled) (c .before .before .before .before .before .before .before .before .entry-at .ensures) (c .before .before .before .before .before .before .entry-box .ensures))) (c .before .before .before .before .before .before .before .before .before .before .before .before .before .before .before .pre .0) (boxRow (c .before .before .before .before .before .before .entry-box .result)) refl (formed _ _ _ (c .before .before .before .before .before .before .before .before .before .before .before .before .before .before .before .pre .1) (c .before .before .before .before .before .before .before .before .before .before .before .before .before .before .before .args .boxes .now) (c .before .before .before .before .before .before .before .before .before .before .loop .boxes) _ (c .before .before .before .before .before .before .before .before .before .loop-test .taken) (c .before .before .before .before .before .before .before .before .before .before .before .before .before .before .before .pre .0) (c .before .before .before .before .before .before .before .before .before .before .loop .inv .same) (c .before .before .before .before .before .before .before .before .before .before .loop .inv .filled) (c .before .before .before .before .before .before .before .before .entry-at .ensures) (c .before .before .before .before .before .before .entry-box .ensures)) (c .before .before .before .before .write-box .ensures) (not-false _ (c .if1 .left))
 
--- src/extents.rt:55:1
 same-length-2 : tie.Need-same-length-2 Inv-loop μ-loop
 same-length-2 c = c .before .loop .inv .same
 
--- src/extents.rt:55:1
 returns-2 : tie.Need-returns-2 Inv-loop μ-loop
 returns-2 c = filling-end _ _ _ _ _ _ _ _ (c .before .loop .inv) (c .loop-test .left)
 

@@ -5,25 +5,17 @@ use mathlib.Core.Path.{_∙_}
 use borrow.Author.Needs.{needs}
 use Rattle.accept.proofs.extents.box_at.Statement.{statement}
 use Rattle.accept.proofs.extents.box_at.Tie as tie
-use Rattle.accept.proofs.extents.box_at.Reads as reads
-use Rattle.accept.proofs.extents.box_at.Lts as lts
-use Rattle.accept.proofs.extents.zero_box.Reads as zero-box-reads
-use Rattle.rows.proofs.read_box.Reads as read-box-reads
 
--- src/extents.rt:37:9
 read-box-requires : tie.Need-read-box-requires
 read-box-requires c κs = omega (arith, c .if1 .taken)
 
--- src/extents.rt:37:9
 returns : tie.Need-returns
 unfolding boxAt
 returns c = c .read-box .ensures ∙ rw (lt-ltb _ _ (c .before .if1 .taken))
 
--- src/extents.rt:39:5
 zero-box-requires : tie.Need-zero-box-requires
 zero-box-requires c κs = search needs
 
--- src/extents.rt:33:1
 returns-2 : tie.Need-returns-2
 unfolding boxAt
 returns-2 c = c .zero-box .ensures ∙ rw (le-ltb _ _ (c .before .if1 .left))

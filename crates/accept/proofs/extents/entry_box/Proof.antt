@@ -3,74 +3,52 @@ use mathlib.Core.Path.{_∙_}
 use borrow.Author.Needs.{needs}
 use Rattle.accept.proofs.extents.entry_box.Statement.{statement}
 use Rattle.accept.proofs.extents.entry_box.Tie as tie
-use Rattle.accept.proofs.extents.entry_box.Reads as reads
-use Rattle.accept.proofs.extents.entry_box.Lts as lts
-use Rattle.accept.proofs.extents.box_at.Reads as box-at-reads
-use Rattle.accept.proofs.extents.zero_box.Reads as zero-box-reads
-use Rattle.geometry.proofs.bounding_box.BBox.extend.Reads as extend-reads
-use Rattle.matrix.proofs.Matrix.mul_box.Reads as mul-box-reads
-use Rattle.solids.proofs.solid.Solid.bounding_box.Reads as bounding-box-reads
 
--- src/extents.rt:47:23
 enum-known-e : tie.Need-enum-known-e
 enum-known-e c = search needs
 
--- src/extents.rt:47:29
 bounding-box-requires : tie.Need-bounding-box-requires
 bounding-box-requires c κs = search needs
 
--- src/extents.rt:48:23
 enum-known-e-2 : tie.Need-enum-known-e-2
 enum-known-e-2 c = search needs
 
--- src/extents.rt:48:45
 box-at-requires : tie.Need-box-at-requires
 box-at-requires c κs = search needs
 
--- src/extents.rt:48:35
 mul-box-requires : tie.Need-mul-box-requires
 mul-box-requires c κs = search needs
 
--- src/extents.rt:49:23
 enum-known-e-3 : tie.Need-enum-known-e-3
 enum-known-e-3 c = search needs
 
--- src/extents.rt:49:32
 box-at-requires-2 : tie.Need-box-at-requires-2
 box-at-requires-2 c κs = search needs
 
--- src/extents.rt:49:56
 box-at-requires-3 : tie.Need-box-at-requires-3
 box-at-requires-3 c κs = search needs
 
--- src/extents.rt:49:32
 extend-requires : tie.Need-extend-requires
 extend-requires c κs = search needs
 
--- src/extents.rt:50:24
 enum-told : tie.Need-enum-told
 enum-told c = search needs
 
--- src/extents.rt:50:24
 zero-box-requires : tie.Need-zero-box-requires
 zero-box-requires c κs = search needs
 
--- src/extents.rt:43:1
 returns : tie.Need-returns
 unfolding entryBox
 returns c = c .bounding-box .ensures ∙ rw (c .before .before .e .given .1)
 
--- src/extents.rt:43:1
 returns-2 : tie.Need-returns-2
 unfolding entryBox
 returns-2 c = c .mul-box .ensures ∙ rw (c .before .before .before .e2 .given .1, c .before .box-at .ensures)
 
--- src/extents.rt:43:1
 returns-3 : tie.Need-returns-3
 unfolding entryBox
 returns-3 c = c .extend .ensures ∙ rw (c .before .before .before .before .e3 .given .1, c .before .before .box-at2 .ensures, c .before .box-at3 .ensures)
 
--- src/extents.rt:43:1
 returns-4 : tie.Need-returns-4
 unfolding entryBox
 returns-4 c = c .zero-box .ensures ∙ rw (c .before .enum-told .given .1)

@@ -3,10 +3,7 @@ use mathlib.Core.Path.{refl}
 use borrow.Author.Needs.{needs}
 use Rattle.accept.proofs.placings.zero_numbers.Statement.{statement}
 use Rattle.accept.proofs.placings.zero_numbers.Tie as tie
-use Rattle.accept.proofs.placings.zero_numbers.Reads as reads
-use Rattle.accept.proofs.placings.zero_numbers.Lts as lts
 
--- src/placings.rt:24:1
 returns : tie.Need-returns
 unfolding zeroNumbers
 returns c = refl
