@@ -1,6 +1,6 @@
 -- A tree that is built of some solids has each of them, and no other, in a leaf, and each node's box holds the boxes below it.
 -- Assumes nothing.
-use mathlib.Core.Path.{_≡_, refl, sym, subst}
+use mathlib.Core.Path.{refl, sym, subst}
 use mathlib.Core.Logic.{_⊎_, inl, inr}
 use mathlib.Core.List.{List, [], _∷_, _++_}
 use Rattle.geometry.specs.declared.bounding_box.BBox.{BBox}
@@ -8,7 +8,7 @@ use Rattle.geometry.specs.Boxes.{extend}
 use Rattle.geometry.specs.Limits.{Sound, Inside}
 use Rattle.geometry.proofs.Nested.{inside-refl, inside-trans, Extended, extend-holds}
 use Rattle.nodes.specs.Trees.{Tree, leaf, split}
-use Rattle.nodes.specs.Members.{Member, Below, Well, Fine, hull, HullOf, Same, Built}
+use Rattle.nodes.specs.Members.{Member, Below, Well, Fine, hull, HullOf, Built}
 
 pub member-append : {S : Type 0} (s : S) (l m : List S) → Member s (l ++ m) → Member s l ⊎ Member s m
 member-append s [] m h = inr h

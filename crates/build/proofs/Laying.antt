@@ -1,46 +1,27 @@
 -- How the layouts of its two parts make up a split's layout. Nodes are a function of the place, so that nothing here speaks of slices.
 -- Assumes nothing.
-use mathlib.Core.Path.{_≡_, refl, sym, ap, _∙_}
+use mathlib.Core.Path.{_≡_, sym, ap, _∙_}
 use mathlib.Core.Logic.{_≢_}
 use mathlib.Core.List.{List, _++_}
 use Prim.Native.Nat.{ℕ, zero, suc, _+_, _-_, _≤_, _<_}
 use native.Mathlib.Nat.{not-suc-le-zero, add-zero}
 use native.Mathlib.Omega.{arith}
-use lib.ListN.{length, getD, length-append, List·getD-append}
+use lib.ListN.{length, getD, List·getD-append}
 use lib.Seq.{getD-append-add}
 use lib.Dec.{ltb}
 use borrow.Author.Tests.{ltb-true, ltb-false}
 use borrow.Table.Steps.{cases}
 use Rattle.geometry.specs.declared.bounding_box.BBox.{BBox}
 use Rattle.nodes.specs.declared.Node.{Node}
-use Rattle.nodes.specs.Trees.{Tree, leaf, split, under, rootOf, belowOf, leaves, layout}
+use Rattle.nodes.specs.Trees.{Tree, leaf, split, under, rootOf, belowOf, leaves}
+use Rattle.nodes.proofs.NodeLaws.{length-below}
+use Rattle.build.specs.Slices.{Laid}
 
 module _ {S : Type 0} where
-  pub length-below : (free start : ℕ) (t : Tree S) → length (belowOf free start t) ≡ under t
-  unfolding belowOf under
-  length-below free start (leaf b a ids) = refl
-  length-below free start (split b a l r) =
-      let m = free + 2 + under l in
-      let e : length (belowOf (free + 2) start l ++ belowOf m (start + length (leaves l)) r) ≡ under l + under r =
-      length-append (belowOf (free + 2) start l) (belowOf m (start + length (leaves l)) r) ∙ rw (length-below (free + 2) start l, length-below m (start + length (leaves l)) r) in
-      omega (arith, e)
-
-  pub length-layout : (t : Tree S) → length (layout t) ≡ 1 + under t
-  unfolding layout
-  length-layout t = omega (arith, length-below 1 0 t)
-
-  -- the tree t has been laid out: its root at `node`, the rest from `free` on; the others of the first cap are as they were
-  pub record Laid (N N′ : ℕ → Node) (cap node free start : ℕ) (t : Tree S) : Type 0 where
-    pub fits : free + under t ≤ cap
-    pub root : N′ node ≡ rootOf free start t
-    pub below : (k : ℕ) (d : Node) → k < under t → N′ (free + k) ≡ getD (belowOf free start t) k d
-    pub before : (k : ℕ) → k ≢ node → k < free → N′ k ≡ N k
-    pub after : (k : ℕ) → free + under t ≤ k → k < cap → N′ k ≡ N k
-
-  pub laid-leaf : (N N′ : ℕ → Node) (cap node free start : ℕ) (b : BBox) (a : ℕ) (ids : List S) → node < free → free ≤ cap
-      → N′ node ≡ record { bx = b; first = start; count = length ids; axis = a } → ((k : ℕ) → k ≢ node → k < cap → N′ k ≡ N k) → Laid N N′ cap node free start (leaf b a ids)
+  pub laid-leaf : (N N′ : ℕ → Node) (places node free start : ℕ) (b : BBox) (a : ℕ) (ids : List S) → node < free → free ≤ places
+      → N′ node ≡ record { bx = b; first = start; count = length ids; axis = a } → ((k : ℕ) → k ≢ node → k < places → N′ k ≡ N k) → Laid N N′ places node free start (leaf b a ids)
   unfolding under rootOf belowOf
-  laid-leaf N N′ cap node free start b a ids h c e o = record {
+  laid-leaf N N′ places node free start b a ids h c e o = record {
     fits = omega arith;
     root = e;
     below = λ k d l. absurd (not-suc-le-zero l);
@@ -48,9 +29,9 @@ module _ {S : Type 0} where
     after = λ k l m. o k (λ q. let z : ⊥ = omega (arith, q) in z) m;
   }
 
-  module _ (N N₁ N₂ N₃ : ℕ → Node) (cap node free start : ℕ) (b : BBox) (a : ℕ) (l r : Tree S) (h : node < free)
-      (e : N₁ node ≡ record { bx = b; first = free; count = 0; axis = a }) (o : (k : ℕ) → k ≢ node → k < cap → N₁ k ≡ N k)
-      (L : Laid N₁ N₂ cap free (free + 2) start l) (R : Laid N₂ N₃ cap (free + 1) (free + 2 + under l) (start + length (leaves l)) r) where
+  module _ (N N₁ N₂ N₃ : ℕ → Node) (places node free start : ℕ) (b : BBox) (a : ℕ) (l r : Tree S) (h : node < free)
+      (e : N₁ node ≡ record { bx = b; first = free; count = 0; axis = a }) (o : (k : ℕ) → k ≢ node → k < places → N₁ k ≡ N k)
+      (L : Laid N₁ N₂ places free (free + 2) start l) (R : Laid N₂ N₃ places (free + 1) (free + 2 + under l) (start + length (leaves l)) r) where
     below-ne : (x y : ℕ) → x < y → x ≢ y
     below-ne x y p q = omega (arith, q)
 
@@ -80,7 +61,7 @@ module _ {S : Type 0} where
         let u : j < under r = omega arith in
         rw f (R .below j d u ∙ sym (ap (λ (n : ℕ). getD (bl ++ br) n d) g ∙ getD-append-add bl br j d)))
 
-    pub laid-split : Laid N N₃ cap node free start (split b a l r)
+    pub laid-split : Laid N N₃ places node free start (split b a l r)
     unfolding under rootOf
     laid-split = record {
       fits = let f = R .fits in omega arith;

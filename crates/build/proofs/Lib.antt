@@ -1,0 +1,4 @@
+pub mod Keys
+pub mod Laying
+pub mod Steps
+pub mod Whole
