@@ -3,6 +3,8 @@
 use mathlib.Core.Path.{_≡_}
 use mathlib.Core.Logic.{_⊎_}
 use mathlib.Core.List.{List, [], _∷_, _++_}
+use Prim.Native.Nat.{_<_}
+use lib.ListN.{length}
 use Rattle.geometry.specs.declared.bounding_box.BBox.{BBox}
 use Rattle.geometry.specs.Boxes.{extend}
 use Rattle.geometry.specs.Limits.{Sound, Inside}
@@ -45,3 +47,8 @@ HullOf box (s ∷ ss) b = b ≡ hull box (box s) ss
 abbrev pub Built : {S : Type 0} → (S → BBox) → List S → Tree S → Type 0
 Built box l (leaf b a ss) = record { hulled : HullOf box l b; same : Same l ss }
 Built {S} box l (split b a u v) = record { hulled : HullOf box l b; first : List S; second : List S; same : Same l (first ++ second); one : Built box first u; two : Built box second v }
+
+-- each leaf has solids, and each split an axis: so a node in the slices says which of the two it is
+abbrev pub Sensible : {S : Type 0} → Tree S → Type 0
+Sensible (leaf b a ss) = 0 < length ss
+Sensible (split b a u v) = (a ≡ 0 → ⊥) × Sensible u × Sensible v
