@@ -1,0 +1,210 @@
+// The build of the tree (`Tree::new`, tree.rs) over boxes in a slice, 6 numbers a solid: the nodes go
+// to two lent slices, `hulls` for their boxes and `marks`, and the solids' numbers are put into the
+// order of the leaves.
+ghost use mathlib.Core.Path.{_≡_};
+ghost use Prim.Native.Nat.{_*_, _≤_, _<_};
+ghost use lib.ListN.{length, replicate, take};
+ghost use Rattle.floats.specs.Arith.{zeroF};
+ghost use Rattle.nodes.specs.Nodes.{nodeAt, placesOf};
+ghost use Rattle.sort.specs.Sort.{Each, sorted};
+ghost use Rattle.tree.specs.Build.{boxAt, Fits, byMiddle, splitBy, planOf, arranged, treeFor};
+ghost use Rattle.build.specs.Slices.{Keyed, Room, BuiltAs, LaidOut, Stored};
+use geometry::bounding_box::BBox;
+use nodes::Node;
+use tree::Plan;
+
+// The number of nodes, or that a slice is full.
+pub enum Outcome {
+    Upto(usize),
+    Full,
+}
+
+// The key of each solid of the order: its middle on the axis.
+fn fill_keys(boxes: &[f64], order: &[u32], axis: u32, keys: &mut [f64])
+    requires { ⌜ Each (Fits (now boxes)) (now order) × (length (now order) ≤ 1024) × (now keys ≡ replicate 1024 zeroF) ⌝ }
+    ensures { λ _. ⌜ Keyed (boxAt (now (boxes .entry))) axis (now (order .entry)) (now (keys .exit)) (length (now (order .entry))) ⌝ }
+{
+    let mut i = 0;
+    while i < order.len() {
+        let s = order[i] as usize;
+        let c = tree::centroid(rows::read_box(boxes, s));
+        keys[s] = tree::on_axis(axis, c);
+        i += 1;
+    }
+}
+
+// The solids sorted by their middles. The work arrays stand here and in `split_at`, and not in the
+// recursive function, so that its frames are small.
+fn arrange(boxes: &[f64], order: &mut [u32], axis: u32)
+    requires { ⌜ Each (Fits (now boxes)) (now order) × (length (now order) ≤ 1024) ⌝ }
+    ensures { λ _. ⌜ now (order .exit) ≡ sorted (byMiddle (boxAt (now (boxes .entry))) axis) (now (order .entry)) ⌝ }
+{
+    let mut keys = [0.0f64; 1024];
+    let mut work = [0u32; 1024];
+    fill_keys(boxes, order, axis, &mut keys);
+    sort::sort(&keys, order, &mut work);
+}
+
+// After how many solids they are split, 0 for a leaf.
+fn split_at(boxes: &[f64], order: &[u32], bx: BBox) -> usize
+    requires { ⌜ Each (Fits (now boxes)) (now order) × (1 < length (now order)) × (length (now order) ≤ 1024) ⌝ }
+    ensures { λ r. ⌜ r ≡ splitBy (boxAt (now (boxes .entry))) bx (now (order .entry)) ⌝ }
+{
+    let n = order.len();
+    let mut right = [0.0f64; 1024];
+    tree::right_areas(boxes, order, &mut right);
+    let best = tree::best_split(boxes, order, &right);
+    if n > 8 {
+        return best.at;
+    }
+    let a = tree::surface_area(bx);
+    if best.cost + a * 0.125 >= (n as f64) * a {
+        return 0;
+    }
+    best.at
+}
+
+// What becomes of the solids of a node, which are put in order.
+fn decide(boxes: &[f64], order: &mut [u32]) -> Plan
+    requires { ⌜ Each (Fits (now boxes)) (now order) × (0 < length (now order)) × (length (now order) ≤ 1024) ⌝ }
+    ensures { λ r. ⌜ (r ≡ planOf (boxAt (now (boxes .entry))) (now (order .entry))) × (now (order .exit) ≡ arranged (boxAt (now (boxes .entry))) (now (order .entry))) ⌝ }
+{
+    let bx = tree::hull(boxes, order);
+    if order.len() <= 2 {
+        return Plan { bx, axis: 0, at: 0 };
+    }
+    let axis = tree::longest_axis(tree::spread(boxes, order));
+    arrange(boxes, order, axis);
+    let at = split_at(boxes, order, bx);
+    Plan { bx, axis, at }
+}
+
+// The nodes of the solids of an order that starts at `start` of the whole: their root at `node`, those
+// below it from `free` on, of as many places.
+fn build(
+    boxes: &[f64],
+    order: &mut [u32],
+    start: usize,
+    node: usize,
+    free: usize,
+    places: usize,
+    hulls: &mut [f64],
+    marks: &mut [u32],
+) -> Outcome
+    requires { ⌜ Each (Fits (now boxes)) (now order) × Room (now hulls) (now marks) places node free start (length (now order)) ⌝ }
+    ensures { λ r. ⌜ BuiltAs r (nodeAt (now (hulls .entry)) (now (marks .entry))) (nodeAt (now (hulls .exit)) (now (marks .exit))) places node free start
+        (now (order .exit)) (treeFor (boxAt (now (boxes .entry))) (now (order .entry))) ⌝ }
+{
+    let p = decide(boxes, order);
+    let at = p.at;
+    let bx = p.bx;
+    let axis = p.axis;
+    if at == 0 {
+        let n = order.len();
+        let leaf = Node {
+            bx,
+            first: start as u32,
+            count: n as u32,
+            axis,
+        };
+        nodes::write_node(hulls, marks, node, leaf);
+        return Outcome::Upto(free);
+    }
+    if places < free + 2 {
+        return Outcome::Full;
+    }
+    let split = Node {
+        bx,
+        first: free as u32,
+        count: 0,
+        axis,
+    };
+    nodes::write_node(hulls, marks, node, split);
+    let l = build(
+        boxes,
+        &mut order[..at],
+        start,
+        free,
+        free + 2,
+        places,
+        hulls,
+        marks,
+    );
+    match l {
+        Outcome::Full => Outcome::Full,
+        Outcome::Upto(f) => build(
+            boxes,
+            &mut order[at..],
+            start + at,
+            free + 1,
+            f,
+            places,
+            hulls,
+            marks,
+        ),
+    }
+}
+
+// The whole tree of the order, in slices that are zero. What lies beyond the places is not lent on.
+fn lay_out(
+    boxes: &[f64],
+    order: &mut [u32],
+    places: usize,
+    hulls: &mut [f64],
+    marks: &mut [u32],
+) -> Outcome
+    requires { ⌜ Each (Fits (now boxes)) (now order) × (0 < length (now order)) × (length (now order) ≤ 1024) × (0 < places)
+        × (places * 6 ≤ length (now hulls)) × (places * 3 ≤ length (now marks))
+        × (now hulls ≡ replicate (length (now hulls)) zeroF) × (now marks ≡ replicate (length (now marks)) 0) ⌝ }
+    ensures { λ r. ⌜ LaidOut r (now (hulls .exit)) (now (marks .exit)) (now (order .exit)) places (length (now (hulls .entry))) (length (now (marks .entry)))
+        (treeFor (boxAt (now (boxes .entry))) (now (order .entry))) ⌝ }
+{
+    let a = places * 6;
+    let b = places * 3;
+    build(
+        boxes,
+        order,
+        0,
+        0,
+        1,
+        places,
+        &mut hulls[..a],
+        &mut marks[..b],
+    )
+}
+
+// The tree of the first n solids of the order: its nodes, its solids in the order of the leaves, and
+// zeros after them.
+pub fn build_tree(
+    boxes: &[f64],
+    order: &mut [u32],
+    n: usize,
+    hulls: &mut [f64],
+    marks: &mut [u32],
+) -> Outcome
+    requires { ⌜ (n ≤ length (now order)) × (n ≤ 1024) × Each (Fits (now boxes)) (take n (now order)) ⌝ }
+    ensures { λ r. ⌜ Stored (boxAt (now (boxes .entry))) (take n (now (order .entry))) (placesOf (now (hulls .entry)) (now (marks .entry)))
+        (length (now (hulls .entry))) (length (now (marks .entry))) (length (now (order .entry))) r (now (hulls .exit)) (now (marks .exit)) (now (order .exit)) ⌝ }
+{
+    let places = nodes::places(hulls, marks);
+    rows::clear(hulls, 0);
+    rows::clear_marks(marks, 0);
+    rows::clear_marks(order, n);
+    if n == 0 {
+        return Outcome::Upto(0);
+    }
+    if places == 0 {
+        rows::clear_marks(order, 0);
+        return Outcome::Full;
+    }
+    let r = lay_out(boxes, &mut order[..n], places, hulls, marks);
+    match r {
+        Outcome::Upto(f) => Outcome::Upto(f),
+        Outcome::Full => {
+            rows::clear(hulls, 0);
+            rows::clear_marks(marks, 0);
+            rows::clear_marks(order, 0);
+            Outcome::Full
+        }
+    }
+}
