@@ -66,9 +66,9 @@ module _ (hit : ℕ → Struck) (order : List ℕ) (first count : ℕ) (best : N
       rw e at (s .same)
 
   module _ (b : Nearest) (k : ℕ) (s : Scanned hit order first count best b k) (h : k < count) (l : first + k < length order) (i : ℕ) (own : Struck) (a : Found)
-      (ei : i ≡ getD order (first + k) 0) (eo : own ≡ hit i) (ea : a ≡ tried i own b) where
+      (ei : i ≡ getD order (first + k) 0) (eo : own ≡ hit i) (ea : a ≡ tried (getD order (first + k) 0) own b) where
     step : scan hit (take (count - k) (drop (first + k) order)) b ≡ onward a (scan hit (take (count - (k + 1)) (drop (first + (k + 1)) order)))
-    step = scan-next hit order first count best b k h l ∙ rw (← ei) (rw (ea, eo))
+    step = scan-next hit order first count best b k h l ∙ rw (ea, eo, ei)
 
     pub scanned-refused : (e : Refusal) → a ≡ Refused e → Refused e ≡ scan hit (take count (drop first order)) best
     scanned-refused e q =

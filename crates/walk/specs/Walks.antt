@@ -26,9 +26,9 @@ use Rattle.walk.specs.declared.Found.the-variants.{Best, Refused}
 unfoldable pub entryHit : List Float → List Float → List ℕ → Ray → ℕ → Struck
 entryHit numbers inverses marks r i = shapeHit (decode 8 numbers inverses marks i) r
 
--- the best before any solid is tried: no hit, and an entry 0 that says nothing
+-- the best before any solid is tried: no hit, and the number of no entry
 abbrev pub nothing : Nearest
-nothing = record { hit = noHit; entry = 0 }
+nothing = record { hit = noHit; entry = 0xffff_ffff }
 
 -- document 01: a solid's t becomes the best exactly if it is less than the best, which a NaN never is
 unfoldable pub nearer : ℕ → Hit → Nearest → Nearest

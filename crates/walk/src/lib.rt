@@ -12,10 +12,10 @@ use geometry::ray::Ray;
 use scene::refusal::Refusal;
 use shape::Struck;
 
-// The best hit and the entry whose t last became the best; where nothing was hit the entry is 0.
+// The best hit and the entry whose t last became the best: 0xffffffff, which no entry is, where none did.
 pub struct Nearest {
     pub hit: Hit,
-    pub entry: usize,
+    pub entry: u32,
 }
 
 // The nearest hit, or why there is none.
@@ -39,7 +39,7 @@ fn nothing() -> Nearest
             t: Hit::INF,
             ok: false,
         },
-        entry: 0,
+        entry: 0xffffffff,
     }
 }
 
@@ -50,7 +50,7 @@ pub fn entry_hit(numbers: &[f64], inverses: &[f64], marks: &[u32], r: Ray, i: us
     shape::entry_hit(numbers, inverses, marks, i, r, 8)
 }
 
-fn nearer(i: usize, h: Hit, best: Nearest) -> Nearest
+fn nearer(i: u32, h: Hit, best: Nearest) -> Nearest
     ensures { λ r. ⌜ r ≡ Walks.nearer i h best ⌝ }
 {
     if h.t < best.hit.t {
@@ -59,7 +59,7 @@ fn nearer(i: usize, h: Hit, best: Nearest) -> Nearest
     best
 }
 
-fn tried(i: usize, a: Struck, best: Nearest) -> Found
+fn tried(i: u32, a: Struck, best: Nearest) -> Found
     ensures { λ r. ⌜ r ≡ Walks.tried i a best ⌝ }
 {
     match a {
@@ -96,8 +96,8 @@ fn scan(
         if at >= n {
             return Found::Best(b);
         }
-        let i = wide(order[at]);
-        let a = tried(i, entry_hit(numbers, inverses, marks, r, i), b);
+        let i = order[at];
+        let a = tried(i, entry_hit(numbers, inverses, marks, r, wide(i)), b);
         match a {
             Found::Refused(e) => {
                 return Found::Refused(e);
