@@ -1,0 +1,1 @@
+// Demand 3 on hiding: definitions and theorems alone (specs/).
