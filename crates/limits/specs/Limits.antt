@@ -4,6 +4,7 @@ use lib.Ieee.{Float}
 use lib.Ieee.Scale.{finite}
 use Rattle.floats.specs.Numbers.{within}
 use Rattle.geometry.specs.declared.vector.Vector.{Vector}
+use Rattle.geometry.specs.declared.ray.Ray.{Ray}
 use Rattle.geometry.specs.declared.bounding_box.BBox.{BBox}
 use Rattle.matrix.specs.declared.Matrix.{Matrix}
 
@@ -12,6 +13,9 @@ withinPoint v = within (v .x) && (within (v .y) && within (v .z))
 
 unfoldable pub withinBox : BBox → Bool
 withinBox b = withinPoint (b .min) && withinPoint (b .max)
+
+unfoldable pub withinRay : Ray → Bool
+withinRay r = withinPoint (r .origin) && withinPoint (r .direction)
 
 -- four numbers, as a row of a matrix has them
 unfoldable pub withinFour : Float → Float → Float → Float → Bool

@@ -1,7 +1,8 @@
 // Limits on several numbers at once: finite, or finite and of magnitude at most 1,000,000.
 ghost use mathlib.Core.Path.{_≡_};
-ghost use Rattle.limits.specs.Limits.{withinPoint, withinBox, withinFour, withinMatrix, finiteFour, finiteMatrix};
+ghost use Rattle.limits.specs.Limits.{withinPoint, withinBox, withinRay, withinFour, withinMatrix, finiteFour, finiteMatrix};
 use geometry::bounding_box::BBox;
+use geometry::ray::Ray;
 use geometry::vector::Vector;
 use matrix::Matrix;
 
@@ -23,6 +24,16 @@ pub fn within_box(b: BBox) -> bool
 {
     if within_point(b.min) {
         return within_point(b.max);
+    }
+    false
+}
+
+// Whether all six numbers of a ray are.
+pub fn within_ray(r: Ray) -> bool
+    ensures { λ b. ⌜ b ≡ withinRay r ⌝ }
+{
+    if within_point(r.origin) {
+        return within_point(r.direction);
     }
     false
 }

@@ -1,0 +1,95 @@
+-- The public calls on a scene: its tree, the nearest hit and the eye test, each after the check of the scene.
+use Prim.Native.Nat.{ℕ}
+use mathlib.Core.Bool.{Bool, _&&_, cond}
+use mathlib.Core.List.{List, []}
+use lib.ListN.{length}
+use lib.Dec.{leb}
+use lib.Ieee.{Float}
+use Rattle.floats.specs.Arith.{zeroF}
+use Rattle.geometry.specs.declared.vector.Vector.{Vector}
+use Rattle.geometry.specs.declared.ray.Ray.{Ray}
+use Rattle.geometry.specs.declared.bounding_box.BBox.{BBox}
+use Rattle.rows.specs.Rows.{padded}
+use Rattle.scene.specs.declared.refusal.Refusal.{Refusal}
+use Rattle.scene.specs.declared.refusal.Refusal.the-variants.{View, Point, Room}
+use Rattle.shape.specs.Shapes.{solidOf, shapeHit}
+use Rattle.shape.specs.declared.Struck.{Struck}
+use Rattle.shape.specs.declared.Struck.the-variants.{At, Refused as NotStruck}
+use Rattle.limits.specs.Limits.{withinPoint, withinRay}
+use Rattle.parts.specs.Drawn.{drawn}
+use Rattle.accept.specs.Checks.{Scene, checkOf, boxesOf}
+use Rattle.accept.specs.declared.Verdict.{Verdict}
+use Rattle.accept.specs.declared.Verdict.the-variants.{Accepted, Refused}
+use Rattle.nodes.specs.Trees.{Tree}
+use Rattle.nodes.specs.declared.Node.{Node}
+use Rattle.tree.specs.Build.{boxAt, treeFor, nodesFor, orderFor}
+use Rattle.walk.specs.Walks.{walkRows}
+use Rattle.walk.specs.declared.Found.{Found}
+use Rattle.walk.specs.declared.Found.the-variants.{Best, Refused as NotFound}
+use Rattle.visible.specs.Sights.{sees}
+use Rattle.visible.specs.declared.Sight.{Sight}
+use Rattle.visible.specs.declared.Sight.the-variants.{Refused as NotSeen}
+use Rattle.queries.specs.declared.Built.{Built}
+use Rattle.queries.specs.declared.Built.the-variants.{Nodes, Refused as NotBuilt}
+
+-- ---- the tree of a scene
+-- the own boxes of its entries, as the check leaves them
+abbrev pub boxesLeft : Scene → List Float
+boxesLeft s = padded zeroF 6144 (boxesOf s)
+
+-- the tree of the drawn entries, its nodes, and the entries in the leaves' order
+abbrev pub sceneTree : Scene → Tree ℕ
+sceneTree s = treeFor (boxAt (boxesLeft s)) (drawn (s .marks))
+
+abbrev pub sceneNodes : Scene → List Node
+sceneNodes s = nodesFor (boxAt (boxesLeft s)) (drawn (s .marks))
+
+abbrev pub sceneOrder : Scene → List ℕ
+sceneOrder s = orderFor (boxAt (boxesLeft s)) (drawn (s .marks))
+
+-- number 13: a place for each drawn entry in the order, and one for each node
+unfoldable pub roomy : Scene → ℕ → ℕ → Bool
+roomy s places room = leb (length (drawn (s .marks))) room && leb (length (sceneNodes s)) places
+
+unfoldable pub builtAfter : Verdict → Built → Built
+builtAfter (Accepted n) b = b
+builtAfter (Refused k) b = NotBuilt k
+
+-- numbers 2 to 7, then 13, or how many nodes there are
+unfoldable pub buildOf : Scene → ℕ → ℕ → Built
+buildOf s places room = builtAfter (checkOf s) (cond (roomy s places room) (Nodes (length (sceneNodes s))) (NotBuilt Room))
+
+-- what a build leaves: these, and nothing after a refusal
+unfoldable pub ifBuilt {ℓ} : {A : Type ℓ} → Built → List A → List A
+ifBuilt (Nodes n) xs = xs
+ifBuilt (NotBuilt k) xs = []
+
+-- ---- the nearest hit
+-- the hit that entry i of a scene gives a ray by itself
+abbrev pub ownHits : Scene → Ray → ℕ → Struck
+ownHits s r i = shapeHit (solidOf (s .numbers) (s .marks) i) r
+
+unfoldable pub struckBy : Found → Struck
+struckBy (Best b) = At (b .hit)
+struckBy (NotFound k) = NotStruck k
+
+unfoldable pub struckAfter : Verdict → Struck → Struck
+struckAfter (Accepted n) h = h
+struckAfter (Refused k) h = NotStruck k
+
+-- numbers 2 to 7, then 8, then the walk of the rows that are handed in
+unfoldable pub intersectOf : Scene → List Float → List ℕ → List ℕ → Ray → Struck
+intersectOf s boxes marks order r = struckAfter (checkOf s) (cond (withinRay r) (struckBy (walkRows (ownHits s r) r boxes marks order)) (NotStruck View))
+
+-- ---- the eye test
+unfoldable pub seenAfter : Verdict → Sight → Sight
+seenAfter (Accepted n) h = h
+seenAfter (Refused k) h = NotSeen k
+
+-- numbers 2 to 7, then 8 of the eye and 9 of the point, then document 01's visible
+unfoldable pub visibleOf : Scene → List Float → List ℕ → List ℕ → Vector → Vector → Sight
+visibleOf s boxes marks order eye point =
+    seenAfter (checkOf s)
+    (cond (withinPoint eye)
+    (cond (withinPoint point) (sees (λ (r : Ray). walkRows (ownHits s r) r boxes marks order) eye point) (NotSeen Point))
+    (NotSeen View))
