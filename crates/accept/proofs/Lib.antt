@@ -3,3 +3,4 @@ pub mod Filling
 pub mod BoxLaws
 pub mod PlacingLaws
 pub mod CheckLaws
+pub mod Left
