@@ -90,6 +90,9 @@ countOf (Refused k) = 0
 pub not-accepted : {k : Refusal} {n : ℕ} {A : Type 0} → Refused k ≡ Accepted n → A
 not-accepted e = never (ap isAccepted e)
 
+pub accepted-same : {a b : ℕ} → Accepted a ≡ Accepted b → a ≡ b
+accepted-same e = ap countOf e
+
 pub held-as : {s : Scene} {d : ℕ} {vs bs : List Float} {ds : List ℕ} → Held s d vs bs ds → (n : ℕ) → Accepted d ≡ Accepted n → Held s n vs bs ds
 held-as {s} {d} {vs} {bs} {ds} h n e = subst (λ (m : ℕ). Held s m vs bs ds) (ap countOf e) h
 

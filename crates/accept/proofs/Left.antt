@@ -44,7 +44,7 @@ module _ {A B : Type 0} (k : ℕ) (f : List A → B) (g : B → List A) (wide : 
   unfolding padded
   long-enough =
       let e : length xs ≡ length (flat g (listTo h n)) + length (replicate (L - length (flat g (listTo h n))) z) =
-        ap length left ∙ length-append (flat g (listTo h n)) (replicate (L - length (flat g (listTo h n))) z) in
+      ap length left ∙ length-append (flat g (listTo h n)) (replicate (L - length (flat g (listTo h n))) z) in
       let w : length (flat g (listTo h n)) ≡ n * k = length-flat k f g wide (listTo h n) ∙ ap (λ (m : ℕ). m * k) (length-to h n) in
       omega (arith, e, w)
 

@@ -47,17 +47,17 @@ sceneNodes s = nodesFor (boxAt (boxesLeft s)) (drawn (s .marks))
 abbrev pub sceneOrder : Scene → List ℕ
 sceneOrder s = orderFor (boxAt (boxesLeft s)) (drawn (s .marks))
 
--- number 13: a place for each drawn entry in the order, and one for each node
-unfoldable pub roomy : Scene → ℕ → ℕ → Bool
-roomy s places room = leb (length (drawn (s .marks))) room && leb (length (sceneNodes s)) places
+-- Number 13, or how many nodes there are: there is a place for each solid in the order, and one for each node. `box` gives the box of a solid.
+unfoldable pub plantedOf : (ℕ → BBox) → List ℕ → ℕ → ℕ → Built
+plantedOf box ids places room = cond (leb (length ids) room && leb (length (nodesFor box ids)) places) (Nodes (length (nodesFor box ids))) (NotBuilt Room)
 
 unfoldable pub builtAfter : Verdict → Built → Built
 builtAfter (Accepted n) b = b
 builtAfter (Refused k) b = NotBuilt k
 
--- numbers 2 to 7, then 13, or how many nodes there are
+-- numbers 2 to 7, then 13
 unfoldable pub buildOf : Scene → ℕ → ℕ → Built
-buildOf s places room = builtAfter (checkOf s) (cond (roomy s places room) (Nodes (length (sceneNodes s))) (NotBuilt Room))
+buildOf s places room = builtAfter (checkOf s) (plantedOf (boxAt (boxesLeft s)) (drawn (s .marks)) places room)
 
 -- what a build leaves: these, and nothing after a refusal
 unfoldable pub ifBuilt {ℓ} : {A : Type ℓ} → Built → List A → List A

@@ -82,15 +82,38 @@ module _ (r r′ : List Float) where
   agree-5 : take 9 r ≡ take 9 r′ → Agree 5
   unfolding simpleOf
   agree-5 e =
-      rw (cell 9 r r′ e 0 (omega arith), cell 9 r r′ e 1 (omega arith), cell 9 r r′ e 2 (omega arith), cell 9 r r′ e 3 (omega arith), cell 9 r r′ e 4 (omega arith),
-      cell 9 r r′ e 5 (omega arith), cell 9 r r′ e 6 (omega arith), cell 9 r r′ e 7 (omega arith), cell 9 r r′ e 8 (omega arith))
+      rw (
+        cell 9 r r′ e 0 (omega arith),
+        cell 9 r r′ e 1 (omega arith),
+        cell 9 r r′ e 2 (omega arith),
+        cell 9 r r′ e 3 (omega arith),
+        cell 9 r r′ e 4 (omega arith),
+        cell 9 r r′ e 5 (omega arith),
+        cell 9 r r′ e 6 (omega arith),
+        cell 9 r r′ e 7 (omega arith),
+        cell 9 r r′ e 8 (omega arith),
+      )
 
   all-agree : take 16 r ≡ take 16 r′ → numbersOf r ≡ numbersOf r′
   all-agree e =
-      rw (cell 16 r r′ e 0 (omega arith), cell 16 r r′ e 1 (omega arith), cell 16 r r′ e 2 (omega arith), cell 16 r r′ e 3 (omega arith),
-      cell 16 r r′ e 4 (omega arith), cell 16 r r′ e 5 (omega arith), cell 16 r r′ e 6 (omega arith), cell 16 r r′ e 7 (omega arith),
-      cell 16 r r′ e 8 (omega arith), cell 16 r r′ e 9 (omega arith), cell 16 r r′ e 10 (omega arith), cell 16 r r′ e 11 (omega arith),
-      cell 16 r r′ e 12 (omega arith), cell 16 r r′ e 13 (omega arith), cell 16 r r′ e 14 (omega arith), cell 16 r r′ e 15 (omega arith))
+      rw (
+        cell 16 r r′ e 0 (omega arith),
+        cell 16 r r′ e 1 (omega arith),
+        cell 16 r r′ e 2 (omega arith),
+        cell 16 r r′ e 3 (omega arith),
+        cell 16 r r′ e 4 (omega arith),
+        cell 16 r r′ e 5 (omega arith),
+        cell 16 r r′ e 6 (omega arith),
+        cell 16 r r′ e 7 (omega arith),
+        cell 16 r r′ e 8 (omega arith),
+        cell 16 r r′ e 9 (omega arith),
+        cell 16 r r′ e 10 (omega arith),
+        cell 16 r r′ e 11 (omega arith),
+        cell 16 r r′ e 12 (omega arith),
+        cell 16 r r′ e 13 (omega arith),
+        cell 16 r r′ e 14 (omega arith),
+        cell 16 r r′ e 15 (omega arith),
+      )
 
   agree : (k : ℕ) → take (usedNumbers k) r ≡ take (usedNumbers k) r′ → (t1 t2 t3 t4 t5 : Bool) → eqb k 1 ≡ t1 → eqb k 2 ≡ t2 → eqb k 3 ≡ t3 → eqb k 4 ≡ t4 → eqb k 5 ≡ t5 → Agree k
   unfolding simpleOf usedNumbers

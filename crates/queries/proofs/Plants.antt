@@ -1,0 +1,116 @@
+-- How a tree is planted in lent slices. Assumes nothing.
+use Prim.Native.Nat.{ℕ, zero, suc, _-_, _<_, _≤_}
+use mathlib.Core.Path.{_≡_, refl, sym, ap, subst, _∙_}
+use mathlib.Core.List.{List, [], _∷_, _++_, map}
+use mathlib.Core.Bool.{Bool, true, false, _&&_, cond}
+use native.Mathlib.Omega.{arith}
+use lib.ListN.{length, take, replicate}
+use lib.Dec.{leb}
+use lib.Ieee.{Float}
+use borrow.Author.Tests.{le-leb, lt-leb}
+use Rattle.floats.specs.Arith.{zeroF}
+use Rattle.geometry.specs.Limits.{Sound}
+use Rattle.geometry.specs.declared.bounding_box.BBox.{BBox}
+use Rattle.rows.specs.Rows.{flat, padded}
+use Rattle.scene.specs.declared.refusal.Refusal.the-variants.{Room}
+use Rattle.nodes.specs.Nodes.{boxRows, markRows}
+use Rattle.nodes.specs.declared.Node.{Node}
+use Rattle.sort.specs.Sort.{Each}
+use Rattle.sort.proofs.EachLaws.{each-append}
+use Rattle.tree.specs.Build.{Fits, boxAt, nodesFor, orderFor}
+use Rattle.build.specs.Slices.{roomFor, Stored}
+use Rattle.build.specs.declared.Outcome.{Outcome}
+use Rattle.build.specs.declared.Outcome.the-variants.{Upto, Full}
+use Rattle.parts.specs.Parts.{entries, namedBefore}
+use Rattle.parts.specs.Drawn.{unnamed, drawn}
+use Rattle.accept.specs.Extents.{ownBox}
+use Rattle.accept.specs.Checks.{Scene, entriesOf, checkOf, boxesOf}
+use Rattle.accept.specs.declared.Verdict.the-variants.{Accepted}
+use Rattle.accept.proofs.CheckLaws.{is-accepted, accepted-same, drawn-few}
+use Rattle.accept.proofs.Left.{accepted-few, own-box}
+use Rattle.sound.specs.Passing.{Passing, accepted-passes}
+use Rattle.sound.specs.Sound.{accepted-sound}
+use Rattle.queries.specs.declared.Built.{Built}
+use Rattle.queries.specs.declared.Built.the-variants.{Nodes, Refused as NotBuilt}
+use Rattle.queries.specs.Queries.{boxesLeft, plantedOf, ifBuilt}
+
+abbrev pub builtOf : Outcome → Built
+builtOf (Upto n) = Nodes n
+builtOf Full = NotBuilt Room
+
+-- what a call answers of a tree of these solids, and how it leaves slices of B numbers, M marks and O places
+pub record Left (box : ℕ → BBox) (ids : List ℕ) (B M O : ℕ) (want r : Built) (bs : List Float) (ms os : List ℕ) : Type 0 where
+  pub answer : r ≡ want
+  pub boxes : bs ≡ padded zeroF B (boxRows (ifBuilt r (nodesFor box ids)))
+  pub marks : ms ≡ padded 0 M (markRows (ifBuilt r (nodesFor box ids)))
+  pub solids : os ≡ padded 0 O (ifBuilt r (orderFor box ids))
+
+-- its four parts as a contract has them
+pub spread : {box : ℕ → BBox} {ids : List ℕ} {B M O : ℕ} {want r : Built} {bs : List Float} {ms os : List ℕ} → Left box ids B M O want r bs ms os
+    → (r ≡ want) × ((bs ≡ padded zeroF B (boxRows (ifBuilt r (nodesFor box ids)))) × ((ms ≡ padded 0 M (markRows (ifBuilt r (nodesFor box ids)))) × (os ≡ padded 0 O (ifBuilt r (orderFor box ids)))))
+spread l = (l .answer, (l .boxes, (l .marks, l .solids)))
+
+pub gather : {box : ℕ → BBox} {ids : List ℕ} {B M O : ℕ} {want r : Built} {bs : List Float} {ms os : List ℕ}
+    → (r ≡ want) × ((bs ≡ padded zeroF B (boxRows (ifBuilt r (nodesFor box ids)))) × ((ms ≡ padded 0 M (markRows (ifBuilt r (nodesFor box ids)))) × (os ≡ padded 0 O (ifBuilt r (orderFor box ids)))))
+    → Left box ids B M O want r bs ms os
+gather p = record { answer = p .0; boxes = p .1 .0; marks = p .1 .1 .0; solids = p .1 .1 .1 }
+
+module _ (box : ℕ → BBox) (ids : List ℕ) (places B M O : ℕ) where
+  as-room : (t : Bool) → builtOf (cond t (Upto (length (nodesFor box ids))) Full) ≡ cond t (Nodes (length (nodesFor box ids))) (NotBuilt Room)
+  as-room true = refl
+  as-room false = refl
+
+  as-rows : {A : Type 0} (t : Bool) (xs : List A) → cond t xs [] ≡ ifBuilt (builtOf (cond t (Upto (length (nodesFor box ids))) Full)) xs
+  unfolding ifBuilt
+  as-rows true xs = refl
+  as-rows false xs = refl
+
+  -- room in the order, and what the build stored
+  pub planted : {o : Outcome} {bs : List Float} {ms os : List ℕ} → length ids ≤ O → Stored box ids places B M O o bs ms os → {r : Built} → r ≡ builtOf o → Left box ids B M O (plantedOf box ids places O) r bs ms os
+  unfolding plantedOf
+  planted fit S e =
+      let q = e ∙ ap builtOf (S .answer) in
+      record {
+        answer = q ∙ as-room (roomFor box ids places) ∙ rw (le-leb (length ids) O fit);
+        boxes = S .rows ∙ rw q (ap (λ (ns : List Node). padded zeroF B (boxRows ns)) (as-rows (roomFor box ids places) (nodesFor box ids)));
+        marks = S .triples ∙ rw q (ap (λ (ns : List Node). padded 0 M (markRows ns)) (as-rows (roomFor box ids places) (nodesFor box ids)));
+        solids = S .solids ∙ rw q (ap (padded 0 O) (as-rows (roomFor box ids places) (orderFor box ids)));
+      }
+
+  pub planted-from : {ids′ : List ℕ} {O′ : ℕ} → ids′ ≡ ids → O′ ≡ O → {o : Outcome} {bs : List Float} {ms os : List ℕ} → length ids ≤ O → Stored box ids′ places B M O′ o bs ms os
+      → {r : Built} → r ≡ builtOf o → Left box ids B M O (plantedOf box ids places O) r bs ms os
+  planted-from {ids′} {O′} ei eo {o} {bs} {ms} {os} fit S e =
+      planted fit (subst (λ (l : List ℕ). Stored box l places B M O o bs ms os) ei (subst (λ (m : ℕ). Stored box ids′ places B M m o bs ms os) eo S)) e
+
+  -- no room in the order
+  pub crowded : {bs : List Float} {ms os : List ℕ} → O < length ids → bs ≡ padded zeroF B [] → ms ≡ padded 0 M [] → os ≡ padded 0 O [] → Left box ids B M O (plantedOf box ids places O) (NotBuilt Room) bs ms os
+  unfolding plantedOf ifBuilt flat
+  crowded h a b c = record { answer = rw (lt-leb (length ids) O h); boxes = a; marks = b; solids = c }
+
+-- ---- what an accepted scene has
+each-unnamed : (P : ℕ → Type 0) (g : ℕ → Bool) (n : ℕ) → ((i : ℕ) → i < n → P i) → Each P (unnamed g n)
+unfolding unnamed Each
+each-unnamed P g zero h = tt
+each-unnamed P g (suc n) h = each-append P (unnamed g n) (cond (g n) [] (n ∷ [])) (each-unnamed P g n (λ i l. h i (omega arith))) (last (g n))
+  where
+    last : (t : Bool) → Each P (cond t [] (n ∷ []))
+    last true = tt
+    last false = (h n (omega arith), tt)
+
+module _ (s : Scene) (n : ℕ) (is : checkOf s ≡ Accepted n) where
+  pub accepted-count : n ≡ length (drawn (s .marks))
+  accepted-count =
+      let p : Passing s = accepted-passes s is in
+      sym (accepted-same (is-accepted s refl (p .lengths) refl (p .values) refl (p .names) refl (p .owners) refl (p .starts) refl (p .measures) refl (p .placings) refl (p .extents) refl ∙ is))
+
+  pub accepted-many : n ≤ 1024
+  accepted-many = omega (arith, accepted-count, drawn-few (s .marks), accepted-few s n is)
+
+  pub accepted-fits : (bs : List Float) → 6144 ≤ length bs → (L : ℕ) → bs ≡ padded zeroF L (boxesOf s) → Each (Fits bs) (drawn (s .marks))
+  accepted-fits bs long L left =
+      each-unnamed (Fits bs) (namedBefore (s .marks) (entriesOf s)) (entriesOf s)
+      (λ i h. record {
+        there = omega (arith, accepted-few s n is);
+        low = omega (arith, accepted-few s n is);
+        sound = subst Sound (sym (own-box s n is L bs left i h)) (accepted-sound s is i h);
+      })
