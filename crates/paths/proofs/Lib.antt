@@ -5,3 +5,4 @@ pub mod Runs
 pub mod Closing
 pub mod Judging
 pub mod Stages
+pub mod Adding

@@ -62,3 +62,9 @@ each f (p ∷ ps) out = next (f p out) (each f ps)
 -- a stage: from the points and starts of paths to new ones, with what is done for each path, and the room of the two slices
 unfoldable pub stage : (ℕ → ℕ → List Vector → Paths → Answer Paths) → List Vector → List ℕ → ℕ → ℕ → Answer Paths
 stage f vs ss room startRoom = each (f room startRoom) (pathsOf vs ss) noPaths
+
+-- the paths that have points: the others vanish
+unfoldable pub withPoints : List (List Vector) → List (List Vector)
+withPoints [] = []
+withPoints ([] ∷ ps) = withPoints ps
+withPoints ((v ∷ p) ∷ ps) = (v ∷ p) ∷ withPoints ps
