@@ -1,0 +1,45 @@
+-- What is asked of paths that are handed to a call: document 01's numbers 2, 4, 8 and 9, in this order.
+use mathlib.Core.Bool.{Bool, true, cond, _&&_}
+use mathlib.Core.List.{List, [], _∷_}
+use Prim.Native.Nat.{ℕ, _%_}
+use lib.ListN.{length}
+use lib.Dec.{eqb}
+use lib.Ieee.{Float}
+use Rattle.floats.specs.Numbers.{within}
+use Rattle.geometry.specs.declared.vector.Vector.{Vector}
+use Rattle.scene.specs.declared.refusal.Refusal.the-variants.{Lengths, Parts, View, Point}
+use Rattle.rows.specs.Starts.{goodStarts}
+use Rattle.paths.specs.Answers.{Answer, refused}
+use Rattle.paths.specs.Ends.{places, allPoints}
+use Rattle.paths.specs.declared.Verdict.{Verdict}
+use Rattle.paths.specs.declared.Verdict.the-variants.{Fine, Refused}
+
+-- number 9: finite, and no coordinate exceeds 1,000,000 in magnitude
+unfoldable pub pointOk : Vector → Bool
+pointOk v = within (v .x) && (within (v .y) && within (v .z))
+
+unfoldable pub pointsOk : List Vector → Bool
+pointsOk [] = true
+pointsOk (v ∷ vs) = pointOk v && pointsOk vs
+
+-- with no starts nothing is handed over
+unfoldable pub handedOver : List Float → List ℕ → List Vector
+handedOver xs [] = []
+handedOver xs (s ∷ ss) = allPoints xs
+
+-- the first of 2, 4, 8 and 9 that is met; `fair` says that the call's own number 8 is not
+unfoldable pub judged : List Float → List ℕ → Bool → Verdict
+judged xs ss fair =
+    cond (eqb (length xs % 3) 0)
+    (cond (goodStarts (places xs) ss)
+    (cond fair
+    (cond (pointsOk (handedOver xs ss)) Fine
+    (Refused Point))
+    (Refused View))
+    (Refused Parts))
+    (Refused Lengths)
+
+-- what a call answers, unless it is refused before
+unfoldable pub unless {ℓ} : {A : Type ℓ} → Verdict → Answer A → Answer A
+unless Fine a = a
+unless (Refused k) a = refused k

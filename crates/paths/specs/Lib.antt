@@ -1,0 +1,5 @@
+pub mod Answers
+pub mod Paths
+pub mod Ends
+pub mod Judged
+pub mod Spans

@@ -1,0 +1,2 @@
+pub mod Rdp
+pub mod Demand
