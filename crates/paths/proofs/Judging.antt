@@ -1,6 +1,6 @@
 -- What is asked of paths that are handed in. Assumes nothing.
 use mathlib.Core.Path.{_≡_, refl, sym, ap, _∙_, subst}
-use mathlib.Core.Bool.{Bool, true, false, cond, _&&_}
+use mathlib.Core.Bool.{Bool, true, false, cond, _&&_, and-eq-true-iff}
 use mathlib.Core.List.{List, [], _∷_}
 use Prim.Native.Nat.{ℕ, zero, suc, _+_, _≤_, _<_, _%_}
 use native.Mathlib.Nat.{le-of-suc-le-suc}
@@ -58,22 +58,18 @@ module _ (path : List Float) where
       sym (ap pointsOk e) ∙ h .left
 
 -- ---- what passes is within a million
-both-true : (a b : Bool) → (a && b) ≡ true → (a ≡ true) × (b ≡ true)
-both-true true b e = (refl, e)
-both-true false b e = (e, absurd (subst T (sym e) tt))
-
 pub point-within : (v : Vector) → pointOk v ≡ true → Within v
 unfolding pointOk
 point-within v e =
-    let a = both-true (within (v .x)) (within (v .y) && within (v .z)) e in
-    let b = both-true (within (v .y)) (within (v .z)) (a .1) in
+    let a = and-eq-true-iff (within (v .x)) (within (v .y) && within (v .z)) .0 e in
+    let b = and-eq-true-iff (within (v .y)) (within (v .z)) .0 (a .1) in
     record { x = subst T (sym (a .0)) tt; y = subst T (sym (b .0)) tt; z = subst T (sym (b .1)) tt }
 
 pub points-within : (vs : List Vector) → pointsOk vs ≡ true → (i : ℕ) → i < length vs → Within (getD vs i nowhere)
 unfolding pointsOk
 points-within [] e i h = absurd (omega arith)
-points-within (v ∷ vs) e zero h = point-within v (both-true (pointOk v) (pointsOk vs) e .0)
-points-within (v ∷ vs) e (suc i) h = points-within vs (both-true (pointOk v) (pointsOk vs) e .1) i (le-of-suc-le-suc h)
+points-within (v ∷ vs) e zero h = point-within v (and-eq-true-iff (pointOk v) (pointsOk vs) .0 e .0)
+points-within (v ∷ vs) e (suc i) h = points-within vs (and-eq-true-iff (pointOk v) (pointsOk vs) .0 e .1) i (le-of-suc-le-suc h)
 
 -- ---- the verdict
 handed-none : (xs : List Float) (ss : List ℕ) → length ss ≡ 0 → pointsOk (handedOver xs ss) ≡ true
