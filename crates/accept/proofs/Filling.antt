@@ -1,11 +1,10 @@
 -- A loop that tests each number below n and writes what belongs to it as a row. Assumes nothing.
 use Prim.Native.Nat.{ℕ, _+_, _*_, _<_, _≤_}
 use mathlib.Core.Path.{_≡_, refl, sym, ap, _∙_}
-use mathlib.Core.List.{List, [], _∷_, _++_}
+use mathlib.Core.List.{List, []}
 use mathlib.Core.Bool.{Bool, true, false}
 use native.Mathlib.Omega.{arith}
 use native.Mathlib.Nat.{mul-le-mul-right, suc-mul, le-antisymm}
-use native.Mathlib.Numerals.{add-one}
 use lib.ListN.{length}
 use Rattle.rows.specs.Rows.{view, setRow}
 use Rattle.rows.proofs.RowLaws.{view-written, length-setRow}

@@ -7,7 +7,7 @@ use native.Mathlib.Omega.{arith}
 use lib.ListN.{length, getD}
 use lib.Dec.{ltb, eqb}
 use lib.Ieee.{Float}
-use borrow.Author.Tests.{eqb-true, eqb-false, eq-eqb, ne-eqb, lt-ltb, le-ltb, ltb-true, ltb-false}
+use borrow.Author.Tests.{eqb-true, eqb-false, ne-eqb, lt-ltb, le-ltb, ltb-true, ltb-false}
 use Rattle.geometry.specs.declared.bounding_box.BBox.{BBox}
 use Rattle.matrix.specs.Matrices.{inverted}
 use Rattle.rows.specs.Rows.{view}
@@ -21,8 +21,8 @@ use Rattle.scene.specs.declared.entry.Simple.the-variants.{Is, Other}
 use Rattle.scene.specs.declared.entry.Op.the-variants.{Intersection, Difference}
 use Rattle.scene.specs.declared.entry.Entry.{Entry}
 use Rattle.scene.specs.declared.entry.Entry.the-variants.{Simple as SimpleEntry, Placed, Cut, None}
-use Rattle.shape.specs.Shapes.{Shape, read, shapeOf, shapeBox, decode, solidOf}
-use Rattle.parts.specs.Parts.{entries, kindAt, firstAt, secondAt, partsOk}
+use Rattle.shape.specs.Shapes.{Shape, read, shapeOf, shapeBox, solidOf}
+use Rattle.parts.specs.Parts.{entries, partsOk}
 use Rattle.parts.proofs.Depths.{Part, depthAt, shallow, part-six, part-seven}
 use Rattle.measures.specs.Each.{listTo}
 use Rattle.measures.proofs.EachLaws.{list-at}

@@ -5,7 +5,6 @@ use mathlib.Core.List.{List, []}
 use lib.ListN.{length}
 use lib.Dec.{leb, eqb}
 use lib.Ieee.{Float}
-use Rattle.geometry.specs.declared.bounding_box.BBox.{BBox}
 use Rattle.rows.specs.Rows.{flat}
 use Rattle.rows.specs.Points.{boxRow}
 use Rattle.rows.specs.Entries.{numbersRow}

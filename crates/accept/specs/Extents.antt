@@ -1,7 +1,7 @@
 -- Document 01's number 7: each entry's box is within 1,000,000. Boxes are formed in entry order, from those of the parts.
 use Prim.Native.Nat.{ℕ, _/_, _<_}
 use mathlib.Core.Path.{_≡_}
-use mathlib.Core.Bool.{Bool, true, cond}
+use mathlib.Core.Bool.{true, cond}
 use mathlib.Core.List.{List}
 use lib.ListN.{length}
 use lib.Dec.{ltb}

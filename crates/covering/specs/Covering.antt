@@ -1,20 +1,17 @@
 -- Demand 3 on hiding, of scenes and of the public calls on them.
-use Prim.Native.Nat.{ℕ, zero, suc, _*_, _<_, _≤_}
+use Prim.Native.Nat.{ℕ, _<_}
 use mathlib.Core.Path.{_≡_, refl, sym, ap, subst, _∙_}
 use mathlib.Core.List.{List, [], _∷_}
-use mathlib.Core.Bool.{Bool, true, false}
 use native.Mathlib.Omega.{arith}
 use lib.ListN.{length}
 use lib.Ieee.{Float}
 use Rattle.geometry.specs.Limits.{Within}
 use Rattle.geometry.specs.declared.vector.Vector.{Vector}
 use Rattle.geometry.specs.declared.ray.Ray.{Ray}
-use Rattle.scene.specs.declared.refusal.Refusal.{Refusal}
 use Rattle.shape.specs.Shapes.{Shape, shapeBox, shapeHit, solidOf}
 use Rattle.nodes.specs.Members.{Member}
-use Rattle.parts.specs.Parts.{entries}
 use Rattle.parts.specs.Drawn.{drawn}
-use Rattle.accept.specs.Checks.{Scene, entriesOf, checkOf}
+use Rattle.accept.specs.Checks.{Scene, checkOf}
 use Rattle.accept.specs.declared.Verdict.the-variants.{Accepted}
 use Rattle.accept.proofs.Left.{accepted-numbers}
 use Rattle.reading.specs.Same.{SameSolid, same-solid}
@@ -22,7 +19,7 @@ use Rattle.walk.specs.Walks.{walkRows}
 use Rattle.visible.specs.Sights.{sees, Answered}
 use Rattle.visible.specs.declared.Sight.{Sight}
 use Rattle.visible.specs.declared.Sight.the-variants.{Visible, Hidden, Refused as NotSeen}
-use Rattle.hiding.specs.Covers.{Premise, seesPast}
+use Rattle.hiding.specs.Covers.{Premise}
 use Rattle.hiding.specs.Hiding.{covered-is-hidden, hidden-falls-short, nothing-is-hidden}
 use Rattle.queries.specs.Queries.{ownHits, visibleOf}
 use Rattle.covering.specs.Trees.{scene-tree}

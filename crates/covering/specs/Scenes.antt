@@ -1,9 +1,8 @@
 -- Document 01's terms of demand 3, of a scene and of the public calls on it.
-use Prim.Native.Nat.{ℕ, zero, suc, _<_}
-use mathlib.Core.Path.{_≡_, refl, sym, ap, _∙_}
-use mathlib.Core.List.{List, [], _∷_}
+use Prim.Native.Nat.{ℕ, _<_}
+use mathlib.Core.Path.{_≡_, refl, ap, _∙_}
+use mathlib.Core.List.{List, []}
 use mathlib.Core.Bool.{Bool, true, false}
-use native.Mathlib.Omega.{arith}
 use lib.ListN.{length}
 use lib.Ieee.{Float}
 use Rattle.floats.specs.Arith.{zeroF}
@@ -13,22 +12,19 @@ use Rattle.rows.specs.Rows.{flat, padded}
 use Rattle.scene.specs.declared.refusal.Refusal.the-variants.{View, Point}
 use Rattle.shape.specs.Shapes.{Shape, shapeBox, shapeHit, solidOf}
 use Rattle.nodes.specs.Nodes.{boxRows, markRows}
-use Rattle.nodes.specs.Members.{Member}
 use Rattle.limits.specs.Limits.{withinPoint}
 use Rattle.parts.specs.Drawn.{drawn}
 use Rattle.parts.proofs.PartLaws.{never}
 use Rattle.accept.specs.Checks.{Scene, checkOf}
 use Rattle.accept.specs.declared.Verdict.{Verdict}
 use Rattle.accept.specs.declared.Verdict.the-variants.{Accepted, Refused}
-use Rattle.tree.specs.Build.{boxAt, nodesFor, orderFor}
+use Rattle.tree.specs.Build.{boxAt, nodesFor}
 use Rattle.build.proofs.BuiltTree.{sensible-tree}
 use Rattle.build.proofs.Whole.{nodes-some, order-some}
 use Rattle.walk.specs.Walks.{nothing, walkRows}
 use Rattle.walk.specs.declared.Found.the-variants.{Best}
 use Rattle.walk.proofs.Layouts.{walk-of-layout, walk-of-zeros}
 use Rattle.visible.specs.Sights.{eyeRay, sees, Answered}
-use Rattle.visible.specs.declared.Sight.{Sight}
-use Rattle.visible.specs.declared.Sight.the-variants.{Visible, Hidden, Refused as NotSeen}
 use Rattle.visible.proofs.Answers.{sees-same}
 use Rattle.hiding.specs.Covers.{FallsShort, Covers, Holds, seesPast}
 use Rattle.queries.specs.declared.Built.{Built}

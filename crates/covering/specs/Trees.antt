@@ -1,17 +1,17 @@
 -- The tree of an accepted scene is a tree of its solids and of their own boxes.
 use Prim.Native.Nat.{ℕ, zero, suc, _<_}
-use mathlib.Core.Path.{_≡_, refl, sym, ap, _∙_}
+use mathlib.Core.Path.{_≡_, refl, ap, _∙_}
 use mathlib.Core.Logic.{_⊎_, inl, inr}
-use mathlib.Core.List.{List, [], _∷_, _++_}
+use mathlib.Core.List.{List, [], _∷_}
 use mathlib.Core.Bool.{Bool, true, false, cond}
 use native.Mathlib.Omega.{arith}
 use lib.ListN.{length}
 use Rattle.geometry.specs.Boxes.{extend}
 use Rattle.geometry.specs.declared.bounding_box.BBox.{BBox}
 use Rattle.nodes.specs.Trees.{Tree, leaf, split}
-use Rattle.nodes.specs.Members.{Member, Same, hull, HullOf, Built}
+use Rattle.nodes.specs.Members.{Member, hull, HullOf, Built}
 use Rattle.nodes.proofs.MemberLaws.{member-append, append-member}
-use Rattle.shape.specs.Shapes.{Shape, shapeBox, solidOf}
+use Rattle.shape.specs.Shapes.{shapeBox, solidOf}
 use Rattle.parts.specs.Parts.{namedBefore}
 use Rattle.parts.specs.Drawn.{unnamed, drawn}
 use Rattle.accept.specs.Checks.{Scene, entriesOf, checkOf}

@@ -1,5 +1,4 @@
 -- Document 01's number 5: the used numbers of an entry are within 1,000,000, and its measures make sense.
-use Prim.Native.Nat.{ℕ}
 use mathlib.Core.Bool.{Bool, true, not, _&&_, _||_, cond}
 use lib.Dec.{eqb}
 use lib.Ieee.{Float, lt}

@@ -1,15 +1,15 @@
 -- Laws on the lists of the check of parts. Assumes nothing.
-use Prim.Native.Nat.{ℕ, zero, suc, _+_, _-_, _/_, _<_, _≤_}
+use Prim.Native.Nat.{ℕ, zero, suc, _+_, _-_, _<_, _≤_}
 use mathlib.Core.Path.{_≡_, refl, ap, sym, _∙_, subst}
-use mathlib.Core.List.{List, [], _∷_, _++_, append-nil}
+use mathlib.Core.List.{List, [], _++_}
 use mathlib.Core.Bool.{Bool, true, false, not, _&&_, _||_, cond}
-use lib.ListN.{length, drop, take, getD, set, replicate, drop-of-length-le, length-set, getD-replicate, length-replicate}
+use lib.ListN.{length, take, getD, set, replicate, length-set, getD-replicate, length-replicate}
 use lib.Seq.{getD-set-same, getD-set-other, take-suc-set, getD-take}
 use lib.Dec.{ltb, eqb}
 use native.Mathlib.Omega.{arith}
-use native.Mathlib.Nat.{le-antisymm, lt-of-lt-of-le, zero-add, suc-add, sub-add-cancel}
+use native.Mathlib.Nat.{lt-of-lt-of-le, zero-add, suc-add, sub-add-cancel}
 use native.Mathlib.Numerals.{add-one}
-use borrow.Author.Tests.{ltb-true, eqb-true, eqb-false, eq-eqb, ne-eqb, le-leb, lt-leb}
+use borrow.Author.Tests.{ltb-true, eqb-true, eqb-false, eq-eqb, ne-eqb}
 use Rattle.rows.specs.declared.Marks.{Marks}
 use Rattle.parts.specs.Parts.{kindAt, firstAt, secondAt, names, namedBefore, larger, deepest, depthsTo, freeFor, partsFree, entryOk, partsOk, flag, Flags, Known}
 

@@ -1,5 +1,5 @@
 -- What is asked of paths that are handed in. Assumes nothing.
-use mathlib.Core.Path.{_≡_, refl, sym, ap, _∙_, subst}
+use mathlib.Core.Path.{_≡_, refl, sym, ap, _∙_}
 use mathlib.Core.Bool.{Bool, true, false, cond, _&&_, and-eq-true-iff}
 use mathlib.Core.List.{List, [], _∷_}
 use Prim.Native.Nat.{ℕ, zero, suc, _+_, _≤_, _<_, _%_}
@@ -7,7 +7,7 @@ use native.Mathlib.Nat.{le-of-suc-le-suc}
 use native.Mathlib.Numerals.{add-one}
 use native.Mathlib.Omega.{arith}
 use borrow.Author.Tests.{eq-eqb, ne-eqb}
-use lib.Dec.{T, eqb}
+use lib.Dec.{eqb}
 use lib.ListN.{length, drop, getD, drop-of-length-le}
 use lib.Seq.{drop-cons}
 use lib.Ieee.{Float}
@@ -22,7 +22,9 @@ use Rattle.rows.specs.Starts.{goodStarts}
 use Rattle.rows.proofs.RowLaws.{getD-view}
 use Rattle.paths.specs.Answers.{Answer, refused}
 use Rattle.paths.specs.Ends.{places, allPoints, nowhere}
-use Rattle.paths.specs.Judged.{pointOk, pointsOk, handedOver, judged, unless}
+use Rattle.limits.specs.Limits.{withinPoint}
+use Rattle.limits.proofs.LimitLaws.{within-point}
+use Rattle.paths.specs.Judged.{pointsOk, handedOver, judged, unless}
 use Rattle.paths.specs.declared.Verdict.{Verdict}
 use Rattle.paths.specs.declared.Verdict.the-variants.{Fine, Refused}
 use Rattle.paths.proofs.Parts.{length-points}
@@ -36,7 +38,7 @@ module _ (path : List Float) where
   pub checking-start : Checking path 0
   checking-start = record { upto = omega arith; left = refl }
 
-  module _ (i : ℕ) (h : Checking path i) (l : i < places path) (v : Vector) (b : Bool) (ev : v ≡ pointOf (row 3 i path)) (eb : b ≡ pointOk v) where
+  module _ (i : ℕ) (h : Checking path i) (l : i < places path) (v : Vector) (b : Bool) (ev : v ≡ pointOf (row 3 i path)) (eb : b ≡ withinPoint v) where
     onward : pointsOk (allPoints path) ≡ b && pointsOk (drop (i + 1) (allPoints path))
     unfolding pointsOk
     onward =
@@ -58,18 +60,11 @@ module _ (path : List Float) where
       sym (ap pointsOk e) ∙ h .left
 
 -- ---- what passes is within a million
-pub point-within : (v : Vector) → pointOk v ≡ true → Within v
-unfolding pointOk
-point-within v e =
-    let a = and-eq-true-iff (within (v .x)) (within (v .y) && within (v .z)) .0 e in
-    let b = and-eq-true-iff (within (v .y)) (within (v .z)) .0 (a .1) in
-    record { x = subst T (sym (a .0)) tt; y = subst T (sym (b .0)) tt; z = subst T (sym (b .1)) tt }
-
 pub points-within : (vs : List Vector) → pointsOk vs ≡ true → (i : ℕ) → i < length vs → Within (getD vs i nowhere)
 unfolding pointsOk
 points-within [] e i h = absurd (omega arith)
-points-within (v ∷ vs) e zero h = point-within v (and-eq-true-iff (pointOk v) (pointsOk vs) .0 e .0)
-points-within (v ∷ vs) e (suc i) h = points-within vs (and-eq-true-iff (pointOk v) (pointsOk vs) .0 e .1) i (le-of-suc-le-suc h)
+points-within (v ∷ vs) e zero h = within-point v (and-eq-true-iff (withinPoint v) (pointsOk vs) .0 e .0)
+points-within (v ∷ vs) e (suc i) h = points-within vs (and-eq-true-iff (withinPoint v) (pointsOk vs) .0 e .1) i (le-of-suc-le-suc h)
 
 -- ---- the verdict
 handed-none : (xs : List Float) (ss : List ℕ) → length ss ≡ 0 → pointsOk (handedOver xs ss) ≡ true

@@ -5,22 +5,19 @@ use Prim.Native.Nat.{ℕ, _%_}
 use lib.ListN.{length}
 use lib.Dec.{eqb}
 use lib.Ieee.{Float}
-use Rattle.floats.specs.Numbers.{within}
 use Rattle.geometry.specs.declared.vector.Vector.{Vector}
 use Rattle.scene.specs.declared.refusal.Refusal.the-variants.{Lengths, Parts, View, Point}
+use Rattle.limits.specs.Limits.{withinPoint}
 use Rattle.rows.specs.Starts.{goodStarts}
 use Rattle.paths.specs.Answers.{Answer, refused}
 use Rattle.paths.specs.Ends.{places, allPoints}
 use Rattle.paths.specs.declared.Verdict.{Verdict}
 use Rattle.paths.specs.declared.Verdict.the-variants.{Fine, Refused}
 
--- number 9: finite, and no coordinate exceeds 1,000,000 in magnitude
-unfoldable pub pointOk : Vector → Bool
-pointOk v = within (v .x) && (within (v .y) && within (v .z))
-
+-- number 9: no point has a coordinate that is not finite or exceeds 1,000,000 in magnitude
 unfoldable pub pointsOk : List Vector → Bool
 pointsOk [] = true
-pointsOk (v ∷ vs) = pointOk v && pointsOk vs
+pointsOk (v ∷ vs) = withinPoint v && pointsOk vs
 
 -- with no starts nothing is handed over
 unfoldable pub handedOver : List Float → List ℕ → List Vector

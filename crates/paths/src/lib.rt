@@ -8,7 +8,7 @@ ghost use Rattle.rows.specs.Points.{points};
 ghost use Rattle.paths.specs.Paths as Paths;
 ghost use Rattle.paths.specs.Paths.{closedStarts};
 ghost use Rattle.paths.specs.Ends.{places, allPoints, Ends, EndsStarts, toldBoth, Finished};
-ghost use Rattle.paths.specs.Judged.{pointOk, pointsOk, judged};
+ghost use Rattle.paths.specs.Judged.{pointsOk, judged};
 ghost use Rattle.paths.specs.Spans.{lesserOf, spanOf};
 ghost use Rattle.paths.specs.declared.Counts.the-variants.{Both};
 use geometry::vector::Vector;
@@ -135,19 +135,7 @@ pub fn finish(out: &mut [f64], starts: &mut [usize], c: Counts) -> Counts
     }
 }
 
-// Finite, and no coordinate exceeds 1,000,000 in magnitude.
-pub fn point_ok(v: Vector) -> bool
-    ensures { λ r. ⌜ r ≡ pointOk v ⌝ }
-{
-    if !floats::within(v.x) {
-        return false;
-    }
-    if !floats::within(v.y) {
-        return false;
-    }
-    floats::within(v.z)
-}
-
+// Whether each point is finite, with no coordinate above 1,000,000 in magnitude.
 pub fn points_ok(path: &[f64]) -> bool
     ensures { λ r. ⌜ r ≡ pointsOk (allPoints (now (path .entry))) ⌝ }
 {
@@ -155,7 +143,7 @@ pub fn points_ok(path: &[f64]) -> bool
     let mut i = 0;
     while i < n {
         let p = rows::read_point(path, i);
-        if !point_ok(p) {
+        if !limits::within_point(p) {
             return false;
         }
         i += 1;

@@ -1,6 +1,6 @@
 -- The answers of the calls, after the verdict on the scene. Assumes nothing.
 use Prim.Native.Nat.{ℕ}
-use mathlib.Core.Path.{_≡_, refl, sym, ap, fun-ext, _∙_}
+use mathlib.Core.Path.{_≡_, ap, fun-ext, _∙_}
 use mathlib.Core.List.{List, []}
 use mathlib.Core.Bool.{Bool, true, false}
 use lib.Ieee.{Float}
@@ -15,20 +15,18 @@ use Rattle.shape.specs.declared.Struck.{Struck}
 use Rattle.shape.specs.declared.Struck.the-variants.{Refused as NotStruck}
 use Rattle.limits.specs.Limits.{withinPoint, withinRay}
 use Rattle.parts.specs.Drawn.{drawn}
-use Rattle.nodes.specs.Nodes.{boxRows, markRows}
-use Rattle.tree.specs.Build.{boxAt, nodesFor, orderFor}
+use Rattle.tree.specs.Build.{boxAt}
 use Rattle.walk.specs.Walks.{entryHit, walkRows}
 use Rattle.walk.specs.declared.Found.{Found}
 use Rattle.visible.specs.Sights.{sees}
 use Rattle.visible.specs.declared.Sight.{Sight}
 use Rattle.visible.specs.declared.Sight.the-variants.{Refused as NotSeen}
 use Rattle.accept.specs.Checks.{Scene, checkOf, inversesOf}
-use Rattle.accept.specs.declared.Verdict.{Verdict}
 use Rattle.accept.specs.declared.Verdict.the-variants.{Accepted, Refused}
 use Rattle.accept.proofs.Left.{own-solid}
 use Rattle.queries.specs.declared.Built.{Built}
-use Rattle.queries.specs.declared.Built.the-variants.{Nodes, Refused as NotBuilt}
-use Rattle.queries.specs.Queries.{boxesLeft, sceneNodes, sceneOrder, builtAfter, plantedOf, buildOf, ifBuilt, ownHits, struckBy, struckAfter, intersectOf, seenAfter, visibleOf}
+use Rattle.queries.specs.declared.Built.the-variants.{Refused as NotBuilt}
+use Rattle.queries.specs.Queries.{boxesLeft, builtAfter, plantedOf, buildOf, ifBuilt, ownHits, struckBy, struckAfter, intersectOf, seenAfter, visibleOf}
 use Rattle.queries.proofs.Plants.{Left}
 
 -- ---- a refused scene

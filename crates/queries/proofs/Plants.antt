@@ -1,11 +1,10 @@
 -- How a tree is planted in lent slices. Assumes nothing.
 use Prim.Native.Nat.{ℕ, zero, suc, _-_, _<_, _≤_}
 use mathlib.Core.Path.{_≡_, refl, sym, ap, subst, _∙_}
-use mathlib.Core.List.{List, [], _∷_, _++_, map}
-use mathlib.Core.Bool.{Bool, true, false, _&&_, cond}
+use mathlib.Core.List.{List, [], _∷_}
+use mathlib.Core.Bool.{Bool, true, false, cond}
 use native.Mathlib.Omega.{arith}
-use lib.ListN.{length, take, replicate}
-use lib.Dec.{leb}
+use lib.ListN.{length}
 use lib.Ieee.{Float}
 use borrow.Author.Tests.{le-leb, lt-leb}
 use Rattle.floats.specs.Arith.{zeroF}
@@ -17,13 +16,12 @@ use Rattle.nodes.specs.Nodes.{boxRows, markRows}
 use Rattle.nodes.specs.declared.Node.{Node}
 use Rattle.sort.specs.Sort.{Each}
 use Rattle.sort.proofs.EachLaws.{each-append}
-use Rattle.tree.specs.Build.{Fits, boxAt, nodesFor, orderFor}
+use Rattle.tree.specs.Build.{Fits, nodesFor, orderFor}
 use Rattle.build.specs.Slices.{roomFor, Stored}
 use Rattle.build.specs.declared.Outcome.{Outcome}
 use Rattle.build.specs.declared.Outcome.the-variants.{Upto, Full}
-use Rattle.parts.specs.Parts.{entries, namedBefore}
+use Rattle.parts.specs.Parts.{namedBefore}
 use Rattle.parts.specs.Drawn.{unnamed, drawn}
-use Rattle.accept.specs.Extents.{ownBox}
 use Rattle.accept.specs.Checks.{Scene, entriesOf, checkOf, boxesOf}
 use Rattle.accept.specs.declared.Verdict.the-variants.{Accepted}
 use Rattle.accept.proofs.CheckLaws.{is-accepted, accepted-same, drawn-few}
@@ -32,7 +30,7 @@ use Rattle.sound.specs.Passing.{Passing, accepted-passes}
 use Rattle.sound.specs.Sound.{accepted-sound}
 use Rattle.queries.specs.declared.Built.{Built}
 use Rattle.queries.specs.declared.Built.the-variants.{Nodes, Refused as NotBuilt}
-use Rattle.queries.specs.Queries.{boxesLeft, plantedOf, ifBuilt}
+use Rattle.queries.specs.Queries.{plantedOf, ifBuilt}
 
 abbrev pub builtOf : Outcome → Built
 builtOf (Upto n) = Nodes n

@@ -1,6 +1,6 @@
 -- The public calls on a scene: its tree, the nearest hit and the eye test, each after the check of the scene.
 use Prim.Native.Nat.{ℕ}
-use mathlib.Core.Bool.{Bool, _&&_, cond}
+use mathlib.Core.Bool.{_&&_, cond}
 use mathlib.Core.List.{List, []}
 use lib.ListN.{length}
 use lib.Dec.{leb}
@@ -10,7 +10,6 @@ use Rattle.geometry.specs.declared.vector.Vector.{Vector}
 use Rattle.geometry.specs.declared.ray.Ray.{Ray}
 use Rattle.geometry.specs.declared.bounding_box.BBox.{BBox}
 use Rattle.rows.specs.Rows.{padded}
-use Rattle.scene.specs.declared.refusal.Refusal.{Refusal}
 use Rattle.scene.specs.declared.refusal.Refusal.the-variants.{View, Point, Room}
 use Rattle.shape.specs.Shapes.{solidOf, shapeHit}
 use Rattle.shape.specs.declared.Struck.{Struck}

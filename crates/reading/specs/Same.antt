@@ -9,7 +9,7 @@ use lib.ListN.{length, take, getD}
 use lib.Seq.{getD-take}
 use lib.Dec.{eqb}
 use lib.Ieee.{Float, nan}
-use borrow.Author.Tests.{eqb-true, eq-eqb, lt-ltb}
+use borrow.Author.Tests.{eqb-true, lt-ltb}
 use Rattle.matrix.specs.Matrices.{inverted}
 use Rattle.rows.specs.Rows.{row}
 use Rattle.rows.specs.Entries.{numbersOf}

@@ -5,9 +5,9 @@ use mathlib.Core.List.{List}
 use mathlib.Core.Bool.{Bool, true, false, _&&_, cond, and-eq-true-iff}
 use native.Mathlib.Omega.{arith}
 use lib.ListN.{length}
-use lib.Dec.{ltb, leb, eqb}
+use lib.Dec.{leb, eqb}
 use lib.Ieee.{Float}
-use borrow.Author.Tests.{leb-true, eqb-true, eqb-false, eq-eqb, ne-eqb, lt-ltb}
+use borrow.Author.Tests.{leb-true, eqb-true, eqb-false, ne-eqb, lt-ltb}
 use Rattle.rows.specs.declared.Marks.{Marks}
 use Rattle.rows.specs.declared.Numbers.{Numbers}
 use Rattle.scene.specs.Entries.{simpleOf, simpleOr, cutOf, compositeOf, entryOf, matrixOf, marksAt, numbersAt, ownEntry}
@@ -20,7 +20,7 @@ use Rattle.shape.specs.Shapes.{Shape, none, simple, placed, cut, shapeOf, solid
 use Rattle.parts.specs.Parts.{entries, partsOk}
 use Rattle.parts.proofs.PartLaws.{never}
 use Rattle.measures.specs.Each.{allOf}
-use Rattle.measures.specs.Values.{isKind, isStripes, known}
+use Rattle.measures.specs.Values.{isKind, known}
 use Rattle.measures.proofs.EachLaws.{all-at}
 use Rattle.accept.proofs.Reading.{Each, each-map, own-parts, solid-opens}
 

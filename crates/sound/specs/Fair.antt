@@ -1,7 +1,7 @@
 -- The box of an entry whose numbers passed number 5, and whose parts have sound boxes: its min is under its max. Assumes nothing.
 use Prim.Native.Nat.{ℕ}
 use mathlib.Core.Path.{_≡_, refl}
-use mathlib.Core.Bool.{Bool, true, false, not, _&&_, _||_, cond, and-eq-true-iff}
+use mathlib.Core.Bool.{Bool, true, false, not, _&&_, cond, and-eq-true-iff}
 use lib.Dec.{T, eqb}
 use lib.Ieee.{Float, lt, le, ofBits}
 use borrow.Author.Tests.{eqb-true}

@@ -22,36 +22,6 @@ pub struct RenderArgs {
     pub step: f64,
 }
 
-fn row_finite(a: f64, b: f64, c: f64, d: f64) -> bool
-    ensures { λ r. ⌜ r ≡ Views.rowFinite a b c d ⌝ }
-{
-    if !floats::is_finite(a) {
-        return false;
-    }
-    if !floats::is_finite(b) {
-        return false;
-    }
-    if !floats::is_finite(c) {
-        return false;
-    }
-    floats::is_finite(d)
-}
-
-fn matrix_finite(m: Matrix) -> bool
-    ensures { λ r. ⌜ r ≡ Views.matrixFinite m ⌝ }
-{
-    if !row_finite(m.x00, m.x01, m.x02, m.x03) {
-        return false;
-    }
-    if !row_finite(m.x10, m.x11, m.x12, m.x13) {
-        return false;
-    }
-    if !row_finite(m.x20, m.x21, m.x22, m.x23) {
-        return false;
-    }
-    row_finite(m.x30, m.x31, m.x32, m.x33)
-}
-
 // A width or height: above 0 and up to 1,000,000.
 fn extent_ok(x: f64) -> bool
     ensures { λ r. ⌜ r ≡ Views.extentOk x ⌝ }
@@ -82,16 +52,10 @@ impl View {
     pub fn is_ok(self) -> bool
         ensures { λ r. ⌜ r ≡ Views.viewOk self ⌝ }
     {
-        if !matrix_finite(self.matrix) {
+        if !limits::finite_matrix(self.matrix) {
             return false;
         }
-        if !floats::within(self.eye.x) {
-            return false;
-        }
-        if !floats::within(self.eye.y) {
-            return false;
-        }
-        if !floats::within(self.eye.z) {
+        if !limits::within_point(self.eye) {
             return false;
         }
         if !extent_ok(self.width) {

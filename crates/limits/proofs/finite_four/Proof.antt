@@ -1,5 +1,3 @@
-use borrow.Author.Needs.{needs}
-use mathlib.Core.Path.{refl}
 use Rattle.limits.specs.Limits.{finiteFour}
 use Rattle.limits.proofs.finite_four.Statement.{statement}
 use Rattle.limits.proofs.finite_four.Tie as tie

@@ -1,5 +1,3 @@
-use borrow.Author.Needs.{needs}
-use mathlib.Core.Path.{refl}
 use Rattle.limits.specs.Limits.{finiteMatrix}
 use Rattle.limits.proofs.finite_matrix.Statement.{statement}
 use Rattle.limits.proofs.finite_matrix.Tie as tie

@@ -1,5 +1,3 @@
-use borrow.Author.Needs.{needs}
-use mathlib.Core.Path.{refl}
 use Rattle.limits.specs.Limits.{withinBox}
 use Rattle.limits.proofs.within_box.Statement.{statement}
 use Rattle.limits.proofs.within_box.Tie as tie

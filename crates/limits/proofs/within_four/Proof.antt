@@ -1,5 +1,3 @@
-use borrow.Author.Needs.{needs}
-use mathlib.Core.Path.{refl}
 use Rattle.limits.specs.Limits.{withinFour}
 use Rattle.limits.proofs.within_four.Statement.{statement}
 use Rattle.limits.proofs.within_four.Tie as tie

@@ -1,5 +1,3 @@
-use borrow.Author.Needs.{needs}
-use mathlib.Core.Path.{refl}
 use Rattle.limits.specs.Limits.{withinMatrix}
 use Rattle.limits.proofs.within_matrix.Statement.{statement}
 use Rattle.limits.proofs.within_matrix.Tie as tie

@@ -1,5 +1,3 @@
-use borrow.Author.Needs.{needs}
-use mathlib.Core.Path.{refl}
 use Rattle.limits.specs.Limits.{withinPoint}
 use Rattle.limits.proofs.within_point.Statement.{statement}
 use Rattle.limits.proofs.within_point.Tie as tie

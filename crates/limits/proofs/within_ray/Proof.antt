@@ -1,5 +1,3 @@
-use borrow.Author.Needs.{needs}
-use mathlib.Core.Path.{refl}
 use Rattle.limits.specs.Limits.{withinRay}
 use Rattle.limits.proofs.within_ray.Statement.{statement}
 use Rattle.limits.proofs.within_ray.Tie as tie

@@ -1,8 +1,6 @@
 use Rattle.parts.proofs.PartLaws.{kindOf, firstOf, secondOf, never, other, before-it, six-no, six-yes, seven-no-first, second-before, seven-no, seven-yes}
-use Rattle.rows.specs.declared.Marks.{Marks}
 use native.Mathlib.Omega.{arith}
-use Prim.Native.Nat.{ℕ}
-use mathlib.Core.Path.{_≡_, ap}
+use mathlib.Core.Path.{ap}
 use borrow.Author.Needs.{needs}
 use Rattle.parts.proofs.enter.Statement.{statement}
 use Rattle.parts.proofs.enter.Tie as tie

@@ -7,7 +7,6 @@ use native.Mathlib.Omega.{arith}
 use mathlib.Core.Bool.{true}
 use mathlib.Core.Path.{_≡_, refl, sym, ap, subst, _∙_}
 use Prim.Native.Nat.{ℕ, _≤_, _-_}
-use borrow.Author.Needs.{needs}
 use Rattle.parts.proofs.enter_all.Statement.{statement}
 use Rattle.parts.proofs.enter_all.Tie as tie
 

@@ -1,7 +1,5 @@
 use Rattle.parts.specs.Owners.{isRound}
 use borrow.Author.Tests.{le-leb, lt-leb}
-use mathlib.Core.Path.{sym}
-use borrow.Author.Needs.{needs}
 use Rattle.parts.proofs.is_round.Statement.{statement}
 use Rattle.parts.proofs.is_round.Tie as tie
 

@@ -1,6 +1,5 @@
 use Rattle.parts.specs.Parts.{larger}
 use borrow.Author.Tests.{lt-ltb, le-ltb}
-use borrow.Author.Needs.{needs}
 use Rattle.parts.proofs.larger.Statement.{statement}
 use Rattle.parts.proofs.larger.Tie as tie
 

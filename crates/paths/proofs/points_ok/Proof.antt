@@ -17,11 +17,11 @@ loop-holds c = checking-start _
 read-point-requires : tie.Need-read-point-requires Inv-loop μ-loop
 read-point-requires c κs = search needs
 
-point-ok-requires : tie.Need-point-ok-requires Inv-loop μ-loop
-point-ok-requires c κs = search needs
+within-point-requires : tie.Need-within-point-requires Inv-loop μ-loop
+within-point-requires c κs = search needs
 
 returns : tie.Need-returns Inv-loop μ-loop
-returns c = checking-bad _ _ (c .before .before .before .before .loop .inv) (c .before .before .before .loop-test .taken) _ _ (c .before .before .read-point .ensures) (c .before .point-ok .ensures) (not-true _ (c .if1 .taken))
+returns c = checking-bad _ _ (c .before .before .before .before .loop .inv) (c .before .before .before .loop-test .taken) _ _ (c .before .before .read-point .ensures) (c .before .within-point .ensures) (not-true _ (c .if1 .taken))
 
 add-i : tie.Need-add-i Inv-loop μ-loop
 add-i c = search needs
@@ -30,7 +30,7 @@ loop-less : tie.Need-loop-less Inv-loop μ-loop
 loop-less c = search needs
 
 loop-again : tie.Need-loop-again Inv-loop μ-loop
-loop-again c = checking-turn _ _ (c .before .before .before .before .loop .inv) (c .before .before .before .loop-test .taken) _ _ (c .before .before .read-point .ensures) (c .before .point-ok .ensures) (not-false _ (c .if1 .left))
+loop-again c = checking-turn _ _ (c .before .before .before .before .loop .inv) (c .before .before .before .loop-test .taken) _ _ (c .before .before .read-point .ensures) (c .before .within-point .ensures) (not-false _ (c .if1 .left))
 
 returns-2 : tie.Need-returns-2 Inv-loop μ-loop
 returns-2 c = checking-end _ _ (c .before .loop .inv) (c .loop-test .left)
@@ -43,7 +43,7 @@ points-ok-spec =
     μ-loop
     loop-holds
     read-point-requires
-    point-ok-requires
+    within-point-requires
     returns
     add-i
     loop-less

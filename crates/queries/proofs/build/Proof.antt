@@ -7,7 +7,7 @@ use Rattle.nodes.specs.Nodes.{placesOf}
 use Rattle.floats.specs.Arith.{zeroF}
 use lib.ListN.{length, take}
 use native.Mathlib.Omega.{arith}
-use mathlib.Core.Path.{refl, sym, _∙_}
+use mathlib.Core.Path.{sym, _∙_}
 use borrow.Author.Needs.{needs}
 use Rattle.queries.proofs.build.Statement.{statement}
 use Rattle.queries.proofs.build.Tie as tie

@@ -4,7 +4,7 @@ use Rattle.nodes.specs.Nodes.{placesOf}
 use lib.Seq.{length-take-le}
 use lib.ListN.{length, take}
 use native.Mathlib.Omega.{arith}
-use mathlib.Core.Path.{_≡_, ap, sym}
+use mathlib.Core.Path.{ap, sym}
 use borrow.Author.Needs.{needs}
 use Rattle.queries.proofs.plant.Statement.{statement}
 use Rattle.queries.proofs.plant.Tie as tie

@@ -5,7 +5,7 @@ use Rattle.rows.specs.Entries.{numbersRow}
 use Rattle.rows.specs.Rows.{setRow}
 use Rattle.matrix.specs.Matrices.{inverted}
 use native.Mathlib.Omega.{arith}
-use mathlib.Core.Path.{_≡_, ap, _∙_}
+use mathlib.Core.Path.{ap, _∙_}
 use borrow.Author.Needs.{needs}
 use Rattle.accept.proofs.placings.invert.Statement.{statement}
 use Rattle.accept.proofs.placings.invert.Tie as tie

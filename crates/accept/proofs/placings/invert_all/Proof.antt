@@ -7,7 +7,6 @@ use borrow.Author.Tests.{not-true, not-false}
 use native.Mathlib.Omega.{arith}
 use mathlib.Core.Path.{refl, _∙_}
 use Prim.Native.Nat.{_-_}
-use borrow.Author.Needs.{needs}
 use Rattle.accept.proofs.placings.invert_all.Statement.{statement}
 use Rattle.accept.proofs.placings.invert_all.Tie as tie
 

@@ -1,6 +1,5 @@
 use Rattle.accept.specs.Placings.{zeroNumbers}
 use mathlib.Core.Path.{refl}
-use borrow.Author.Needs.{needs}
 use Rattle.accept.proofs.placings.zero_numbers.Statement.{statement}
 use Rattle.accept.proofs.placings.zero_numbers.Tie as tie
 

@@ -1,5 +1,3 @@
-use borrow.Author.Needs.{needs}
-use mathlib.Core.Path.{refl}
 use Rattle.measures.specs.Measures.{exceeds}
 use Rattle.measures.proofs.measures.exceeds.Statement.{statement}
 use Rattle.measures.proofs.measures.exceeds.Tie as tie

@@ -1,5 +1,3 @@
-use borrow.Author.Needs.{needs}
-use mathlib.Core.Path.{refl}
 use Rattle.measures.specs.Measures.{isRadius}
 use Rattle.measures.proofs.measures.is_radius.Statement.{statement}
 use Rattle.measures.proofs.measures.is_radius.Tie as tie

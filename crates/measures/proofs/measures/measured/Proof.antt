@@ -2,7 +2,6 @@ use Rattle.measures.specs.Measures.{simpleMeasured}
 use borrow.Author.Tests.{eq-eqb, ne-eqb}
 use mathlib.Core.Path.{_∙_}
 use borrow.Author.Needs.{needs}
-use mathlib.Core.Path.{refl}
 use Rattle.measures.specs.Measures.{measured}
 use Rattle.measures.proofs.measures.measured.Statement.{statement}
 use Rattle.measures.proofs.measures.measured.Tie as tie

@@ -1,6 +1,5 @@
 use mathlib.Core.Path.{_∙_}
 use borrow.Author.Needs.{needs}
-use mathlib.Core.Path.{refl}
 use Rattle.measures.specs.Measures.{solidMeasured}
 use Rattle.measures.proofs.measures.solid_measured.Statement.{statement}
 use Rattle.measures.proofs.measures.solid_measured.Tie as tie

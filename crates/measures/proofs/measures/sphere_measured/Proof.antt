@@ -1,5 +1,3 @@
-use borrow.Author.Needs.{needs}
-use mathlib.Core.Path.{refl}
 use Rattle.measures.proofs.measures.sphere_measured.Statement.{statement}
 use Rattle.measures.proofs.measures.sphere_measured.Tie as tie
 

@@ -1,5 +1,3 @@
-use borrow.Author.Needs.{needs}
-use mathlib.Core.Path.{refl}
 use Rattle.measures.specs.Measures.{triangleMeasured}
 use Rattle.measures.proofs.measures.triangle_measured.Statement.{statement}
 use Rattle.measures.proofs.measures.triangle_measured.Tie as tie

@@ -1,6 +1,4 @@
 use borrow.Author.Tests.{le-leb, lt-leb}
-use borrow.Author.Needs.{needs}
-use mathlib.Core.Path.{refl}
 use Rattle.measures.specs.Values.{isKind}
 use Rattle.measures.proofs.values.is_kind.Statement.{statement}
 use Rattle.measures.proofs.values.is_kind.Tie as tie

@@ -1,6 +1,4 @@
 use borrow.Author.Tests.{le-leb, lt-leb}
-use borrow.Author.Needs.{needs}
-use mathlib.Core.Path.{refl}
 use Rattle.measures.specs.Values.{isStripes}
 use Rattle.measures.proofs.values.is_stripes.Statement.{statement}
 use Rattle.measures.proofs.values.is_stripes.Tie as tie

@@ -1,7 +1,5 @@
 use borrow.Author.Tests.{eq-eqb, ne-eqb}
 use mathlib.Core.Path.{_∙_}
-use borrow.Author.Needs.{needs}
-use mathlib.Core.Path.{refl}
 use Rattle.measures.specs.Values.{known}
 use Rattle.measures.proofs.values.known.Statement.{statement}
 use Rattle.measures.proofs.values.known.Tie as tie
