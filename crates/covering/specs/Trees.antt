@@ -65,6 +65,6 @@ module _ (s : Scene) (n : ℕ) (is : checkOf s ≡ Accepted n) where
   scene-tree some = record {
     fine = λ i m. accepted-sound s is i (drawn-entry i m);
     built = built-as (boxAt (boxesLeft s)) (λ (i : ℕ). shapeBox (solidOf (s .numbers) (s .marks) i)) (sceneTree s) (drawn (s .marks))
-      (λ i m. own-box s n is 6144 (boxesLeft s) refl i (drawn-entry i m))
-      (built-tree (boxAt (boxesLeft s)) (drawn (s .marks)) some);
+        (λ i m. own-box s n is 6144 (boxesLeft s) refl i (drawn-entry i m))
+        (built-tree (boxAt (boxesLeft s)) (drawn (s .marks)) some);
   }
