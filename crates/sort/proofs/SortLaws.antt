@@ -16,7 +16,7 @@ use borrow.Rule.Slice.PartMut.{putMid}
 use borrow.Table.Steps.{cases}
 use Rattle.floats.specs.Numbers.{number}
 use Rattle.floats.proofs.Order.{le-trans, not-gt→le, le→not-gt, lt-trans}
-use Rattle.sort.specs.Sort.{inserted, sorted, merged, byKey, NoNan, Each}
+use Rattle.sort.specs.Sort.{sorted, merged, byKey, NoNan, Each}
 use Rattle.sort.proofs.MergeLaws.{merged-nil, merged-sorted}
 use Rattle.sort.proofs.EachLaws.{length-sorted, each-append, each-sorted, each-take, each-drop}
 
@@ -136,12 +136,6 @@ module _ (less : ℕ → ℕ → Bool) (o₀ : List ℕ) (m : ℕ) (work : List 
       sym (take-append-drop j o) ∙ rw (h .rest) d
 
 -- ---- the sort by its halves
-pub sort-short : (less : ℕ → ℕ → Bool) (l : List ℕ) → length l < 2 → sorted less l ≡ l
-unfolding sorted inserted
-sort-short less [] h = refl
-sort-short less (x ∷ []) h = refl
-sort-short less (x ∷ y ∷ l) h = absurd (not-suc-le-zero (le-of-suc-le-suc (le-of-suc-le-suc h)))
-
 -- keys that are numbers are in a total order
 is-false : (b : Bool) → T (not b) → b ≡ false
 is-false true h = absurd h
