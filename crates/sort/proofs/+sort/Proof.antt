@@ -1,10 +1,10 @@
+use Prim.Native.Nat.{_/_, _≤_, _-_, ℕ, _<_}
 use Rattle.sort.proofs.EachLaws.{each-take, each-drop}
 use Rattle.sort.proofs.SortLaws.{second-half, sort-halves, halves-length, halves-each, halves-merge}
-use Rattle.sort.specs.Sort.{Each, byKey, sorted}
+use Rattle.sort.specs.Sort.{Each, HasKey, byKey, sorted}
 use lib.Seq.{length-take-le}
 use lib.ListN.{take, drop, length-drop, length}
 use native.Mathlib.Omega.{arith}
-use Prim.Native.Nat.{_/_, _≤_, _-_, ℕ, _<_}
 use mathlib.Core.List.{List, [], _++_}
 use mathlib.Core.Path.{_≡_, subst⁻¹, _∙_, sym}
 use borrow.Author.Needs.{needs}
@@ -55,7 +55,7 @@ sort-sort-requires t c κs = let a = c .before .before .before .before .before .
     let m : ℕ = length o / 2 in
     let h : m ≤ length o = omega arith in
     let e : length (take m o) ≡ m = length-take-le m o h in
-    (omega (arith, e, c .before .before .before .before .before .before .pre .0, c .before .before .if1 .left), (omega (arith, e, c .before .before .before .before .before .before .pre .1 .0), each-take (λ (i : ℕ). i < length (a .keys .now)) m o (c .before .before .before .before .before .before .pre .1 .1), c .before .before .before .before .before .before .pre .1 .2))
+    (omega (arith, e, c .before .before .before .before .before .before .pre .0, c .before .before .if1 .left), (omega (arith, e, c .before .before .before .before .before .before .pre .1 .0), each-take (HasKey (a .keys .now)) m o (c .before .before .before .before .before .before .pre .1 .1)))
 
 sort-mul-sort : (t : ℕ) → sort-lts.Need-mul-sort (sort-claims t) (sort-at t) sort.Post
 sort-mul-sort t c = search needs
@@ -81,8 +81,7 @@ sort-sort-requires-2 t c κs = let a = c .before .before .before .before .before
       subst⁻¹ (λ (l : List ℕ). length l < t) e (omega (arith, d, c .before .before .before .before .before .before .before .before .before .before .before .before .before .pre .0, c .before .before .before .before .before .before .before .before .before .if1 .left)),
       (
         subst⁻¹ (λ (l : List ℕ). length l ≤ length (s .last .1 .1 .0)) e (omega (arith, d, s .kept .1 .1 .0, c .before .before .before .before .before .before .before .before .before .before .before .before .before .pre .1 .0)),
-        subst⁻¹ (λ (l : List ℕ). Each (λ (i : ℕ). i < length (a .keys .now)) l) e (each-drop (λ (i : ℕ). i < length (a .keys .now)) m o (c .before .before .before .before .before .before .before .before .before .before .before .before .before .pre .1 .1)),
-        c .before .before .before .before .before .before .before .before .before .before .before .before .before .pre .1 .2,
+        subst⁻¹ (λ (l : List ℕ). Each (HasKey (a .keys .now)) l) e (each-drop (HasKey (a .keys .now)) m o (c .before .before .before .before .before .before .before .before .before .before .before .before .before .pre .1 .1)),
       ),
     )
 
@@ -97,7 +96,7 @@ sort-merge-requires t c κs = let a = c .before .before .before .before .before 
     let less = byKey (a .keys .now) in
     let e₁ : s .last .1 .0 ≡ sorted less (take m o) = s .ensures in
     let e₂ : s₂ .last .1 .0 ≡ sorted less (take (length (s .last .1 .0 ++ drop m o) - m) (drop m (s .last .1 .0 ++ drop m o))) = s₂ .ensures in
-    (omega (arith, halves-length less o (s .last .1 .0) (s₂ .last .1 .0) m h k e₁ e₂), omega (arith, s .kept .1 .1 .0, s₂ .kept .1 .1 .0, c .before .before .before .before .before .before .before .before .before .before .before .before .before .before .before .before .before .before .before .before .pre .1 .0), halves-each less o (s .last .1 .0) (s₂ .last .1 .0) m h k e₁ e₂ (λ (i : ℕ). i < length (a .keys .now)) (c .before .before .before .before .before .before .before .before .before .before .before .before .before .before .before .before .before .before .before .before .pre .1 .1))
+    (omega (arith, halves-length less o (s .last .1 .0) (s₂ .last .1 .0) m h k e₁ e₂), omega (arith, s .kept .1 .1 .0, s₂ .kept .1 .1 .0, c .before .before .before .before .before .before .before .before .before .before .before .before .before .before .before .before .before .before .before .before .pre .1 .0), halves-each less o (s .last .1 .0) (s₂ .last .1 .0) m h k e₁ e₂ (HasKey (a .keys .now)) (c .before .before .before .before .before .before .before .before .before .before .before .before .before .before .before .before .before .before .before .before .pre .1 .1))
 
 sort-same-length-2 : (t : ℕ) → sort-lts.Need-same-length-2 (sort-claims t) (sort-at t) sort.Post
 sort-same-length-2 t c = let a = c .before .before .before .before .before .before .before .before .before .before .before .before .before .before .before .before .before .before .before .before .before .before .before .before .before .args in
@@ -126,7 +125,7 @@ sort-returns-2 t c = let a = c .before .before .before .before .before .before .
     let less = byKey (a .keys .now) in
     let e₁ : s .last .1 .0 ≡ sorted less (take m o) = s .ensures in
     let e₂ : s₂ .last .1 .0 ≡ sorted less (take (length (s .last .1 .0 ++ drop m o) - m) (drop m (s .last .1 .0 ++ drop m o))) = s₂ .ensures in
-    halves-merge less o (s .last .1 .0) (s₂ .last .1 .0) m h k e₁ e₂ _ (c .before .before .before .before .merge .ensures) ∙ sort-halves (a .keys .now) (c .before .before .before .before .before .before .before .before .before .before .before .before .before .before .before .before .before .before .before .before .before .before .before .before .before .pre .1 .2) m o
+    halves-merge less o (s .last .1 .0) (s₂ .last .1 .0) m h k e₁ e₂ _ (c .before .before .before .before .merge .ensures) ∙ sort-halves (a .keys .now) m o (c .before .before .before .before .before .before .before .before .before .before .before .before .before .before .before .before .before .before .before .before .before .before .before .before .before .pre .1 .1)
 
 pub +sort-spec : {M : Type 1} → statement M
 +sort-spec = close μ-sort λ t. sort-lts.spec (sort-claims t)

@@ -1,9 +1,8 @@
 use Rattle.sort.proofs.InsertLaws.{Inserting, inserting-start, inserting-next, inserting-turn, inserting-here, inserting-end}
 use Rattle.sort.proofs.EachLaws.{each-at}
 use Rattle.sort.specs.Sort.{byKey}
-use lib.ListN.{length}
 use native.Mathlib.Omega.{arith}
-use Prim.Native.Nat.{ℕ, _-_, _<_}
+use Prim.Native.Nat.{_-_}
 use mathlib.Core.Path.{sym, _∙_}
 use borrow.Author.Needs.{needs}
 use Rattle.sort.proofs.insert.Statement.{statement}
@@ -28,7 +27,7 @@ slice-read-y : tie.Need-slice-read-y Inv-loop μ-loop
 slice-read-y c = search needs
 
 precedes-requires : tie.Need-precedes-requires Inv-loop μ-loop
-precedes-requires c κs = (rw (inserting-next _ _ _ _ _ _ (c .before .before .loop .inv)) (each-at (λ (i : ℕ). i < length (c .before .before .before .before .before .before .args .keys .now)) (c .before .before .before .before .before .before .args .order .now) (c .before .before .loop .i) (c .before .before .before .before .before .before .pre .1) (omega (arith, c .before .loop-test .taken, c .before .before .loop .inv .whole))), each-at (λ (i : ℕ). i < length (c .before .before .before .before .before .before .args .keys .now)) (c .before .before .before .before .before .before .args .order .now) 0 (c .before .before .before .before .before .before .pre .1) (c .before .before .before .before .before .before .pre .0))
+precedes-requires c κs = (rw (inserting-next _ _ _ _ _ _ (c .before .before .loop .inv)) (each-at _ (c .before .before .before .before .before .before .args .order .now) (c .before .before .loop .i) (c .before .before .before .before .before .before .pre .1) (omega (arith, c .before .loop-test .taken, c .before .before .loop .inv .whole)) .0), each-at _ (c .before .before .before .before .before .before .args .order .now) 0 (c .before .before .before .before .before .before .pre .1) (c .before .before .before .before .before .before .pre .0) .0)
 
 sub-order : tie.Need-sub-order Inv-loop μ-loop
 sub-order c = search needs

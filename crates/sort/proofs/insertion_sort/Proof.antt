@@ -1,9 +1,9 @@
 use mathlib.Core.List.{[]}
 use Rattle.sort.proofs.InsertLaws.{Suffixed, suffixed-start, suffixed-part, suffixed-each, suffixed-turn, suffixed-end}
-use Rattle.sort.specs.Sort.{byKey}
+use Rattle.sort.specs.Sort.{byKey, HasKey}
 use lib.ListN.{length, length-drop}
 use native.Mathlib.Omega.{arith}
-use Prim.Native.Nat.{ℕ, _-_, _<_}
+use Prim.Native.Nat.{_-_}
 use mathlib.Core.Path.{ap, _∙_}
 use borrow.Author.Needs.{needs}
 use Rattle.sort.proofs.insertion_sort.Statement.{statement}
@@ -35,7 +35,7 @@ part-insert-end c = let h = c .before .loop .inv in omega (arith, h .same, h .up
 
 insert-requires : tie.Need-insert-requires Inv-loop μ-loop
 insert-requires c κs = let h = c .before .before .loop .inv in let o = c .before .before .loop .order in let i = c .before .before .loop .i in
-    (omega (arith, ap length (suffixed-part _ _ o i [] h (c .before .loop-test .taken)) ∙ length-drop (i - 1) o, h .same, h .upto, c .before .loop-test .taken), suffixed-each _ _ o i [] h (c .before .loop-test .taken) (λ (j : ℕ). j < length (c .before .before .before .before .before .args .keys .now)) (c .before .before .before .before .before .pre))
+    (omega (arith, ap length (suffixed-part _ _ o i [] h (c .before .loop-test .taken)) ∙ length-drop (i - 1) o, h .same, h .upto, c .before .loop-test .taken), suffixed-each _ _ o i [] h (c .before .loop-test .taken) (HasKey (c .before .before .before .before .before .args .keys .now)) (c .before .before .before .before .before .pre))
 
 loop-less : tie.Need-loop-less Inv-loop μ-loop
 loop-less c = search needs
