@@ -1,12 +1,12 @@
 -- The keys of a node's solids, and the plan by its steps. Assumes nothing.
-use mathlib.Core.Path.{_≡_, refl, ap, ap₂, _∙_}
+use mathlib.Core.Path.{_≡_, refl, ap, ap₂}
 use mathlib.Core.Bool.{Bool, true, false, cond}
 use mathlib.Core.List.{List}
 use mathlib.Core.Logic.{_≢_}
-use Prim.Native.Nat.{ℕ, zero, suc, _+_, _-_, _≤_, _<_}
+use Prim.Native.Nat.{ℕ, _+_, _-_, _≤_, _<_}
 use native.Mathlib.Nat.{not-suc-le-zero}
 use native.Mathlib.Omega.{arith}
-use lib.ListN.{length, getD, set, length-set, replicate, length-replicate}
+use lib.ListN.{length, getD, set, length-set}
 use lib.Seq.{getD-set-same, getD-set-other}
 use lib.Dec.{T, eqb, ltb, leb→le}
 use lib.IntN.{pos}
@@ -18,7 +18,7 @@ use Rattle.floats.specs.Numbers.{number, within}
 use Rattle.floats.proofs.Bounds.{Small, small-number, small-add, small-mul, within-small}
 use Rattle.geometry.specs.Limits.{Sound}
 use Rattle.geometry.specs.declared.bounding_box.BBox.{BBox}
-use Rattle.sort.specs.Sort.{Each, byKey, sorted}
+use Rattle.sort.specs.Sort.{Each, HasKey, byKey, sorted}
 use Rattle.sort.proofs.EachLaws.{each-at, each-of, sorted-cong}
 use Rattle.tree.specs.declared.Best.{Best}
 use Rattle.tree.specs.declared.Plan.{Plan}
@@ -46,22 +46,9 @@ middle-number axis b s = number-cond (ltb axis 2) (eqb axis 2) _ _ _
     (half-number (b .min .z) (b .max .z) (s .min .z) (s .max .z))
 
 -- ---- the loop that writes the keys
-zero-number : T (number zeroF)
-unfolding ofBits
-zero-number = tt
-
-zeros-number : (n k : ℕ) → T (number (getD (replicate n zeroF) k zeroF))
-zeros-number zero k = zero-number
-zeros-number (suc n) zero = zero-number
-zeros-number (suc n) (suc k) = zeros-number n k
-
 module _ (xs : List Float) (axis : ℕ) (ids : List ℕ) where
-  pub keyed-start : (keys : List Float) → keys ≡ replicate 1024 zeroF → Keyed (boxAt xs) axis ids keys 0
-  keyed-start keys e = record {
-    long = ap length e ∙ length-replicate 1024 zeroF;
-    clean = λ k. rw e (zeros-number 1024 k);
-    done = λ j l. absurd (not-suc-le-zero l);
-  }
+  pub keyed-start : (keys : List Float) → 1024 ≤ length keys → Keyed (boxAt xs) axis ids keys 0
+  keyed-start keys h = record { long = h; done = λ j l. absurd (not-suc-le-zero l) }
 
   pub keyed-turn : (keys : List Float) (i : ℕ) (v : Float) → Keyed (boxAt xs) axis ids keys i → Each (Fits xs) ids → i < length ids → v ≡ onAxis axis (middle (boxAt xs (getD ids i 0)))
       → Keyed (boxAt xs) axis ids (set keys (getD ids i 0) v) (i + 1)
@@ -70,15 +57,17 @@ module _ (xs : List Float) (axis : ℕ) (ids : List ℕ) where
       let F : Fits xs s = each-at (Fits xs) ids i E l in
       let sl : s < length keys = omega (arith, F .low, K .long) in
       record {
-        long = length-set keys s v ∙ K .long;
-        clean = λ k. cases (eqb k s)
-            (λ t. rw (eqb-true k s t, getD-set-same keys s v zeroF sl, e) (middle-number axis (boxAt xs s) (F .sound)))
-            (λ t. rw (getD-set-other keys s k v zeroF (eqb-false k s t)) (K .clean k));
+        long = rw (length-set keys s v) (K .long);
         done = λ j h. cases (eqb (getD ids j 0) s)
             (λ t. rw (eqb-true (getD ids j 0) s t, getD-set-same keys s v zeroF sl) e)
-            (λ t. rw (getD-set-other keys s (getD ids j 0) v zeroF (eqb-false (getD ids j 0) s t))
-            (K .done j (let q : j ≢ i = λ z. eqb-false (getD ids j 0) s t (ap (λ (n : ℕ). getD ids n 0) z) in omega (arith, q))));
+            (λ t. rw (getD-set-other keys s (getD ids j 0) v zeroF (eqb-false (getD ids j 0) s t)) (K .done j (let q : j ≢ i = λ z. eqb-false (getD ids j 0) s t (ap (λ (n : ℕ). getD ids n 0) z) in omega (arith, q))));
       }
+
+  -- each solid then has a key, and it is not a NaN
+  pub keyed-each : (keys : List Float) → Keyed (boxAt xs) axis ids keys (length ids) → Each (Fits xs) ids → Each (HasKey keys) ids
+  keyed-each keys K E = each-of (HasKey keys) ids (λ j l.
+      let F : Fits xs (getD ids j 0) = each-at (Fits xs) ids j E l in
+      (omega (arith, F .low, K .long), rw (K .done j l) (middle-number axis (boxAt xs (getD ids j 0)) (F .sound))))
 
 -- sorting by the keys is sorting by the middles
 pub keyed-sorted : (box : ℕ → BBox) (axis : ℕ) (ids : List ℕ) (keys : List Float) → Keyed box axis ids keys (length ids) → sorted (byKey keys) ids ≡ sorted (byMiddle box axis) ids

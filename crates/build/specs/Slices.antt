@@ -13,15 +13,13 @@ use Rattle.rows.specs.Rows.{padded}
 use Rattle.nodes.specs.Trees.{Tree, leaves, under, rootOf, belowOf, layout}
 use Rattle.nodes.specs.Nodes.{boxRows, markRows}
 use Rattle.nodes.specs.declared.Node.{Node}
-use Rattle.sort.specs.Sort.{NoNan}
 use Rattle.tree.specs.Build.{middle, onAxis, nodesFor, orderFor}
 use Rattle.build.specs.declared.Outcome.{Outcome}
 use Rattle.build.specs.declared.Outcome.the-variants.{Upto, Full}
 
 -- the keys by which solids are sorted, each at its solid's number: written for the first n
 pub record Keyed (box : ℕ → BBox) (axis : ℕ) (ids : List ℕ) (keys : List Float) (n : ℕ) : Type 0 where
-  pub long : length keys ≡ 1024
-  pub clean : NoNan keys
+  pub long : 1024 ≤ length keys
   pub done : (j : ℕ) → j < n → getD keys (getD ids j 0) zeroF ≡ onAxis axis (middle (box (getD ids j 0)))
 
 -- there are as many places for nodes, a node has one of them before the free ones, and no count here exceeds a u32

@@ -21,7 +21,7 @@ pub enum Outcome {
 
 // The key of each solid of the order: its middle on the axis.
 fn fill_keys(boxes: &[f64], order: &[u32], axis: u32, keys: &mut [f64])
-    requires { ⌜ Each (Fits (now boxes)) (now order) × (length (now order) ≤ 1024) × (now keys ≡ replicate 1024 zeroF) ⌝ }
+    requires { ⌜ Each (Fits (now boxes)) (now order) × (1024 ≤ length (now keys)) ⌝ }
     ensures { λ _. ⌜ Keyed (boxAt (now (boxes .entry))) axis (now (order .entry)) (now (keys .exit)) (length (now (order .entry))) ⌝ }
 {
     let mut i = 0;
@@ -33,27 +33,23 @@ fn fill_keys(boxes: &[f64], order: &[u32], axis: u32, keys: &mut [f64])
     }
 }
 
-// The solids sorted by their middles. The work arrays stand here and in `split_at`, and not in the
-// recursive function, so that its frames are small.
-fn arrange(boxes: &[f64], order: &mut [u32], axis: u32)
-    requires { ⌜ Each (Fits (now boxes)) (now order) × (length (now order) ≤ 1024) ⌝ }
+// The solids sorted by their middles.
+fn arrange(boxes: &[f64], order: &mut [u32], axis: u32, work: &mut [f64], spare: &mut [u32])
+    requires { ⌜ Each (Fits (now boxes)) (now order) × (length (now order) ≤ 1024) × (1024 ≤ length (now work)) × (1024 ≤ length (now spare)) ⌝ }
     ensures { λ _. ⌜ now (order .exit) ≡ sorted (byMiddle (boxAt (now (boxes .entry))) axis) (now (order .entry)) ⌝ }
 {
-    let mut keys = [0.0f64; 1024];
-    let mut work = [0u32; 1024];
-    fill_keys(boxes, order, axis, &mut keys);
-    sort::sort(&keys, order, &mut work);
+    fill_keys(boxes, order, axis, work);
+    sort::sort(work, order, spare);
 }
 
 // After how many solids they are split, 0 for a leaf.
-fn split_at(boxes: &[f64], order: &[u32], bx: BBox) -> usize
-    requires { ⌜ Each (Fits (now boxes)) (now order) × (1 < length (now order)) × (length (now order) ≤ 1024) ⌝ }
+fn split_at(boxes: &[f64], order: &[u32], bx: BBox, right: &mut [f64]) -> usize
+    requires { ⌜ Each (Fits (now boxes)) (now order) × (1 < length (now order)) × (length (now order) ≤ 1024) × (1024 ≤ length (now right)) ⌝ }
     ensures { λ r. ⌜ r ≡ splitBy (boxAt (now (boxes .entry))) bx (now (order .entry)) ⌝ }
 {
     let n = order.len();
-    let mut right = [0.0f64; 1024];
-    tree::right_areas(boxes, order, &mut right);
-    let best = tree::best_split(boxes, order, &right);
+    tree::right_areas(boxes, order, right);
+    let best = tree::best_split(boxes, order, right);
     if n > 8 {
         return best.at;
     }
@@ -65,8 +61,8 @@ fn split_at(boxes: &[f64], order: &[u32], bx: BBox) -> usize
 }
 
 // What becomes of the solids of a node, which are put in order.
-fn decide(boxes: &[f64], order: &mut [u32]) -> Plan
-    requires { ⌜ Each (Fits (now boxes)) (now order) × (0 < length (now order)) × (length (now order) ≤ 1024) ⌝ }
+fn decide(boxes: &[f64], order: &mut [u32], work: &mut [f64], spare: &mut [u32]) -> Plan
+    requires { ⌜ Each (Fits (now boxes)) (now order) × (0 < length (now order)) × (length (now order) ≤ 1024) × (1024 ≤ length (now work)) × (1024 ≤ length (now spare)) ⌝ }
     ensures { λ r. ⌜ (r ≡ planOf (boxAt (now (boxes .entry))) (now (order .entry))) × (now (order .exit) ≡ arranged (boxAt (now (boxes .entry))) (now (order .entry))) ⌝ }
 {
     let bx = tree::hull(boxes, order);
@@ -74,8 +70,8 @@ fn decide(boxes: &[f64], order: &mut [u32]) -> Plan
         return Plan { bx, axis: 0, at: 0 };
     }
     let axis = tree::longest_axis(tree::spread(boxes, order));
-    arrange(boxes, order, axis);
-    let at = split_at(boxes, order, bx);
+    arrange(boxes, order, axis, work, spare);
+    let at = split_at(boxes, order, bx, work);
     Plan { bx, axis, at }
 }
 
@@ -90,12 +86,14 @@ fn build(
     places: usize,
     hulls: &mut [f64],
     marks: &mut [u32],
+    work: &mut [f64],
+    spare: &mut [u32],
 ) -> Outcome
-    requires { ⌜ Each (Fits (now boxes)) (now order) × Room (now hulls) (now marks) places node free start (length (now order)) ⌝ }
+    requires { ⌜ Each (Fits (now boxes)) (now order) × Room (now hulls) (now marks) places node free start (length (now order)) × (1024 ≤ length (now work)) × (1024 ≤ length (now spare)) ⌝ }
     ensures { λ r. ⌜ BuiltAs r (nodeAt (now (hulls .entry)) (now (marks .entry))) (nodeAt (now (hulls .exit)) (now (marks .exit))) places node free start
         (now (order .exit)) (treeFor (boxAt (now (boxes .entry))) (now (order .entry))) ⌝ }
 {
-    let p = decide(boxes, order);
+    let p = decide(boxes, order, work, spare);
     let at = p.at;
     let bx = p.bx;
     let axis = p.axis;
@@ -129,6 +127,8 @@ fn build(
         places,
         hulls,
         marks,
+        work,
+        spare,
     );
     match l {
         Outcome::Full => Outcome::Full,
@@ -141,11 +141,14 @@ fn build(
             places,
             hulls,
             marks,
+            work,
+            spare,
         ),
     }
 }
 
 // The whole tree of the order, in slices that are zero. What lies beyond the places is not lent on.
+// The work arrays stand here: sort keys and then areas, and what the sort copies.
 fn lay_out(
     boxes: &[f64],
     order: &mut [u32],
@@ -159,6 +162,8 @@ fn lay_out(
     ensures { λ r. ⌜ LaidOut r (now (hulls .exit)) (now (marks .exit)) (now (order .exit)) places (length (now (hulls .entry))) (length (now (marks .entry)))
         (treeFor (boxAt (now (boxes .entry))) (now (order .entry))) ⌝ }
 {
+    let mut work = [0.0f64; 1024];
+    let mut spare = [0u32; 1024];
     let a = places * 6;
     let b = places * 3;
     build(
@@ -170,6 +175,8 @@ fn lay_out(
         places,
         &mut hulls[..a],
         &mut marks[..b],
+        &mut work,
+        &mut spare,
     )
 }
 

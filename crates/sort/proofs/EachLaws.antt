@@ -6,7 +6,7 @@ use Prim.Native.Nat.{ℕ, zero, suc, _<_}
 use native.Mathlib.Nat.{not-suc-le-zero, le-of-suc-le-suc}
 use native.Mathlib.Omega.{arith}
 use lib.ListN.{length, take, drop, getD}
-use Rattle.sort.specs.Sort.{inserted, sorted, Each}
+use Rattle.sort.specs.Sort.{inserted, sorted, merged, Each}
 
 module _ (P : ℕ → Type 0) where
   pub each-at : (l : List ℕ) (i : ℕ) → Each P l → i < length l → P (getD l i 0)
@@ -67,6 +67,16 @@ module _ (P : ℕ → Type 0) where
     unfolding Each sorted
     sorted-cong [] b = refl
     sorted-cong (x ∷ xs) b = ap (inserted less x) (sorted-cong xs (b .1)) ∙ inserted-cong x (sorted less′ xs) (b .0) (each-sorted less′ xs (b .1))
+
+    -- and merge alike
+    pub merged-cong : (ps qs : List ℕ) → Each P ps → Each P qs → merged less ps qs ≡ merged less′ ps qs
+    unfolding Each
+    merged-cong [] qs b d = refl
+    merged-cong (p ∷ ps) qs b d = go qs d (λ rs e. merged-cong ps rs (b .1) e)
+      where
+        go : (rs : List ℕ) → Each P rs → ((ts : List ℕ) → Each P ts → merged less ps ts ≡ merged less′ ps ts) → merged less (p ∷ ps) rs ≡ merged less′ (p ∷ ps) rs
+        go [] e k = refl
+        go (r ∷ rs) e k = rw (agree r p (e .0) (b .0), go rs (e .1) k, k (r ∷ rs) e)
 
 -- ---- sorting keeps the length
 length-cond : (t : Bool) (l r : List ℕ) (k : ℕ) → length l ≡ k → length r ≡ k → length (cond t l r) ≡ k

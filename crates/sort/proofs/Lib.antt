@@ -1,3 +1,4 @@
 pub mod MergeLaws
 pub mod EachLaws
 pub mod SortLaws
+pub mod InsertLaws

@@ -14,11 +14,13 @@ use lib.Ieee.Bits.{is-true}
 use borrow.Author.Tests.{ltb-true, ltb-false}
 use borrow.Rule.Slice.PartMut.{putMid}
 use borrow.Table.Steps.{cases}
+use Rattle.floats.specs.Arith.{zeroF}
 use Rattle.floats.specs.Numbers.{number}
 use Rattle.floats.proofs.Order.{le-trans, not-gt→le, le→not-gt, lt-trans}
-use Rattle.sort.specs.Sort.{inserted, sorted, merged, byKey, NoNan, Each}
+use Rattle.floats.proofs.Extremes.{orBot, orBot-number, orBot-id}
+use Rattle.sort.specs.Sort.{sorted, merged, byKey, HasKey, Each}
 use Rattle.sort.proofs.MergeLaws.{merged-nil, merged-sorted}
-use Rattle.sort.proofs.EachLaws.{length-sorted, each-append, each-sorted, each-take, each-drop}
+use Rattle.sort.proofs.EachLaws.{length-sorted, sorted-cong, merged-cong, each-append, each-sorted, each-take, each-drop}
 
 module _ {ℓ} {A : Type ℓ} where
   -- within a list the default is not read
@@ -136,12 +138,6 @@ module _ (less : ℕ → ℕ → Bool) (o₀ : List ℕ) (m : ℕ) (work : List 
       sym (take-append-drop j o) ∙ rw (h .rest) d
 
 -- ---- the sort by its halves
-pub sort-short : (less : ℕ → ℕ → Bool) (l : List ℕ) → length l < 2 → sorted less l ≡ l
-unfolding sorted inserted
-sort-short less [] h = refl
-sort-short less (x ∷ []) h = refl
-sort-short less (x ∷ y ∷ l) h = absurd (not-suc-le-zero (le-of-suc-le-suc (le-of-suc-le-suc h)))
-
 -- keys that are numbers are in a total order
 is-false : (b : Bool) → T (not b) → b ≡ false
 is-false true h = absurd h
@@ -156,17 +152,28 @@ trans x y z p q = is-true (lt x z) (lt-trans x y z (subst T (sym p) tt) (subst T
 cotrans : (x y z : Float) → T (number x) → T (number y) → T (number z) → lt x y ≡ false → lt y z ≡ false → lt x z ≡ false
 cotrans x y z a b c p q = is-false (lt x z) (le→not-gt z x (le-trans z y x (not-gt→le z y c b (not-true (lt y z) q)) (not-gt→le y x b a (not-true (lt x y) p))))
 
-byKey-trans : (keys : List Float) (a b c : ℕ) → byKey keys a b ≡ true → byKey keys b c ≡ true → byKey keys a c ≡ true
-unfolding byKey
-byKey-trans keys a b c = trans _ _ _
+-- a NaN placed below all numbers: the same order on keys that are no NaN
+abbrev placed : List Float → ℕ → ℕ → Bool
+placed keys a b = lt (orBot (getD keys a zeroF)) (orBot (getD keys b zeroF))
 
-byKey-cotrans : (keys : List Float) → NoNan keys → (a b c : ℕ) → byKey keys a b ≡ false → byKey keys b c ≡ false → byKey keys a c ≡ false
-unfolding byKey
-byKey-cotrans keys h a b c = cotrans _ _ _ (h a) (h b) (h c)
+placed-cotrans : (keys : List Float) (a b c : ℕ) → placed keys a b ≡ false → placed keys b c ≡ false → placed keys a c ≡ false
+placed-cotrans keys a b c = cotrans _ _ _ (orBot-number (getD keys a zeroF)) (orBot-number (getD keys b zeroF)) (orBot-number (getD keys c zeroF))
 
-pub sort-halves : (keys : List Float) → NoNan keys → (m : ℕ) (l : List ℕ) → merged (byKey keys) (sorted (byKey keys) (take m l)) (sorted (byKey keys) (drop m l)) ≡ sorted (byKey keys) l
-sort-halves keys h m l =
-    merged-sorted (byKey keys) (byKey-trans keys) (byKey-cotrans keys h) (take m l) (drop m l) ∙ ap (sorted (byKey keys)) (take-append-drop m l)
+agree : (keys : List Float) (a b : ℕ) → HasKey keys a → HasKey keys b → byKey keys a b ≡ placed keys a b
+unfolding byKey
+agree keys a b p q = sym (ap₂ lt (orBot-id (getD keys a zeroF) (p .1)) (orBot-id (getD keys b zeroF) (q .1)))
+
+pub sort-halves : (keys : List Float) (m : ℕ) (l : List ℕ) → Each (HasKey keys) l → merged (byKey keys) (sorted (byKey keys) (take m l)) (sorted (byKey keys) (drop m l)) ≡ sorted (byKey keys) l
+sort-halves keys m l h =
+    let P : ℕ → Type 0 = HasKey keys in
+    let less = placed keys in
+    let t : Each P (take m l) = each-take P m l h in
+    let d : Each P (drop m l) = each-drop P m l h in
+    ap₂ (merged (byKey keys)) (sorted-cong P (byKey keys) less (agree keys) (take m l) t) (sorted-cong P (byKey keys) less (agree keys) (drop m l) d)
+    ∙ merged-cong P (byKey keys) less (agree keys) (sorted less (take m l)) (sorted less (drop m l)) (each-sorted P less (take m l) t) (each-sorted P less (drop m l) d)
+    ∙ merged-sorted less (λ a b c. trans _ _ _) (placed-cotrans keys) (take m l) (drop m l)
+    ∙ ap (sorted less) (take-append-drop m l)
+    ∙ sym (sorted-cong P (byKey keys) less (agree keys) l h)
 
 -- ---- two halves of a slice, lent one after the other
 module _ (o s₁ s₂ : List ℕ) (m : ℕ) (h : m ≤ length o) (k : length s₁ ≡ length (take m o)) where

@@ -1,8 +1,8 @@
 -- The stable sort: insertion sort, each element put before the first one that is not less than it; and the merge of two lists.
 use mathlib.Core.Bool.{Bool, cond}
 use mathlib.Core.List.{List, [], _∷_}
-use Prim.Native.Nat.{ℕ}
-use lib.ListN.{getD}
+use Prim.Native.Nat.{ℕ, _<_}
+use lib.ListN.{length, getD}
 use lib.Dec.{T}
 use lib.Ieee.{Float, lt}
 use Rattle.floats.specs.Arith.{zeroF}
@@ -30,9 +30,9 @@ merged less (p ∷ ps) qs = mergedIn less p ps (merged less ps) qs
 unfoldable pub byKey : List Float → ℕ → ℕ → Bool
 byKey keys a b = lt (getD keys a zeroF) (getD keys b zeroF)
 
--- no key is a NaN
-abbrev pub NoNan : List Float → Type 0
-NoNan keys = (i : ℕ) → T (number (getD keys i zeroF))
+-- number i has a key, and it is not a NaN
+abbrev pub HasKey : List Float → ℕ → Type 0
+HasKey keys i = (i < length keys) × T (number (getD keys i zeroF))
 
 -- each number of the list has the property
 unfoldable pub Each : (ℕ → Type 0) → List ℕ → Type 0

@@ -2,23 +2,22 @@ use Rattle.build.proofs.Keys.{keyed-start, keyed-turn}
 use Rattle.build.specs.Slices.{Keyed}
 use Rattle.sort.proofs.EachLaws.{each-at}
 use Rattle.tree.specs.Build.{boxAt}
-use Rattle.floats.specs.Arith.{zeroF}
-use lib.ListN.{length, length-replicate}
+use lib.ListN.{length, length-set}
 use Prim.Native.Nat.{_-_, _≤_}
-use mathlib.Core.Path.{_≡_, sym, ap, _∙_}
+use mathlib.Core.Path.{_≡_, refl, _∙_}
 use native.Mathlib.Omega.{arith}
 use borrow.Author.Needs.{needs}
 use Rattle.build.proofs.fill_keys.Statement.{statement}
 use Rattle.build.proofs.fill_keys.Tie as tie
 
 abbrev Inv-loop : tie.InvT-loop
-Inv-loop boxes order axis keys₀ i₀ keys i = Keyed (boxAt boxes) axis order keys i × (i ≤ length order)
+Inv-loop boxes order axis keys₀ i₀ keys i = Keyed (boxAt boxes) axis order keys i × (i ≤ length order) × (length keys ≡ length keys₀)
 
 abbrev μ-loop : tie.MeasureT-loop
 μ-loop boxes order axis keys₀ i₀ keys i = length order - i
 
 loop-holds : tie.Need-loop-holds Inv-loop μ-loop
-loop-holds c = (keyed-start _ _ _ _ (c .before .before .before .pre .2), omega arith)
+loop-holds c = (keyed-start _ _ _ _ (c .before .before .before .pre .1), omega arith, refl)
 
 mul-s : tie.Need-mul-s Inv-loop μ-loop
 mul-s c = search needs
@@ -51,10 +50,10 @@ loop-less : tie.Need-loop-less Inv-loop μ-loop
 loop-less c = search needs
 
 loop-again : tie.Need-loop-again Inv-loop μ-loop
-loop-again c = (keyed-turn _ _ _ _ _ _ (c .before .before .before .before .before .loop .inv .0) (c .before .before .before .before .before .before .before .before .before .pre .0) (c .before .before .before .before .loop-test .taken) (c .on-axis .ensures ∙ rw (c .before .centroid .ensures, c .before .before .read-box .ensures)), omega (arith, c .before .before .before .before .loop-test .taken))
+loop-again c = (keyed-turn _ _ _ _ _ _ (c .before .before .before .before .before .loop .inv .0) (c .before .before .before .before .before .before .before .before .before .pre .0) (c .before .before .before .before .loop-test .taken) (c .on-axis .ensures ∙ rw (c .before .centroid .ensures, c .before .before .read-box .ensures)), omega (arith, c .before .before .before .before .loop-test .taken), simp length-set (c .before .before .before .before .before .loop .inv .2))
 
 same-length : tie.Need-same-length Inv-loop μ-loop
-same-length c = c .before .loop .inv .0 .long ∙ sym (ap length (c .before .before .before .before .before .pre .2) ∙ length-replicate 1024 zeroF)
+same-length c = c .before .loop .inv .2
 
 returns : tie.Need-returns Inv-loop μ-loop
 returns c = let e : c .before .loop .i ≡ length (c .before .before .before .before .before .args .order .now) = omega (arith, c .before .loop .inv .1, c .loop-test .left) in rw (← e) (c .before .loop .inv .0)

@@ -1,18 +1,19 @@
-use mathlib.Core.Path.{_≡_, subst⁻¹, _∙_, sym}
-use mathlib.Core.List.{List, [], _++_}
 use Prim.Native.Nat.{_/_, _≤_, _-_, ℕ, _<_}
-use native.Mathlib.Omega.{arith}
-use lib.ListN.{take, drop, length-drop, length}
-use lib.Seq.{length-take-le}
-use Rattle.sort.specs.Sort.{Each, byKey, sorted}
-use Rattle.sort.proofs.SortLaws.{second-half, sort-halves, halves-length, halves-each, halves-merge, sort-short}
 use Rattle.sort.proofs.EachLaws.{each-take, each-drop}
+use Rattle.sort.proofs.SortLaws.{second-half, sort-halves, halves-length, halves-each, halves-merge}
+use Rattle.sort.specs.Sort.{Each, HasKey, byKey, sorted}
+use lib.Seq.{length-take-le}
+use lib.ListN.{take, drop, length-drop, length}
+use native.Mathlib.Omega.{arith}
+use mathlib.Core.List.{List, [], _++_}
+use mathlib.Core.Path.{_≡_, subst⁻¹, _∙_, sym}
 use borrow.Author.Needs.{needs}
 use borrow.Fn.Kinds.{In}
 use borrow.Fn.PlainCycle.{Measures, is, falls, and}
 use Rattle.sort.proofs.sort.Reads as sort
 use Rattle.sort.proofs.sort.Kinds as sort-kinds
 use Rattle.sort.proofs.+sort.Lts-sort as sort-lts
+use Rattle.sort.proofs.insertion_sort.Reads as insertion-sort-reads
 use Rattle.sort.proofs.merge.Reads as merge-reads
 use Rattle.sort.proofs.+sort.{statement}
 use Rattle.sort.proofs.+sort.Tie.{close}
@@ -27,28 +28,34 @@ abbrev sort-below : ℕ → In 3 sort-kinds.ps
 sort-below t = and 3 sort-kinds.ps (falls 3 sort-kinds.ps _<_ μ-sort t) sort.Pre
 
 abbrev sort-claims : ℕ → sort-lts.Claims
-sort-claims t = (sort-below t, sort.Post, merge-reads.Asked, merge-reads.Learnt)
+sort-claims t = (insertion-sort-reads.Asked, insertion-sort-reads.Learnt, sort-below t, sort.Post, merge-reads.Asked, merge-reads.Learnt)
+
+sort-insertion-sort-requires : (t : ℕ) → sort-lts.Need-insertion-sort-requires (sort-claims t) (sort-at t) sort.Post
+sort-insertion-sort-requires t c κs = c .before .before .before .before .before .pre .1 .1
+
+sort-same-length : (t : ℕ) → sort-lts.Need-same-length (sort-claims t) (sort-at t) sort.Post
+sort-same-length t c = c .before .before .insertion-sort .kept .1 .0
 
 sort-returns : (t : ℕ) → sort-lts.Need-returns (sort-claims t) (sort-at t) sort.Post
-sort-returns t c = sym (sort-short _ _ (c .if1 .taken))
+sort-returns t c = c .before .before .insertion-sort .ensures
 
 sort-slice-relend-prefix-sort : (t : ℕ) → sort-lts.Need-slice-relend-prefix-sort (sort-claims t) (sort-at t) sort.Post
 sort-slice-relend-prefix-sort t c = search needs
 
 sort-slice-aggregate-sort : (t : ℕ) → sort-lts.Need-slice-aggregate-sort (sort-claims t) (sort-at t) sort.Post
-sort-slice-aggregate-sort t c =
-    let s = c .before .before .before .before .before in
-    sym (length-take-le (length (s .args .order .now) / 2) (s .args .order .now) (omega arith))
+sort-slice-aggregate-sort t c = let a = c .before .before .before .before .before .args in
+    let o = a .order .now in
+    let m : ℕ = length o / 2 in
+    let h : m ≤ length o = omega arith in
+    sym (length-take-le m o h)
 
 sort-sort-requires : (t : ℕ) → sort-lts.Need-sort-requires (sort-claims t) (sort-at t) sort.Post
-sort-sort-requires t c κs =
-    let s = c .before .before .before .before .before .before in
-    let o = s .args .order .now in
+sort-sort-requires t c κs = let a = c .before .before .before .before .before .before .args in
+    let o = a .order .now in
     let m : ℕ = length o / 2 in
-    let n = length (s .args .keys .now) in
     let h : m ≤ length o = omega arith in
     let e : length (take m o) ≡ m = length-take-le m o h in
-    (omega (arith, e, s .pre .0), (omega (arith, e), each-take (λ (i : ℕ). i < n) m o (s .pre .1 .1), s .pre .1 .2))
+    (omega (arith, e, c .before .before .before .before .before .before .pre .0, c .before .before .if1 .left), (omega (arith, e, c .before .before .before .before .before .before .pre .1 .0), each-take (HasKey (a .keys .now)) m o (c .before .before .before .before .before .before .pre .1 .1)))
 
 sort-mul-sort : (t : ℕ) → sort-lts.Need-mul-sort (sort-claims t) (sort-at t) sort.Post
 sort-mul-sort t c = search needs
@@ -63,84 +70,69 @@ sort-part-sort-end : (t : ℕ) → sort-lts.Need-part-sort-end (sort-claims t) (
 sort-part-sort-end t c = search needs
 
 sort-sort-requires-2 : (t : ℕ) → sort-lts.Need-sort-requires-2 (sort-claims t) (sort-at t) sort.Post
-sort-sort-requires-2 t c κs =
-    let s = c .before .before .before .before .before .before .before .before .before .before .before .before .before in
-    let o = s .args .order .now in
+sort-sort-requires-2 t c κs = let a = c .before .before .before .before .before .before .before .before .before .before .before .before .before .args in
+    let o = a .order .now in
     let m : ℕ = length o / 2 in
-    let n = length (s .args .keys .now) in
     let h : m ≤ length o = omega arith in
-    let s₁ = c .before .before .before .before .before .before .sort .last .1 .0 in
-    let k : length s₁ ≡ length (take m o) = c .before .before .before .before .before .before .sort .kept .1 .0 in
-    let e = second-half o s₁ [] m h k in
-    let d : length (drop m o) ≡ length o - m = length-drop m o in
-    let w : length (c .before .before .before .before .before .before .sort .last .1 .1 .0) ≡ length (s .args .work .now) = c .before .before .before .before .before .before .sort .kept .1 .1 .0 in (
-      subst⁻¹ (λ (l : List ℕ). length l < t) e (omega (arith, d, s .pre .0, c .before .before .before .before .before .before .before .before .before .if1 .left)),
+    let s = c .before .before .before .before .before .before .sort in
+    let k : length (s .last .1 .0) ≡ length (take m o) = s .kept .1 .0 in
+    let e = second-half o (s .last .1 .0) [] m h k in
+    let d : length (drop m o) ≡ length o - m = length-drop m o in (
+      subst⁻¹ (λ (l : List ℕ). length l < t) e (omega (arith, d, c .before .before .before .before .before .before .before .before .before .before .before .before .before .pre .0, c .before .before .before .before .before .before .before .before .before .if1 .left)),
       (
-        subst⁻¹ (λ (l : List ℕ). length l ≤ length (c .before .before .before .before .before .before .sort .last .1 .1 .0)) e (omega (arith, d, w, s .pre .1 .0)),
-        subst⁻¹ (λ (l : List ℕ). Each (λ (i : ℕ). i < n) l) e (each-drop (λ (i : ℕ). i < n) m o (s .pre .1 .1)),
-        s .pre .1 .2,
+        subst⁻¹ (λ (l : List ℕ). length l ≤ length (s .last .1 .1 .0)) e (omega (arith, d, s .kept .1 .1 .0, c .before .before .before .before .before .before .before .before .before .before .before .before .before .pre .1 .0)),
+        subst⁻¹ (λ (l : List ℕ). Each (HasKey (a .keys .now)) l) e (each-drop (HasKey (a .keys .now)) m o (c .before .before .before .before .before .before .before .before .before .before .before .before .before .pre .1 .1)),
       ),
     )
 
 sort-merge-requires : (t : ℕ) → sort-lts.Need-merge-requires (sort-claims t) (sort-at t) sort.Post
-sort-merge-requires t c κs =
-    let s = c .before .before .before .before .before .before .before .before .before .before .before .before .before .before .before .before .before .before .before .before in
-    let o = s .args .order .now in
-    let m : ℕ = length o / 2 in
-    let n = length (s .args .keys .now) in
-    let h : m ≤ length o = omega arith in
-    let less = byKey (s .args .keys .now) in
-    let call = c .before .before .before .before .before .before .before .before .before .before .before .before .before .sort in
-    let call2 = c .before .before .before .before .before .before .sort2 in
-    let s₁ = call .last .1 .0 in
-    let s₂ = call2 .last .1 .0 in
-    let k : length s₁ ≡ length (take m o) = call .kept .1 .0 in
-    let e₁ : s₁ ≡ sorted less (take m o) = call .ensures in
-    let e₂ : s₂ ≡ sorted less (take (length (s₁ ++ drop m o) - m) (drop m (s₁ ++ drop m o))) = call2 .ensures in
-    let w : length (call .last .1 .1 .0) ≡ length (s .args .work .now) = call .kept .1 .1 .0 in
-    let w₂ : length (call2 .last .1 .1 .0) ≡ length (call .last .1 .1 .0) = call2 .kept .1 .1 .0 in
-    (omega (arith, halves-length less o s₁ s₂ m h k e₁ e₂), omega (arith, w, w₂, s .pre .1 .0), halves-each less o s₁ s₂ m h k e₁ e₂ (λ (i : ℕ). i < n) (s .pre .1 .1))
-
-sort-same-length : (t : ℕ) → sort-lts.Need-same-length (sort-claims t) (sort-at t) sort.Post
-sort-same-length t c =
-    let s = c .before .before .before .before .before .before .before .before .before .before .before .before .before .before .before .before .before .before .before .before .before .before .before .before .before in
-    let o = s .args .order .now in
+sort-merge-requires t c κs = let a = c .before .before .before .before .before .before .before .before .before .before .before .before .before .before .before .before .before .before .before .before .args in
+    let o = a .order .now in
     let m : ℕ = length o / 2 in
     let h : m ≤ length o = omega arith in
-    let less = byKey (s .args .keys .now) in
-    let call = c .before .before .before .before .before .before .before .before .before .before .before .before .before .before .before .before .before .before .sort in
-    let call2 = c .before .before .before .before .before .before .before .before .before .before .before .sort2 in
-    let s₁ = call .last .1 .0 in
-    let s₂ = call2 .last .1 .0 in
-    let k : length s₁ ≡ length (take m o) = call .kept .1 .0 in
-    let e₁ : s₁ ≡ sorted less (take m o) = call .ensures in
-    let e₂ : s₂ ≡ sorted less (take (length (s₁ ++ drop m o) - m) (drop m (s₁ ++ drop m o))) = call2 .ensures in
-    c .before .before .before .before .merge .kept .1 .0 ∙ halves-length less o s₁ s₂ m h k e₁ e₂
+    let s = c .before .before .before .before .before .before .before .before .before .before .before .before .before .sort in
+    let k : length (s .last .1 .0) ≡ length (take m o) = s .kept .1 .0 in
+    let s₂ = c .before .before .before .before .before .before .sort2 in
+    let less = byKey (a .keys .now) in
+    let e₁ : s .last .1 .0 ≡ sorted less (take m o) = s .ensures in
+    let e₂ : s₂ .last .1 .0 ≡ sorted less (take (length (s .last .1 .0 ++ drop m o) - m) (drop m (s .last .1 .0 ++ drop m o))) = s₂ .ensures in
+    (omega (arith, halves-length less o (s .last .1 .0) (s₂ .last .1 .0) m h k e₁ e₂), omega (arith, s .kept .1 .1 .0, s₂ .kept .1 .1 .0, c .before .before .before .before .before .before .before .before .before .before .before .before .before .before .before .before .before .before .before .before .pre .1 .0), halves-each less o (s .last .1 .0) (s₂ .last .1 .0) m h k e₁ e₂ (HasKey (a .keys .now)) (c .before .before .before .before .before .before .before .before .before .before .before .before .before .before .before .before .before .before .before .before .pre .1 .1))
 
 sort-same-length-2 : (t : ℕ) → sort-lts.Need-same-length-2 (sort-claims t) (sort-at t) sort.Post
-sort-same-length-2 t c = c .before .before .before .before .merge .kept .1 .1 .1 .0 ∙ c .before .before .before .before .before .before .before .before .before .before .before .sort2 .kept .1 .1 .0 ∙ c .before .before .before .before .before .before .before .before .before .before .before .before .before .before .before .before .before .before .sort .kept .1 .1 .0
+sort-same-length-2 t c = let a = c .before .before .before .before .before .before .before .before .before .before .before .before .before .before .before .before .before .before .before .before .before .before .before .before .before .args in
+    let o = a .order .now in
+    let m : ℕ = length o / 2 in
+    let h : m ≤ length o = omega arith in
+    let s = c .before .before .before .before .before .before .before .before .before .before .before .before .before .before .before .before .before .before .sort in
+    let k : length (s .last .1 .0) ≡ length (take m o) = s .kept .1 .0 in
+    let s₂ = c .before .before .before .before .before .before .before .before .before .before .before .sort2 in
+    let less = byKey (a .keys .now) in
+    let e₁ : s .last .1 .0 ≡ sorted less (take m o) = s .ensures in
+    let e₂ : s₂ .last .1 .0 ≡ sorted less (take (length (s .last .1 .0 ++ drop m o) - m) (drop m (s .last .1 .0 ++ drop m o))) = s₂ .ensures in
+    c .before .before .before .before .merge .kept .1 .0 ∙ halves-length less o (s .last .1 .0) (s₂ .last .1 .0) m h k e₁ e₂
+
+sort-same-length-3 : (t : ℕ) → sort-lts.Need-same-length-3 (sort-claims t) (sort-at t) sort.Post
+sort-same-length-3 t c = c .before .before .before .before .merge .kept .1 .1 .1 .0 ∙ c .before .before .before .before .before .before .before .before .before .before .before .sort2 .kept .1 .1 .0 ∙ c .before .before .before .before .before .before .before .before .before .before .before .before .before .before .before .before .before .before .sort .kept .1 .1 .0
 
 sort-returns-2 : (t : ℕ) → sort-lts.Need-returns-2 (sort-claims t) (sort-at t) sort.Post
-sort-returns-2 t c =
-    let s = c .before .before .before .before .before .before .before .before .before .before .before .before .before .before .before .before .before .before .before .before .before .before .before .before .before in
-    let o = s .args .order .now in
+sort-returns-2 t c = let a = c .before .before .before .before .before .before .before .before .before .before .before .before .before .before .before .before .before .before .before .before .before .before .before .before .before .args in
+    let o = a .order .now in
     let m : ℕ = length o / 2 in
-    let n = length (s .args .keys .now) in
     let h : m ≤ length o = omega arith in
-    let less = byKey (s .args .keys .now) in
-    let call = c .before .before .before .before .before .before .before .before .before .before .before .before .before .before .before .before .before .before .sort in
-    let call2 = c .before .before .before .before .before .before .before .before .before .before .before .sort2 in
-    let s₁ = call .last .1 .0 in
-    let s₂ = call2 .last .1 .0 in
-    let k : length s₁ ≡ length (take m o) = call .kept .1 .0 in
-    let e₁ : s₁ ≡ sorted less (take m o) = call .ensures in
-    let e₂ : s₂ ≡ sorted less (take (length (s₁ ++ drop m o) - m) (drop m (s₁ ++ drop m o))) = call2 .ensures in
-    halves-merge less o s₁ s₂ m h k e₁ e₂ _ (c .before .before .before .before .merge .ensures) ∙ sort-halves (s .args .keys .now) (s .pre .1 .2) m o
+    let s = c .before .before .before .before .before .before .before .before .before .before .before .before .before .before .before .before .before .before .sort in
+    let k : length (s .last .1 .0) ≡ length (take m o) = s .kept .1 .0 in
+    let s₂ = c .before .before .before .before .before .before .before .before .before .before .before .sort2 in
+    let less = byKey (a .keys .now) in
+    let e₁ : s .last .1 .0 ≡ sorted less (take m o) = s .ensures in
+    let e₂ : s₂ .last .1 .0 ≡ sorted less (take (length (s .last .1 .0 ++ drop m o) - m) (drop m (s .last .1 .0 ++ drop m o))) = s₂ .ensures in
+    halves-merge less o (s .last .1 .0) (s₂ .last .1 .0) m h k e₁ e₂ _ (c .before .before .before .before .merge .ensures) ∙ sort-halves (a .keys .now) m o (c .before .before .before .before .before .before .before .before .before .before .before .before .before .before .before .before .before .before .before .before .before .before .before .before .before .pre .1 .1)
 
 pub +sort-spec : {M : Type 1} → statement M
 +sort-spec = close μ-sort λ t. sort-lts.spec (sort-claims t)
     (sort-at t)
     sort.Post
+    (sort-insertion-sort-requires t)
+    (sort-same-length t)
     (sort-returns t)
     (sort-slice-relend-prefix-sort t)
     (sort-slice-aggregate-sort t)
@@ -151,6 +143,6 @@ pub +sort-spec : {M : Type 1} → statement M
     (sort-part-sort-end t)
     (sort-sort-requires-2 t)
     (sort-merge-requires t)
-    (sort-same-length t)
     (sort-same-length-2 t)
+    (sort-same-length-3 t)
     (sort-returns-2 t)

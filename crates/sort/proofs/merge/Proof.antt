@@ -2,8 +2,7 @@ use native.Mathlib.Nat.{not-le-of-lt}
 use mathlib.Core.Path.{sym, _∙_}
 use mathlib.Core.Logic.{⊎-elim}
 use native.Mathlib.Omega.{arith}
-use lib.ListN.{length}
-use Prim.Native.Nat.{ℕ, _+_, _-_, _<_}
+use Prim.Native.Nat.{_+_, _-_}
 use Rattle.sort.specs.Sort.{byKey}
 use Rattle.sort.proofs.SortLaws.{Merging, merging-p, merging-q, merging-right, merging-left, merging-end}
 use Rattle.sort.proofs.EachLaws.{each-at}
@@ -38,11 +37,10 @@ slice-read-q c = search needs
 precedes-requires : tie.Need-precedes-requires Inv-loop μ-loop
 precedes-requires c κs =
     let l = c .before .before .before .before .loop in
-    let keys = length (c .before .before .before .before .before .before .before .before .before .before .before .before .before .args .keys .now) in
     let o₀ = c .before .before .before .before .before .before .before .before .before .before .before .before .before .args .order .now in
     let b = c .before .before .before .before .before .before .before .before .before .before .before .before .before .pre .2 in (
-      rw (merging-q _ _ _ _ _ _ _ _ _ (l .inv)) (each-at (λ (i : ℕ). i < keys) o₀ (l .j) b (omega arith)),
-      rw (merging-p _ _ _ _ _ _ _ _ _ (l .inv) (c .before .before .before .loop-test .taken)) (each-at (λ (i : ℕ). i < keys) o₀ (l .i) b (omega arith)),
+      rw (merging-q _ _ _ _ _ _ _ _ _ (l .inv)) (each-at _ o₀ (l .j) b (omega arith) .0),
+      rw (merging-p _ _ _ _ _ _ _ _ _ (l .inv) (c .before .before .before .loop-test .taken)) (each-at _ o₀ (l .i) b (omega arith) .0),
     )
 
 mul-order : tie.Need-mul-order Inv-loop μ-loop
