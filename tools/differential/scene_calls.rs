@@ -51,8 +51,7 @@ pub fn check(calls: &SceneCalls, scene: &Scene) -> Words {
     let mut words = vec![u64::from(number), found.count as u64];
     put_floats(&mut words, &found.inverses, 16 * entries);
     put_floats(&mut words, &found.boxes, 6 * entries);
-    let drawn: Vec<u64> = found.drawn.iter().map(|i| u64::from(*i)).collect();
-    put(&mut words, &drawn);
+    put(&mut words, MOST, |k| u64::from(found.drawn[k]));
     Words(words)
 }
 
@@ -84,16 +83,14 @@ pub fn unfilled() -> Box<Found> {
 }
 
 fn put_floats(words: &mut Vec<u64>, slice: &[f64], results: usize) {
-    let (results, rest) = slice.split_at(results.min(slice.len()));
-    let results = results.iter().map(|x| alike(*x));
-    let all: Vec<u64> = results.chain(rest.iter().map(|x| x.to_bits())).collect();
-    put(words, &all);
+    let word = |k: usize| if k < results { alike(slice[k]) } else { slice[k].to_bits() };
+    put(words, slice.len(), word);
 }
 
-fn put(words: &mut Vec<u64>, slice: &[u64]) {
-    let used = slice.iter().rposition(|word| *word != 0).map_or(0, |last| last + 1);
+fn put(words: &mut Vec<u64>, len: usize, word: impl Fn(usize) -> u64) {
+    let used = (0..len).rev().find(|k| word(*k) != 0).map_or(0, |last| last + 1);
     words.push(used as u64);
-    words.extend(&slice[..used]);
+    words.extend((0..used).map(word));
 }
 
 /// The oracle: larnt's own shapes, and document 01's refusals on top.

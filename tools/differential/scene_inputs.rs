@@ -217,7 +217,7 @@ impl Yard<'_> {
         for _ in 0..solids {
             self.any_solid();
         }
-        if self.rng.below(300) == 0 {
+        if self.rng.chance(1) {
             let full = 1023 + self.rng.below(4);
             while self.scene.entries() < full {
                 self.leaf([0.0; 3]);

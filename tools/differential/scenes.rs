@@ -6,6 +6,7 @@ use crate::scene_calls::{self, Found, RUST, SceneCalls, Words};
 use crate::scene_inputs::{self, Case};
 use oracle::check::parts;
 use oracle::generate::Rng;
+use std::cell::RefCell;
 use std::hint::black_box;
 
 type Sharing<'a> = [Share<'a, Case, Words>];
@@ -108,10 +109,10 @@ fn timed(
 ) {
     let mut rng = Rng::new(1);
     let all: Vec<Case> = (0..count).map(|_| make(&mut rng)).collect();
+    let found = RefCell::new(scene_calls::unfilled());
     let pass = |calls: &SceneCalls| {
-        let mut found = scene_calls::unfilled();
         for case in &all {
-            call(calls, case, &mut found);
+            call(calls, case, &mut found.borrow_mut());
         }
     };
     time(name, count, || pass(black_box(&RUST)), || pass(black_box(&CORE_SCENES)));

@@ -105,7 +105,14 @@ pub fn check(
     ensures { λ r. ⌜ now (drawn .exit) ≡ padded 0 (length (now (drawn .entry))) (ifAccepted r (drawnOf (now (marks .entry)))) ⌝ }
 {
     let v = judge(
-        numbers, marks, points, starts, owners, inverses, boxes, drawn,
+        numbers,
+        marks,
+        points,
+        starts,
+        owners,
+        inverses,
+        boxes,
+        drawn,
     );
     match v {
         Verdict::Refused(k) => {
