@@ -2,7 +2,7 @@
 use Prim.Native.Nat.{ℕ, _≤_}
 use mathlib.Core.Path.{_≡_}
 use mathlib.Core.List.{List}
-use lib.ListN.{take}
+use lib.ListN.{length, take}
 use lib.Ieee.{Float}
 use Rattle.rows.specs.Rows.{view}
 use Rattle.rows.specs.Points.{boxOfRow}
@@ -17,4 +17,5 @@ pub record Held (s : Scene) (n : ℕ) (inverses boxes : List Float) (listed : Li
   pub inverted : view 16 numbersOf (entriesOf s) inverses ≡ listTo (inverseAt (s .numbers) (s .marks)) (entriesOf s)
   pub boxed : view 6 boxOfRow (entriesOf s) boxes ≡ listTo (ownBox (s .numbers) (s .marks)) (entriesOf s)
   pub few : entriesOf s ≤ 1024
-  pub told : take n listed ≡ drawn (s .marks)
+  pub count : n ≡ length (drawn (s .marks))
+  pub listed-is : take n listed ≡ drawn (s .marks)

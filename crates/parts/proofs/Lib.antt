@@ -1,3 +1,4 @@
 pub mod PartLaws
 pub mod OwnerLaws
 pub mod DrawnLaws
+pub mod Depths

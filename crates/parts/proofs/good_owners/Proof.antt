@@ -5,10 +5,6 @@ use borrow.Author.Tests.{not-true, not-false}
 use borrow.Author.Needs.{needs}
 use Rattle.parts.proofs.good_owners.Statement.{statement}
 use Rattle.parts.proofs.good_owners.Tie as tie
-use Rattle.parts.proofs.good_owners.Reads as reads
-use Rattle.parts.proofs.good_owners.Lts as lts
-use Rattle.parts.proofs.next_owner.Reads as next-owner-reads
-use Rattle.parts.proofs.round_entry.Reads as round-entry-reads
 
 abbrev Inv-loop : tie.InvT-loop
 Inv-loop marks owners i₀ i = Owned marks owners i
@@ -16,55 +12,42 @@ Inv-loop marks owners i₀ i = Owned marks owners i
 abbrev μ-loop : tie.MeasureT-loop
 μ-loop marks owners i₀ i = length owners - i
 
--- src/lib.rt:141:5
 loop-holds : tie.Need-loop-holds Inv-loop μ-loop
 loop-holds c = owned-start _ _
 
--- src/lib.rt:142:32
 mul-round-entry : tie.Need-mul-round-entry Inv-loop μ-loop
 mul-round-entry c = search needs
 
--- src/lib.rt:142:32
 shared-slice-read-round-entry : tie.Need-shared-slice-read-round-entry Inv-loop μ-loop
 shared-slice-read-round-entry c = search needs
 
--- src/lib.rt:142:13
 round-entry-requires : tie.Need-round-entry-requires Inv-loop μ-loop
 round-entry-requires c κs = search needs
 
--- src/lib.rt:143:13
 returns : tie.Need-returns Inv-loop μ-loop
 returns c = owned-other _ _ _ (c .before .before .before .before .loop .inv) (c .before .before .before .loop-test .taken) (c .before .round-entry .ensures) (not-true _ (c .if1 .taken))
 
--- src/lib.rt:145:13
 next-owner-requires : tie.Need-next-owner-requires Inv-loop μ-loop
 next-owner-requires c κs = search needs
 
--- src/lib.rt:146:19
 mul-if2 : tie.Need-mul-if2 Inv-loop μ-loop
 mul-if2 c = search needs
 
--- src/lib.rt:146:19
 shared-slice-read-if2 : tie.Need-shared-slice-read-if2 Inv-loop μ-loop
 shared-slice-read-if2 c = search needs
 
--- src/lib.rt:147:13
 returns-2 : tie.Need-returns-2 Inv-loop μ-loop
 returns-2 c = owned-falls _ _ _ (c .before .before .before .before .before .before .before .loop .inv) (c .before .before .before .before .before .before .loop-test .taken) (c .before .before .before .before .round-entry .ensures) (not-false _ (c .before .before .before .if1 .left)) (c .before .before .next-owner .ensures) (c .if2 .taken)
 
--- src/lib.rt:149:9
 add-i : tie.Need-add-i Inv-loop μ-loop
 add-i c = search needs
 
--- src/lib.rt:141:5
 loop-less : tie.Need-loop-less Inv-loop μ-loop
 loop-less c = search needs
 
--- src/lib.rt:141:5
 loop-again : tie.Need-loop-again Inv-loop μ-loop
 loop-again c = owned-turn _ _ _ (c .before .before .before .before .before .before .before .loop .inv) (c .before .before .before .before .before .before .loop-test .taken) (c .before .before .before .before .round-entry .ensures) (not-false _ (c .before .before .before .if1 .left)) (c .before .before .next-owner .ensures) (c .if2 .left)
 
--- src/lib.rt:137:1
 returns-3 : tie.Need-returns-3 Inv-loop μ-loop
 returns-3 c = owned-end _ _ _ (c .before .loop .inv) (c .loop-test .left)
 

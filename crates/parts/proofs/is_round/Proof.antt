@@ -4,15 +4,11 @@ use mathlib.Core.Path.{sym}
 use borrow.Author.Needs.{needs}
 use Rattle.parts.proofs.is_round.Statement.{statement}
 use Rattle.parts.proofs.is_round.Tie as tie
-use Rattle.parts.proofs.is_round.Reads as reads
-use Rattle.parts.proofs.is_round.Lts as lts
 
--- src/lib.rt:109:9
 returns : tie.Need-returns
 unfolding isRound
 returns c = rw (lt-leb 1 (c .before .args .kind) (c .if1 .taken))
 
--- src/lib.rt:105:1
 returns-2 : tie.Need-returns-2
 unfolding isRound
 returns-2 c = rw (le-leb 1 (c .before .args .kind) (c .if1 .left))

@@ -3,15 +3,11 @@ use borrow.Author.Tests.{lt-ltb, le-ltb}
 use borrow.Author.Needs.{needs}
 use Rattle.parts.proofs.larger.Statement.{statement}
 use Rattle.parts.proofs.larger.Tie as tie
-use Rattle.parts.proofs.larger.Reads as reads
-use Rattle.parts.proofs.larger.Lts as lts
 
--- src/lib.rt:15:9
 returns : tie.Need-returns
 unfolding larger
 returns c = simp (lt-ltb _ _ (c .if1 .taken))
 
--- src/lib.rt:11:1
 returns-2 : tie.Need-returns-2
 unfolding larger
 returns-2 c = simp (le-ltb _ _ (c .if1 .left))

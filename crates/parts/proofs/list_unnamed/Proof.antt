@@ -4,8 +4,6 @@ use Rattle.parts.proofs.DrawnLaws.{Listed, listed-start, listed-skip, l
 use borrow.Author.Needs.{needs}
 use Rattle.parts.proofs.list_unnamed.Statement.{statement}
 use Rattle.parts.proofs.list_unnamed.Tie as tie
-use Rattle.parts.proofs.list_unnamed.Reads as reads
-use Rattle.parts.proofs.list_unnamed.Lts as lts
 
 abbrev Inv-loop : tie.InvT-loop
 Inv-loop named n drawn₀ i₀ d₀ drawn i d = Listed named drawn₀ n drawn i d
@@ -13,63 +11,48 @@ Inv-loop named n drawn₀ i₀ d₀ drawn i d = Listed named drawn₀ n drawn i 
 abbrev μ-loop : tie.MeasureT-loop
 μ-loop named n drawn₀ i₀ d₀ drawn i d = n - i
 
--- src/lib.rt:161:5
 loop-holds : tie.Need-loop-holds Inv-loop μ-loop
 loop-holds c = listed-start _ _ _
 
--- src/lib.rt:162:12
 mul-if1 : tie.Need-mul-if1 Inv-loop μ-loop
 mul-if1 c = search needs
 
--- src/lib.rt:162:12
 shared-slice-read-if1 : tie.Need-shared-slice-read-if1 Inv-loop μ-loop
 shared-slice-read-if1 c = omega (arith, c .before .loop-test .taken, c .before .before .before .pre .0)
 
--- src/lib.rt:163:13
 add-i : tie.Need-add-i Inv-loop μ-loop
 add-i c = search needs
 
--- src/lib.rt:161:5
 loop-less : tie.Need-loop-less Inv-loop μ-loop
 loop-less c = search needs
 
--- src/lib.rt:161:5
 loop-again : tie.Need-loop-again Inv-loop μ-loop
 loop-again c = listed-skip _ _ _ _ _ _ (c .before .before .before .loop .inv) (c .before .before .loop-test .taken) (c .if1 .taken)
 
--- src/lib.rt:166:20
 cast-drawn : tie.Need-cast-drawn Inv-loop μ-loop
 cast-drawn c = omega (arith, c .before .before .loop-test .taken, c .before .before .before .before .pre .1 .1)
 
--- src/lib.rt:166:9
 mul-drawn : tie.Need-mul-drawn Inv-loop μ-loop
 mul-drawn c = search needs
 
--- src/lib.rt:166:9
 slice-write-drawn : tie.Need-slice-write-drawn Inv-loop μ-loop
 slice-write-drawn c = omega (arith, c .before .before .loop-test .taken, c .before .before .before .before .pre .1 .0, c .before .before .before .loop .inv .few, c .before .before .before .loop .inv .same)
 
--- src/lib.rt:167:9
 add-d : tie.Need-add-d Inv-loop μ-loop
 add-d c = omega (arith, c .before .before .loop-test .taken, c .before .before .before .before .pre .1 .1, c .before .before .before .loop .inv .few)
 
--- src/lib.rt:168:9
 add-i-2 : tie.Need-add-i-2 Inv-loop μ-loop
 add-i-2 c = search needs
 
--- src/lib.rt:161:5
 loop-less-2 : tie.Need-loop-less-2 Inv-loop μ-loop
 loop-less-2 c = search needs
 
--- src/lib.rt:161:5
 loop-again-2 : tie.Need-loop-again-2 Inv-loop μ-loop
 loop-again-2 c = listed-put _ _ _ _ _ _ (c .before .before .before .loop .inv) (c .before .before .loop-test .taken) (c .before .before .before .before .pre .1 .0) (c .if1 .left)
 
--- src/lib.rt:154:1
 same-length : tie.Need-same-length Inv-loop μ-loop
 same-length c = c .before .loop .inv .same
 
--- src/lib.rt:154:1
 returns : tie.Need-returns Inv-loop μ-loop
 returns c = listed-end _ _ _ _ _ _ (c .before .loop .inv) (c .before .before .pre .1 .0) (c .loop-test .left)
 

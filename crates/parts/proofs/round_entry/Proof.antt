@@ -4,25 +4,17 @@ use mathlib.Core.Path.{_∙_}
 use borrow.Author.Needs.{needs}
 use Rattle.parts.proofs.round_entry.Statement.{statement}
 use Rattle.parts.proofs.round_entry.Tie as tie
-use Rattle.parts.proofs.round_entry.Reads as reads
-use Rattle.parts.proofs.round_entry.Lts as lts
-use Rattle.parts.proofs.is_round.Reads as is-round-reads
-use Rattle.rows.proofs.read_marks.Reads as read-marks-reads
 
--- src/lib.rt:119:25
 read-marks-requires : tie.Need-read-marks-requires
 read-marks-requires c κs = search needs
 
--- src/lib.rt:119:9
 is-round-requires : tie.Need-is-round-requires
 is-round-requires c κs = search needs
 
--- src/lib.rt:119:9
 returns : tie.Need-returns
 unfolding roundEntry
 returns c = c .is-round .ensures ∙ rw (lt-ltb _ _ (c .before .before .if1 .taken), c .before .read-marks .ensures)
 
--- src/lib.rt:114:1
 returns-2 : tie.Need-returns-2
 unfolding roundEntry
 returns-2 c = simp (le-ltb _ _ (c .if1 .left))

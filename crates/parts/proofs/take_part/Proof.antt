@@ -3,38 +3,28 @@ use mathlib.Core.Path.{refl}
 use borrow.Author.Needs.{needs}
 use Rattle.parts.proofs.take_part.Statement.{statement}
 use Rattle.parts.proofs.take_part.Tie as tie
-use Rattle.parts.proofs.take_part.Reads as reads
-use Rattle.parts.proofs.take_part.Lts as lts
 
--- src/lib.rt:27:12
 mul-if2 : tie.Need-mul-if2
 mul-if2 c = search needs
 
--- src/lib.rt:27:12
 slice-read-if2 : tie.Need-slice-read-if2
 slice-read-if2 c = search needs
 
--- src/lib.rt:28:13
 mul-named : tie.Need-mul-named
 mul-named c = search needs
 
--- src/lib.rt:28:13
 slice-write-named : tie.Need-slice-write-named
 slice-write-named c = search needs
 
--- src/lib.rt:29:13
 same-length : tie.Need-same-length
 same-length c = search needs
 
--- src/lib.rt:29:13
 returns : tie.Need-returns
 returns c = simp (lt-ltb _ _ (c .before .before .if1 .taken), eq-eqb _ _ (c .if2 .taken)) (refl, refl)
 
--- src/lib.rt:21:1
 returns-2 : tie.Need-returns-2
 returns-2 c = simp (lt-ltb _ _ (c .before .before .if1 .taken), ne-eqb _ _ (c .if2 .left)) (refl, refl)
 
--- src/lib.rt:21:1
 returns-3 : tie.Need-returns-3
 returns-3 c = simp (le-ltb _ _ (c .if1 .left)) (refl, refl)
 

@@ -8,11 +8,6 @@ use borrow.Author.Tests.{not-true, not-false}
 use borrow.Author.Needs.{needs}
 use Rattle.measures.proofs.measures.all_measured.Statement.{statement}
 use Rattle.measures.proofs.measures.all_measured.Tie as tie
-use Rattle.measures.proofs.measures.all_measured.Reads as reads
-use Rattle.measures.proofs.measures.all_measured.Lts as lts
-use Rattle.measures.proofs.measures.measured.Reads as measured-reads
-use Rattle.rows.proofs.read_marks.Reads as read-marks-reads
-use Rattle.rows.proofs.read_numbers.Reads as read-numbers-reads
 
 abbrev Inv-loop : tie.InvT-loop
 Inv-loop numbers marks n i₀ i = Passed (λ k. measured (marksAt marks k) (numbersAt numbers k)) n i
@@ -20,39 +15,30 @@ Inv-loop numbers marks n i₀ i = Passed (λ k. measured (marksAt marks k) (numb
 abbrev μ-loop : tie.MeasureT-loop
 μ-loop numbers marks n i₀ i = n - i
 
--- src/measures.rt:125:5
 loop-holds : tie.Need-loop-holds Inv-loop μ-loop
 loop-holds c = passed-start _ _
 
--- src/measures.rt:126:13
 read-marks-requires : tie.Need-read-marks-requires Inv-loop μ-loop
 read-marks-requires c κs = omega (arith, c .loop-test .taken)
 
--- src/measures.rt:127:25
 read-numbers-requires : tie.Need-read-numbers-requires Inv-loop μ-loop
 read-numbers-requires c κs = omega (arith, c .before .loop-test .taken, c .before .before .before .before .before .pre)
 
--- src/measures.rt:127:13
 measured-requires : tie.Need-measured-requires Inv-loop μ-loop
 measured-requires c κs = search needs
 
--- src/measures.rt:128:13
 returns : tie.Need-returns Inv-loop μ-loop
 returns c = passed-fails _ _ _ (c .before .before .before .before .before .loop .inv) (c .before .before .before .before .loop-test .taken) (c .before .measured .ensures ∙ rw (c .before .before .before .read-marks .ensures, c .before .before .read-numbers .ensures)) (not-true _ (c .if1 .taken))
 
--- src/measures.rt:130:9
 add-i : tie.Need-add-i Inv-loop μ-loop
 add-i c = search needs
 
--- src/measures.rt:125:5
 loop-less : tie.Need-loop-less Inv-loop μ-loop
 loop-less c = search needs
 
--- src/measures.rt:125:5
 loop-again : tie.Need-loop-again Inv-loop μ-loop
 loop-again c = passed-turn _ _ _ (c .before .before .before .before .before .loop .inv) (c .before .before .before .before .loop-test .taken) (c .before .measured .ensures ∙ rw (c .before .before .before .read-marks .ensures, c .before .before .read-numbers .ensures)) (not-false _ (c .if1 .left))
 
--- src/measures.rt:119:1
 returns-2 : tie.Need-returns-2 Inv-loop μ-loop
 returns-2 c = passed-end _ _ _ (c .before .loop .inv) (c .loop-test .left)
 
