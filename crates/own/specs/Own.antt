@@ -4,7 +4,6 @@ use mathlib.Core.Bool.{Bool, _&&_, cond}
 use lib.Ieee.{Float}
 use Rattle.geometry.specs.declared.vector.Vector.{Vector}
 use Rattle.geometry.specs.declared.ray.Ray.{Ray}
-use Rattle.scene.specs.declared.refusal.Refusal.{Refusal}
 use Rattle.scene.specs.declared.refusal.Refusal.the-variants.{View}
 use Rattle.limits.specs.Limits.{withinPoint}
 use Rattle.shape.specs.Shapes.{solidOf, shapeHit, shapeContains}
