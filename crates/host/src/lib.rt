@@ -1,5 +1,8 @@
 // The calls for a host program, by C's calling convention: each is thin over the proved one, and none
 // has a condition that its caller must meet. tools/host/larnt.h declares them.
+pub mod stages;
+pub mod trees;
+
 ghost use mathlib.Core.Path.{_≡_};
 ghost use Rattle.sqrt.specs.Root.{sqrtOf};
 ghost use Rattle.geometry.specs.Boxes.{boxTest};
