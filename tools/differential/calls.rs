@@ -113,7 +113,7 @@ fn nan_alike(x: f64) -> u64 {
     if x.is_nan() { NAN } else { x.to_bits() }
 }
 
-fn alike(x: f64) -> u64 {
+pub fn alike(x: f64) -> u64 {
     if x == 0.0 { 0 } else { nan_alike(x) }
 }
 

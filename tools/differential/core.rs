@@ -1,7 +1,9 @@
 //! The compiled core: target/staticlib/libhost.a, called directly and through tools/host/larnt.rs.
 
 use crate::calls::Calls;
-use crate::host;
+use crate::host::{self, raw};
+use crate::scene_calls::{Found, SceneCalls};
+use oracle::Scene;
 
 #[link(name = "host", kind = "static")]
 unsafe extern "C" {
@@ -100,4 +102,74 @@ fn numbered<T: Default>(result: Result<T, u32>) -> (u32, T) {
         Ok(value) => (0, value),
         Err(number) => (number, T::default()),
     }
+}
+
+pub const CORE_SCENES: SceneCalls =
+    SceneCalls { check: core_check, own_hit: core_own_hit, own_contains: core_own_contains };
+
+pub const HOST_SCENES: SceneCalls =
+    SceneCalls { check: host_check, own_hit: host_own_hit, own_contains: host_own_contains };
+
+/// A direct call on a scene.
+macro_rules! direct {
+    ($call:ident, $s:ident, $($more:expr),*) => {
+        unsafe {
+            raw::$call(
+                $s.numbers.as_ptr(),
+                $s.numbers.len(),
+                $s.marks.as_ptr(),
+                $s.marks.len(),
+                $s.points.as_ptr(),
+                $s.points.len(),
+                $s.starts.as_ptr(),
+                $s.starts.len(),
+                $s.owners.as_ptr(),
+                $s.owners.len(),
+                $($more),*
+            )
+        }
+    };
+}
+
+fn core_check(s: &Scene, found: &mut Found) -> u32 {
+    let Found { inverses, boxes, drawn, count } = found;
+    direct!(larnt_check, s, inverses, boxes, drawn, count)
+}
+
+fn core_own_hit(s: &Scene, i: usize, ray: &[f64; 6], t: &mut f64, ok: &mut bool) -> u32 {
+    direct!(larnt_own_hit, s, i, ray, t, ok)
+}
+
+fn core_own_contains(s: &Scene, i: usize, p: &[f64; 3], f: f64, inside: &mut bool) -> u32 {
+    direct!(larnt_own_contains, s, i, p, f, inside)
+}
+
+/// A scene as a host in Rust hands it over.
+fn lent(s: &Scene) -> host::Scene<'_> {
+    host::Scene {
+        numbers: &s.numbers,
+        marks: &s.marks,
+        points: &s.points,
+        starts: &s.starts,
+        owners: &s.owners,
+    }
+}
+
+fn host_check(s: &Scene, found: &mut Found) -> u32 {
+    let number;
+    let Found { inverses, boxes, drawn, .. } = found;
+    (number, found.count) = numbered(host::check(lent(s), inverses, boxes, drawn));
+    number
+}
+
+fn host_own_hit(s: &Scene, i: usize, ray: &[f64; 6], t: &mut f64, ok: &mut bool) -> u32 {
+    let number;
+    (number, (*t, *ok)) = numbered(host::own_hit(lent(s), i, ray));
+    number
+}
+
+fn host_own_contains(s: &Scene, i: usize, p: &[f64; 3], f: f64, inside: &mut bool) -> u32 {
+    let number;
+    (number, *inside) = numbered(host::own_contains(lent(s), i, p, f));
+    number
 }

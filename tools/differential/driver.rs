@@ -11,18 +11,23 @@ mod harness;
 mod host;
 mod inputs;
 mod leaves;
+mod scene_calls;
+mod scene_inputs;
+mod scenes;
 
 use std::process::ExitCode;
 
 fn compare(seed: u64, count: u64) -> ExitCode {
     let mut run = harness::Run::new(seed, count);
     leaves::compare(&mut run);
+    scenes::compare(&mut run);
     if run.differences == 0 { ExitCode::SUCCESS } else { ExitCode::FAILURE }
 }
 
 fn speed() -> ExitCode {
     harness::times_header();
     leaves::speed();
+    scenes::speed();
     ExitCode::SUCCESS
 }
 

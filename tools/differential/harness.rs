@@ -11,61 +11,81 @@ pub struct Run {
     pub differences: u64,
 }
 
+/// An input or an answer: how small it is, and how it is printed.
+pub trait Shown {
+    fn size(&self) -> u32;
+    fn text(&self) -> String;
+}
+
+/// A name for some answers. The share of them tells how much the comparison bites.
+pub type Share<'a, I, A> = (&'a str, &'a dyn Fn(&I, &A) -> bool);
+
 impl Run {
     pub fn new(seed: u64, count: u64) -> Run {
         println!("function            cases   differ  share           smallest differing input");
         Run { seed, count, differences: 0 }
     }
 
-    /// Puts each case to the Rust and to every form of the core, and prints one line.
-    /// The share of answers that `counts` takes tells how much the comparison bites.
-    pub fn compare<I: AsRef<[u64]>, A: AsRef<[u64]> + PartialEq>(
+    /// Puts `count` cases to the Rust and to every form of the core, and prints one line.
+    pub fn compare<I: Shown, A: Shown + PartialEq>(
         &mut self,
         name: &str,
+        count: u64,
         make: impl Fn(&mut Rng) -> I,
         rust: impl Fn(&I) -> A,
         cores: &[&dyn Fn(&I) -> A],
-        (share, counts): (&str, impl Fn(&A) -> bool),
+        shares: &[Share<I, A>],
     ) {
         let mut rng = Rng::new(self.seed ^ name_hash(name));
-        let (mut differ, mut counted) = (0, 0);
+        let (mut differ, mut counted) = (0, vec![0; shares.len()]);
         let mut smallest: Option<(u32, String)> = None;
-        for _ in 0..self.count {
+        for _ in 0..count {
             let input = make(&mut rng);
             let expected = rust(&input);
-            counted += u64::from(counts(&expected));
+            for (counted, (_, counts)) in counted.iter_mut().zip(shares) {
+                *counted += u64::from(counts(&input, &expected));
+            }
             let Some(got) = cores.iter().map(|core| core(&input)).find(|got| *got != expected)
             else {
                 continue;
             };
             differ += 1;
-            let size = size(input.as_ref());
+            let size = input.size();
             if smallest.as_ref().is_none_or(|(least, _)| size < *least) {
-                let [i, e, g] = [input.as_ref(), expected.as_ref(), got.as_ref()].map(words);
+                let (i, e, g) = (input.text(), expected.text(), got.text());
                 smallest = Some((size, format!("{i} rust {e} core {g}")));
             }
         }
         self.differences += differ;
-        let percent = 100.0 * counted as f64 / self.count as f64;
         let text = smallest.map_or("-".to_string(), |(_, text)| text);
-        let share = format!("{share} {percent:.1}%");
-        println!("{name:<18} {:>8} {differ:>8}  {share:<15} {text}", self.count);
+        let named = counted.iter().zip(shares);
+        let shares: Vec<String> =
+            named.map(|(n, (share, _))| format!("{share} {}", percent(*n, count))).collect();
+        println!("{name:<18} {count:>8} {differ:>8}  {:<15} {text}", shares.join(", "));
     }
 }
 
-/// The measure of an input: how many bits are set. Zeros and round numbers have few.
-fn size(input: &[u64]) -> u32 {
-    input.iter().map(|word| word.count_ones()).sum()
+/// With one digit after the point, or with three where that would hide some.
+fn percent(n: u64, of: u64) -> String {
+    let percent = 100.0 * n as f64 / of as f64;
+    if n > 0 && percent < 0.05 { format!("{percent:.3}%") } else { format!("{percent:.1}%") }
 }
 
-/// As 16 hexadecimal digits each, without the zeros at the end.
-fn words(all: &[u64]) -> String {
-    let used = all.iter().rposition(|word| *word != 0).map_or(1, |last| last + 1);
-    all[..used].iter().fold(String::new(), |mut text, word| {
-        let gap = if text.is_empty() { "" } else { " " };
-        write!(text, "{gap}{word:016X}").unwrap();
-        text
-    })
+impl<const N: usize> Shown for [u64; N] {
+    /// How many bits are set. Zeros and round numbers have few.
+    fn size(&self) -> u32 {
+        self.iter().map(|word| word.count_ones()).sum()
+    }
+
+    /// As 16 hexadecimal digits each, without the zeros at the end.
+    fn text(&self) -> String {
+        let used = self.iter().rposition(|word| *word != 0).map_or(1, |last| last + 1);
+        self[..used].iter().fold(String::new(), |mut text, word| {
+            let gap = if text.is_empty() { "" } else { " " };
+            write!(text, "{gap}{word:016X}").unwrap();
+            text
+        })
+    }
 }
 
 /// FNV-1a, so that each function has cases of its own, whatever stands before it.

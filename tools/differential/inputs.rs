@@ -13,9 +13,9 @@ pub type Numbers = [f64; 16];
 
 /// A point of a surface and the direction that stands upright on it.
 #[derive(Clone, Copy)]
-struct Spot {
-    point: Point,
-    normal: Point,
+pub struct Spot {
+    pub point: Point,
+    pub normal: Point,
 }
 
 /// Inputs end to end, after the kind where there is one.
@@ -137,14 +137,20 @@ pub fn solid_and_ray(rng: &mut Rng, kind: u32) -> (Numbers, Ray) {
 pub fn solid_and_point(rng: &mut Rng, kind: u32) -> (Numbers, Point, f64) {
     let grain = grain(rng);
     let n = solid(rng, grain, kind);
-    let [a, b] = [spot(rng, grain, kind, &n), spot(rng, grain, kind, &n)];
+    let (p, f) = point_near(rng, grain, &|rng| spot(rng, grain, kind, &n));
+    (n, p, f)
+}
+
+/// A point within, without or next to a surface, of which `spot` gives points, and a widening.
+pub fn point_near(rng: &mut Rng, grain: Grain, spot: &dyn Fn(&mut Rng) -> Spot) -> (Point, f64) {
+    let [a, b] = [spot(rng), spot(rng)];
     let away = rng.pick(&[0.0, 1e-9, -1e-9, 1e-3, 0.25, -0.25, 2.0]);
     let p = match rng.below(8) {
         0..3 => middle(a.point, b.point),
         3..7 => along(a.point, a.normal, away),
         _ => place(rng, grain),
     };
-    (n, p, rng.pick(&[0.0, -0.0, 1e-9, 1e-3, 0.01, 0.25, -0.25, 1.0, away]))
+    (p, rng.pick(&[0.0, -0.0, 1e-9, 1e-3, 0.01, 0.25, -0.25, 1.0, away]))
 }
 
 pub fn matrix_and_point(rng: &mut Rng) -> (Numbers, Point) {
@@ -166,12 +172,12 @@ pub enum Grain {
     Any,
 }
 
-fn grain(rng: &mut Rng) -> Grain {
+pub fn grain(rng: &mut Rng) -> Grain {
     rng.pick(&[Grain::Whole, Grain::Quarter, Grain::Any, Grain::Any])
 }
 
 /// From -50 to 50.
-fn metres(rng: &mut Rng, grain: Grain) -> f64 {
+pub fn metres(rng: &mut Rng, grain: Grain) -> f64 {
     match grain {
         Grain::Whole => rng.below(101) as f64 - 50.0,
         Grain::Quarter => rng.below(401) as f64 / 4.0 - 50.0,
@@ -191,7 +197,7 @@ fn measure(rng: &mut Rng, grain: Grain, most: usize) -> f64 {
     }
 }
 
-fn place(rng: &mut Rng, grain: Grain) -> Point {
+pub fn place(rng: &mut Rng, grain: Grain) -> Point {
     std::array::from_fn(|_| metres(rng, grain))
 }
 
@@ -228,7 +234,7 @@ fn part(rng: &mut Rng, grain: Grain) -> f64 {
 }
 
 /// The measures of a kind, then zeros.
-fn solid(rng: &mut Rng, grain: Grain, kind: u32) -> Numbers {
+pub fn solid(rng: &mut Rng, grain: Grain, kind: u32) -> Numbers {
     let mut n = [0.0; 16];
     match kind {
         1 => {
@@ -274,7 +280,7 @@ fn triangle_corner(n: &Numbers, i: usize) -> Point {
 }
 
 /// A point of a solid's surface.
-fn spot(rng: &mut Rng, grain: Grain, kind: u32, n: &Numbers) -> Spot {
+pub fn spot(rng: &mut Rng, grain: Grain, kind: u32, n: &Numbers) -> Spot {
     match kind {
         1 => {
             let normal = direction(rng, grain);
@@ -314,7 +320,12 @@ fn spot(rng: &mut Rng, grain: Grain, kind: u32, n: &Numbers) -> Spot {
 
 /// A ray that mostly meets the solid.
 fn ray(rng: &mut Rng, grain: Grain, kind: u32, n: &Numbers) -> Ray {
-    let aim = spot(rng, grain, kind, n);
+    ray_to(rng, grain, &|rng| spot(rng, grain, kind, n))
+}
+
+/// A ray that mostly meets a surface, of which `spot` gives points.
+pub fn ray_to(rng: &mut Rng, grain: Grain, spot: &dyn Fn(&mut Rng) -> Spot) -> Ray {
+    let aim = spot(rng);
     let eye = place(rng, grain);
     let (origin, direction) = match rng.below(20) {
         // from an eye to the surface, normalised
@@ -323,7 +334,7 @@ fn ray(rng: &mut Rng, grain: Grain, kind: u32, n: &Numbers) -> Ray {
         7..9 => (aim.point, unit(minus(eye, aim.point))),
         // from within, or through the solid
         9..11 => {
-            let start = middle(aim.point, spot(rng, grain, kind, n).point);
+            let start = middle(aim.point, spot(rng).point);
             (start, direction(rng, grain))
         }
         // along the surface
@@ -420,7 +431,7 @@ pub fn matrix(rng: &mut Rng) -> Numbers {
 }
 
 /// Turned, moved, and, unless it is to be stiff, stretched.
-fn turned(rng: &mut Rng, stiff: bool) -> Numbers {
+pub fn turned(rng: &mut Rng, stiff: bool) -> Numbers {
     let grain = grain(rng);
     let x = direction(rng, grain);
     let y = unit(cross(x, direction(rng, grain)));
@@ -451,7 +462,7 @@ fn lens(rng: &mut Rng) -> Numbers {
 }
 
 /// Makes a matrix singular, or nearly.
-fn flatten(rng: &mut Rng, m: &mut Numbers) {
+pub fn flatten(rng: &mut Rng, m: &mut Numbers) {
     let (a, b) = (rng.below(4), rng.below(4));
     let by_rows = rng.chance(50);
     let at = |line: usize, k: usize| if by_rows { 4 * line + k } else { 4 * k + line };
@@ -486,7 +497,7 @@ pub fn extreme(rng: &mut Rng) -> f64 {
 }
 
 /// A few units in the last place away.
-fn nudged(rng: &mut Rng, x: f64) -> f64 {
+pub fn nudged(rng: &mut Rng, x: f64) -> f64 {
     f64::from_bits(x.to_bits().wrapping_add(rng.below(5) as u64).wrapping_sub(2))
 }
 
@@ -525,7 +536,7 @@ fn minus(a: Point, b: Point) -> Point {
     [a[0] - b[0], a[1] - b[1], a[2] - b[2]]
 }
 
-fn along(a: Point, d: Point, t: f64) -> Point {
+pub fn along(a: Point, d: Point, t: f64) -> Point {
     [a[0] + d[0] * t, a[1] + d[1] * t, a[2] + d[2] * t]
 }
 
@@ -541,7 +552,7 @@ fn cross(a: Point, b: Point) -> Point {
     [a[1] * b[2] - a[2] * b[1], a[2] * b[0] - a[0] * b[2], a[0] * b[1] - a[1] * b[0]]
 }
 
-fn unit(v: Point) -> Point {
+pub fn unit(v: Point) -> Point {
     let length = dot(v, v).sqrt();
     if length == 0.0 { [0.0, 0.0, 1.0] } else { v.map(|x| x / length) }
 }

@@ -42,7 +42,8 @@ fn line(
 ) {
     let cores: [&dyn Fn(&Input) -> Answer; 2] =
         [&|input| answer(&CORE, call, input), &|input| answer(&HOST, call, input)];
-    run.compare(name, make, |input| answer(&RUST, call, input), &cores, (share, counts));
+    let rust = |input: &Input| answer(&RUST, call, input);
+    run.compare(name, run.count, make, rust, &cores, &[(share, &|_, a| counts(a))]);
 }
 
 fn float(word: u64) -> f64 {

@@ -1,10 +1,12 @@
 /* The calls that libhost.a exports (`rt staticlib host`). Nothing checks these declarations against
    crates/host/src/lib.rt: whoever changes the one changes the other. The pointers must not be null,
-   and what is filled must not overlap what is read. Matrices stand by rows. */
+   not even those of no elements, and what is filled must not overlap what is read. Matrices stand by
+   rows. */
 #ifndef LARNT_H
 #define LARNT_H
 
 #include <stdbool.h>
+#include <stddef.h>
 #include <stdint.h>
 
 #ifdef __cplusplus
@@ -29,6 +31,32 @@ double larnt_inverse(const double matrix[16], double inverse[16]);
 uint32_t larnt_solid_hit(uint32_t kind, const double numbers[16], const double ray[6], double *t, bool *ok);
 uint32_t larnt_solid_box(uint32_t kind, const double numbers[16], double box[6]);
 uint32_t larnt_solid_contains(uint32_t kind, const double numbers[16], const double point[3], double f, bool *inside);
+
+/* A scene: five slices, each a pointer and a count of elements. An entry has 16 numbers and 4 marks
+   (kind, detail, first part, second part); kinds 1 to 5 as above, 6 a placed part (matrix by rows),
+   7 a cut (detail 0 intersection, 1 difference). Three numbers a point; a path has a start, in points,
+   and an owner, an entry of kinds 1 to 3. */
+#define LARNT_SCENE \
+    const double *numbers, size_t numbers_count, const uint32_t *marks, size_t marks_count, \
+    const double *points, size_t points_count, const size_t *starts, size_t starts_count, \
+    const uint32_t *owners, size_t owners_count
+
+/* The most entries of a scene. */
+#define LARNT_ENTRIES 1024
+
+/* Each answers 0, or the number of the refusal, 2 to 7 for the scene; what is filled is then 0 and false. */
+
+/* Fills 16 numbers an entry (the inverse of a placing, else zeros), 6 an entry (its box, min and max),
+   and the drawn entries, each followed by zeros; count is how many are drawn. */
+uint32_t larnt_check(LARNT_SCENE, double inverses[16 * LARNT_ENTRIES], double boxes[6 * LARNT_ENTRIES],
+                     uint32_t drawn[LARNT_ENTRIES], size_t *count);
+
+/* The hit that the solid at an entry gives a ray, with no tree and no other solid; 8 for the ray, 11 for
+   a cut's restarts. Where there is no such entry every ray misses. */
+uint32_t larnt_own_hit(LARNT_SCENE, size_t entry, const double ray[6], double *t, bool *ok);
+
+/* Whether the solid at an entry, widened by f, contains a point. */
+uint32_t larnt_own_contains(LARNT_SCENE, size_t entry, const double point[3], double f, bool *inside);
 
 #ifdef __cplusplus
 }

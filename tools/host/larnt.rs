@@ -1,8 +1,9 @@
 //! The calls of libhost.a (`rt staticlib host`) for Rust. Nothing checks these declarations against
 //! crates/host/src/lib.rt: whoever changes the one changes the other. Matrices stand by rows; the
-//! kinds and the order of their numbers are in larnt.h.
+//! kinds and the order of their numbers are in larnt.h, and so is what a scene holds.
 
-mod raw {
+/// The calls as they are.
+pub mod raw {
     #[link(name = "host", kind = "static")]
     unsafe extern "C" {
         pub safe fn larnt_sqrt(x: f64) -> f64;
@@ -12,6 +13,54 @@ mod raw {
         pub safe fn larnt_solid_hit(kind: u32, n: &[f64; 16], ray: &[f64; 6], t: &mut f64, ok: &mut bool) -> u32;
         pub safe fn larnt_solid_box(kind: u32, n: &[f64; 16], b: &mut [f64; 6]) -> u32;
         pub safe fn larnt_solid_contains(kind: u32, n: &[f64; 16], p: &[f64; 3], f: f64, inside: &mut bool) -> u32;
+        pub fn larnt_check(
+            numbers: *const f64,
+            numbers_count: usize,
+            marks: *const u32,
+            marks_count: usize,
+            points: *const f64,
+            points_count: usize,
+            starts: *const usize,
+            starts_count: usize,
+            owners: *const u32,
+            owners_count: usize,
+            inverses: &mut [f64; 16384],
+            boxes: &mut [f64; 6144],
+            drawn: &mut [u32; 1024],
+            count: &mut usize,
+        ) -> u32;
+        pub fn larnt_own_hit(
+            numbers: *const f64,
+            numbers_count: usize,
+            marks: *const u32,
+            marks_count: usize,
+            points: *const f64,
+            points_count: usize,
+            starts: *const usize,
+            starts_count: usize,
+            owners: *const u32,
+            owners_count: usize,
+            entry: usize,
+            ray: &[f64; 6],
+            t: &mut f64,
+            ok: &mut bool,
+        ) -> u32;
+        pub fn larnt_own_contains(
+            numbers: *const f64,
+            numbers_count: usize,
+            marks: *const u32,
+            marks_count: usize,
+            points: *const f64,
+            points_count: usize,
+            starts: *const usize,
+            starts_count: usize,
+            owners: *const u32,
+            owners_count: usize,
+            entry: usize,
+            p: &[f64; 3],
+            f: f64,
+            inside: &mut bool,
+        ) -> u32;
     }
 }
 
@@ -59,6 +108,71 @@ pub fn solid_box(kind: u32, n: &[f64; 16]) -> Result<[f64; 6], u32> {
 pub fn solid_contains(kind: u32, n: &[f64; 16], p: &[f64; 3], f: f64) -> Result<bool, u32> {
     let mut inside = false;
     match raw::larnt_solid_contains(kind, n, p, f, &mut inside) {
+        0 => Ok(inside),
+        number => Err(number),
+    }
+}
+
+/// The five slices of a scene.
+#[derive(Clone, Copy)]
+pub struct Scene<'a> {
+    pub numbers: &'a [f64],
+    pub marks: &'a [u32],
+    pub points: &'a [f64],
+    pub starts: &'a [usize],
+    pub owners: &'a [u32],
+}
+
+/// A raw call on a scene: each slice is handed over as its own pointer and count.
+macro_rules! on_scene {
+    ($call:ident, $s:expr, $($more:expr),*) => {{
+        let Scene { numbers, marks, points, starts, owners } = $s;
+        unsafe {
+            raw::$call(
+                numbers.as_ptr(),
+                numbers.len(),
+                marks.as_ptr(),
+                marks.len(),
+                points.as_ptr(),
+                points.len(),
+                starts.as_ptr(),
+                starts.len(),
+                owners.as_ptr(),
+                owners.len(),
+                $($more),*
+            )
+        }
+    }};
+}
+
+/// Fills the inverses, the boxes and the drawn entries, and answers how many are drawn, or the number
+/// of the refusal.
+pub fn check(
+    s: Scene,
+    inverses: &mut [f64; 16384],
+    boxes: &mut [f64; 6144],
+    drawn: &mut [u32; 1024],
+) -> Result<usize, u32> {
+    let mut count = 0;
+    match on_scene!(larnt_check, s, inverses, boxes, drawn, &mut count) {
+        0 => Ok(count),
+        number => Err(number),
+    }
+}
+
+/// The hit that the solid at an entry gives a ray: its distance, and whether there is one.
+pub fn own_hit(s: Scene, entry: usize, ray: &[f64; 6]) -> Result<(f64, bool), u32> {
+    let (mut t, mut ok) = (0.0, false);
+    match on_scene!(larnt_own_hit, s, entry, ray, &mut t, &mut ok) {
+        0 => Ok((t, ok)),
+        number => Err(number),
+    }
+}
+
+/// Whether the solid at an entry, widened by f, contains a point.
+pub fn own_contains(s: Scene, entry: usize, p: &[f64; 3], f: f64) -> Result<bool, u32> {
+    let mut inside = false;
+    match on_scene!(larnt_own_contains, s, entry, p, f, &mut inside) {
         0 => Ok(inside),
         number => Err(number),
     }

@@ -2,6 +2,7 @@
 use mathlib.Core.Path.{_≡_, refl, sym, ap, _∙_, subst}
 use mathlib.Core.Bool.{Bool, false}
 use mathlib.Core.List.{List}
+use Prim.Native.Nat.{ℕ}
 use lib.Ieee.{Float}
 use Rattle.floats.specs.Arith.{zeroF}
 use Rattle.geometry.specs.declared.vector.Vector.{Vector}
@@ -11,11 +12,16 @@ use Rattle.geometry.specs.declared.bounding_box.BBox.{BBox}
 use Rattle.matrix.specs.Matrices.{inverted}
 use Rattle.matrix.specs.declared.Matrix.{Matrix}
 use Rattle.matrix.specs.declared.Inverted.{Inverted}
+use Rattle.rows.specs.Rows.{padded}
 use Rattle.rows.specs.Points.{boxRow}
 use Rattle.solids.specs.Solids.{hitOf, solidBox, containsOf}
 use Rattle.solids.specs.declared.solid.Solid.{Solid}
 use Rattle.scene.specs.declared.entry.Simple.{Simple}
 use Rattle.scene.specs.declared.entry.Simple.the-variants.{Is, Other}
+use Rattle.accept.specs.Checks.{Scene, ifAccepted}
+use Rattle.accept.specs.declared.Verdict.{Verdict}
+use Rattle.own.specs.Own.{ownContains}
+use Rattle.own.specs.declared.Contained.{Contained}
 use Rattle.host.specs.Calls.{matrixRow, answerOf, distanceTo, strikes, boxNumbers, insideOf}
 
 pub inverted-is : (m m' : Matrix) (i : Inverted) → m ≡ m' → i ≡ inverted m → (i .determinant ≡ inverted m' .determinant) × (matrixRow (i .inverse) ≡ matrixRow (inverted m' .inverse))
@@ -54,3 +60,11 @@ module _ (x y : Simple) (read : y ≡ x) (is : y ≡ Other) where
   pub no-inside : (p : Vector) (f : Float) → (3 ≡ answerOf x) × (false ≡ insideOf x p f)
   unfolding answerOf insideOf
   no-inside p f = subst (λ (z : Simple). (3 ≡ answerOf z) × (false ≡ insideOf z p f)) (sym is ∙ read) (refl, refl)
+
+-- ---- calls on a scene
+-- how a slice is left, by the verdict that the check gave
+pub left-so : {A : Type 0} (z : A) {v w : Verdict} {L : ℕ} (M : ℕ) {xs : List A} (l : List A) → v ≡ w → L ≡ M → xs ≡ padded z L (ifAccepted v l) → xs ≡ padded z M (ifAccepted w l)
+left-so z M l e m h = h ∙ rw (e, m)
+
+pub contains-so : (s : Scene) (i : ℕ) (f : Float) (p q : Vector) {c : Contained} → c ≡ ownContains s i p f → p ≡ q → c ≡ ownContains s i q f
+contains-so s i f p q h e = h ∙ ap (λ (v : Vector). ownContains s i v f) e

@@ -1,1 +1,3 @@
 pub mod CallLaws
+pub mod TreeLaws
+pub mod StageLaws

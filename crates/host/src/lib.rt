@@ -1,12 +1,21 @@
 // The calls for a host program, by C's calling convention: each is thin over the proved one, and none
 // has a condition that its caller must meet. tools/host/larnt.h declares them.
+pub mod stages;
+pub mod trees;
+
 ghost use mathlib.Core.Path.{_≡_};
 ghost use Rattle.sqrt.specs.Root.{sqrtOf};
 ghost use Rattle.geometry.specs.Boxes.{boxTest};
 ghost use Rattle.matrix.specs.Matrices.{mulPositionW, inverted};
+ghost use Rattle.floats.specs.Arith.{zeroF};
+ghost use Rattle.rows.specs.Rows.{padded};
 ghost use Rattle.rows.specs.Points.{pointOf, pointRow, boxOfRow};
 ghost use Rattle.rows.specs.Entries.{numbersOf};
 ghost use Rattle.scene.specs.Entries.{simpleOf, matrixOf};
+ghost use Rattle.parts.specs.Drawn.{drawn as drawnOf};
+ghost use Rattle.accept.specs.Checks.{sceneOf, checkOf, inversesOf, boxesOf, ifAccepted};
+ghost use Rattle.own.specs.Own.{ownHit, ownContains};
+ghost use Rattle.own.specs.Answers as Answers;
 ghost use Rattle.host.specs.Calls.{rayOfRow, spanRow, matrixRow, answerOf, distanceTo, strikes, boxNumbers, insideOf};
 use geometry::bounding_box::BBox;
 use geometry::ray::Ray;
@@ -205,4 +214,83 @@ pub extern "C" fn larnt_solid_contains(
             3
         }
     }
+}
+
+// The check of a scene: numbers 2 to 7. Of an accepted one `inverses` holds 16 numbers an entry (zeros
+// for what is no placing), `boxes` 6 an entry, `drawn` the drawn entries, `count` of them; then zeros.
+#[no_mangle]
+pub extern "C" fn larnt_check(
+    numbers: &[f64],
+    marks: &[u32],
+    points: &[f64],
+    starts: &[usize],
+    owners: &[u32],
+    inverses: &mut [f64; 16384],
+    boxes: &mut [f64; 6144],
+    drawn: &mut [u32; 1024],
+    count: &mut usize,
+) -> u32
+    ensures answer { λ r. ⌜ r ≡ Answers.verdictNumber (checkOf (sceneOf (now (numbers .entry)) (now (marks .entry)) (now (points .entry)) (now (starts .entry)) (now (owners .entry)))) ⌝ }
+    ensures placed { λ _. ⌜ now (inverses .exit) ≡ padded zeroF 16384 (ifAccepted (checkOf (sceneOf (now (numbers .entry)) (now (marks .entry)) (now (points .entry)) (now (starts .entry)) (now (owners .entry)))) (inversesOf (sceneOf (now (numbers .entry)) (now (marks .entry)) (now (points .entry)) (now (starts .entry)) (now (owners .entry))))) ⌝ }
+    ensures boxed { λ _. ⌜ now (boxes .exit) ≡ padded zeroF 6144 (ifAccepted (checkOf (sceneOf (now (numbers .entry)) (now (marks .entry)) (now (points .entry)) (now (starts .entry)) (now (owners .entry)))) (boxesOf (sceneOf (now (numbers .entry)) (now (marks .entry)) (now (points .entry)) (now (starts .entry)) (now (owners .entry))))) ⌝ }
+    ensures listed { λ _. ⌜ now (drawn .exit) ≡ padded 0 1024 (ifAccepted (checkOf (sceneOf (now (numbers .entry)) (now (marks .entry)) (now (points .entry)) (now (starts .entry)) (now (owners .entry)))) (drawnOf (now (marks .entry)))) ⌝ }
+    ensures counted { λ _. ⌜ now (count .exit) ≡ Answers.drawnCount (checkOf (sceneOf (now (numbers .entry)) (now (marks .entry)) (now (points .entry)) (now (starts .entry)) (now (owners .entry)))) ⌝ }
+{
+    let v = accept::check(
+        numbers,
+        marks,
+        points,
+        starts,
+        owners,
+        inverses,
+        boxes,
+        drawn,
+    );
+    *count = own::answers::drawn_count(v);
+    own::answers::verdict_number(v)
+}
+
+// The hit that the solid at an entry of a scene gives a ray, with no tree and no other solid: numbers 2
+// to 8, then 11.
+#[no_mangle]
+pub extern "C" fn larnt_own_hit(
+    numbers: &[f64],
+    marks: &[u32],
+    points: &[f64],
+    starts: &[usize],
+    owners: &[u32],
+    i: usize,
+    ray: &[f64; 6],
+    t: &mut f64,
+    ok: &mut bool,
+) -> u32
+    ensures answer { λ r. ⌜ r ≡ Answers.struckNumber (ownHit (sceneOf (now (numbers .entry)) (now (marks .entry)) (now (points .entry)) (now (starts .entry)) (now (owners .entry))) i (rayOfRow (now (ray .entry)))) ⌝ }
+    ensures lent { λ _. ⌜ now (t .exit) ≡ Answers.distance (ownHit (sceneOf (now (numbers .entry)) (now (marks .entry)) (now (points .entry)) (now (starts .entry)) (now (owners .entry))) i (rayOfRow (now (ray .entry)))) ⌝ }
+    ensures struck { λ _. ⌜ now (ok .exit) ≡ Answers.met (ownHit (sceneOf (now (numbers .entry)) (now (marks .entry)) (now (points .entry)) (now (starts .entry)) (now (owners .entry))) i (rayOfRow (now (ray .entry)))) ⌝ }
+{
+    let h = own::own_hit(numbers, marks, points, starts, owners, i, ray_from(ray));
+    *t = own::answers::distance(h);
+    *ok = own::answers::met(h);
+    own::answers::struck_number(h)
+}
+
+// Whether the solid at an entry of a scene, widened by f, contains a point: numbers 2 to 7.
+#[no_mangle]
+pub extern "C" fn larnt_own_contains(
+    numbers: &[f64],
+    marks: &[u32],
+    points: &[f64],
+    starts: &[usize],
+    owners: &[u32],
+    i: usize,
+    p: &[f64; 3],
+    f: f64,
+    inside: &mut bool,
+) -> u32
+    ensures answer { λ r. ⌜ r ≡ Answers.containedNumber (ownContains (sceneOf (now (numbers .entry)) (now (marks .entry)) (now (points .entry)) (now (starts .entry)) (now (owners .entry))) i (pointOf (now (p .entry))) f) ⌝ }
+    ensures lent { λ _. ⌜ now (inside .exit) ≡ Answers.inside (ownContains (sceneOf (now (numbers .entry)) (now (marks .entry)) (now (points .entry)) (now (starts .entry)) (now (owners .entry))) i (pointOf (now (p .entry))) f) ⌝ }
+{
+    let c = own::own_contains(numbers, marks, points, starts, owners, i, point(p), f);
+    *inside = own::answers::inside(c);
+    own::answers::contained_number(c)
 }

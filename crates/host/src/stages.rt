@@ -1,0 +1,119 @@
+// The calls on paths: the adaptive chop and the simplification.
+ghost use mathlib.Core.Path.{_≡_};
+ghost use lib.ListN.{length};
+ghost use Rattle.paths.specs.Ends.{places, counted, laidPoints, laidStarts};
+ghost use Rattle.chop.specs.Chop.{chopCall};
+ghost use Rattle.simplify.specs.Simplify.{simplifyCall};
+ghost use Rattle.host.specs.StageCalls as StageCalls;
+use geometry::vector::Vector;
+use matrix::Matrix;
+use paths::Counts;
+use view::View;
+
+fn counts_number(c: Counts) -> u32
+    ensures { λ r. ⌜ r ≡ StageCalls.countsNumber c ⌝ }
+{
+    match c {
+        Counts::Both(_, _) => 0,
+        Counts::Refused(k) => k.number(),
+    }
+}
+
+fn point_count(c: Counts) -> usize
+    ensures { λ r. ⌜ r ≡ StageCalls.pointCount c ⌝ }
+{
+    match c {
+        Counts::Both(n, _) => n,
+        Counts::Refused(_) => 0,
+    }
+}
+
+fn path_count(c: Counts) -> usize
+    ensures { λ r. ⌜ r ≡ StageCalls.pathCount c ⌝ }
+{
+    match c {
+        Counts::Both(_, m) => m,
+        Counts::Refused(_) => 0,
+    }
+}
+
+fn view_from(v: &[f64; 22]) -> View
+    ensures { λ r. ⌜ r ≡ StageCalls.viewOfRow (now (v .entry)) ⌝ }
+{
+    View {
+        matrix: Matrix {
+            x00: v[0],
+            x01: v[1],
+            x02: v[2],
+            x03: v[3],
+            x10: v[4],
+            x11: v[5],
+            x12: v[6],
+            x13: v[7],
+            x20: v[8],
+            x21: v[9],
+            x22: v[10],
+            x23: v[11],
+            x30: v[12],
+            x31: v[13],
+            x32: v[14],
+            x33: v[15],
+        },
+        eye: Vector {
+            x: v[16],
+            y: v[17],
+            z: v[18],
+        },
+        width: v[19],
+        height: v[20],
+        step: v[21],
+    }
+}
+
+// The paths chopped for a view (matrix by rows, eye, width, height, step): numbers 2, 4, 8 and 9, then 10
+// and 13. `out` holds their points and `begins` their starts, then zeros; `points_out` and `paths_out` are
+// how many there are.
+#[no_mangle]
+pub extern "C" fn larnt_chop(
+    view: &[f64; 22],
+    points: &[f64],
+    starts: &[usize],
+    out: &mut [f64],
+    begins: &mut [usize],
+    points_out: &mut usize,
+    paths_out: &mut usize,
+) -> u32
+    ensures answer { λ r. ⌜ r ≡ StageCalls.countsNumber (counted (chopCall (StageCalls.viewOfRow (now (view .entry))) (now (points .entry)) (now (starts .entry)) (places (now (out .entry))) (length (now (begins .entry))))) ⌝ }
+    ensures laid { λ _. ⌜ now (out .exit) ≡ laidPoints (chopCall (StageCalls.viewOfRow (now (view .entry))) (now (points .entry)) (now (starts .entry)) (places (now (out .entry))) (length (now (begins .entry)))) (length (now (out .entry))) ⌝ }
+    ensures begun { λ _. ⌜ now (begins .exit) ≡ laidStarts (chopCall (StageCalls.viewOfRow (now (view .entry))) (now (points .entry)) (now (starts .entry)) (places (now (out .entry))) (length (now (begins .entry)))) (length (now (begins .entry))) ⌝ }
+    ensures many { λ _. ⌜ now («points_out» .exit) ≡ StageCalls.pointCount (counted (chopCall (StageCalls.viewOfRow (now (view .entry))) (now (points .entry)) (now (starts .entry)) (places (now (out .entry))) (length (now (begins .entry))))) ⌝ }
+    ensures several { λ _. ⌜ now («paths_out» .exit) ≡ StageCalls.pathCount (counted (chopCall (StageCalls.viewOfRow (now (view .entry))) (now (points .entry)) (now (starts .entry)) (places (now (out .entry))) (length (now (begins .entry))))) ⌝ }
+{
+    let c = chop::chop_adaptive(view_from(view), points, starts, out, begins);
+    *points_out = point_count(c);
+    *paths_out = path_count(c);
+    counts_number(c)
+}
+
+// The paths simplified with a threshold: numbers 2, 4, 8 and 9, then 13. What is filled is as above.
+#[no_mangle]
+pub extern "C" fn larnt_simplify(
+    points: &[f64],
+    starts: &[usize],
+    threshold: f64,
+    out: &mut [f64],
+    begins: &mut [usize],
+    points_out: &mut usize,
+    paths_out: &mut usize,
+) -> u32
+    ensures answer { λ r. ⌜ r ≡ StageCalls.countsNumber (counted (simplifyCall (now (points .entry)) (now (starts .entry)) threshold (places (now (out .entry))) (length (now (begins .entry))))) ⌝ }
+    ensures laid { λ _. ⌜ now (out .exit) ≡ laidPoints (simplifyCall (now (points .entry)) (now (starts .entry)) threshold (places (now (out .entry))) (length (now (begins .entry)))) (length (now (out .entry))) ⌝ }
+    ensures begun { λ _. ⌜ now (begins .exit) ≡ laidStarts (simplifyCall (now (points .entry)) (now (starts .entry)) threshold (places (now (out .entry))) (length (now (begins .entry)))) (length (now (begins .entry))) ⌝ }
+    ensures many { λ _. ⌜ now («points_out» .exit) ≡ StageCalls.pointCount (counted (simplifyCall (now (points .entry)) (now (starts .entry)) threshold (places (now (out .entry))) (length (now (begins .entry))))) ⌝ }
+    ensures several { λ _. ⌜ now («paths_out» .exit) ≡ StageCalls.pathCount (counted (simplifyCall (now (points .entry)) (now (starts .entry)) threshold (places (now (out .entry))) (length (now (begins .entry))))) ⌝ }
+{
+    let c = simplify::simplify(points, starts, threshold, out, begins);
+    *points_out = point_count(c);
+    *paths_out = path_count(c);
+    counts_number(c)
+}

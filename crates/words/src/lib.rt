@@ -1,0 +1,128 @@
+// The words of 8 bytes of a slice of bytes, most significant byte first: read as numbers and as floats,
+// compared with floats, and copied to slices.
+ghost use mathlib.Core.Path.{_≡_};
+ghost use mathlib.Core.Bool.{cond};
+ghost use Prim.Native.Nat.{_+_, _*_, _≤_, _<_};
+ghost use lib.Dec.{eqb};
+ghost use lib.ListN.{length};
+ghost use Rattle.floats.specs.Arith.{bits};
+ghost use Rattle.words.specs.Words.{halfAt, wordAt, floatAt, sameBits, allSame, floatsFrom, marksFrom, countsFrom};
+
+fn wide(x: u8) -> u64
+    ensures { λ r. ⌜ (r ≡ x) × (r < 256) ⌝ }
+{
+    x as u64
+}
+
+// The four bytes from `at` on as a number.
+fn half(s: &[u8], at: usize) -> u64
+    requires { ⌜ at + 4 ≤ length (now s) ⌝ }
+    ensures { λ r. ⌜ (r ≡ halfAt (now (s .entry)) at) × (r < 0x1_0000_0000) ⌝ }
+{
+    let a = wide(s[at]);
+    let b = wide(s[at + 1]);
+    let c = wide(s[at + 2]);
+    let d = wide(s[at + 3]);
+    ((a * 256 + b) * 256 + c) * 256 + d
+}
+
+// Word k: the eight bytes from 8 * k on as a number.
+pub fn word(s: &[u8], k: usize) -> u64
+    requires { ⌜ 8 * k + 8 ≤ length (now s) ⌝ }
+    ensures { λ r. ⌜ r ≡ wordAt (now (s .entry)) k ⌝ }
+{
+    let at = 8 * k;
+    half(s, at) * 0x1_0000_0000 + half(s, at + 4)
+}
+
+// The f64 of a bit pattern.
+fn number(w: u64) -> f64
+    ensures { λ r. ⌜ r ≡ bits w ⌝ }
+{
+    if w % 0x8000_0000_0000_0000 <= 0x7ff0_0000_0000_0000 {
+        return f64::from_bits(w);
+    }
+    0.0 / 0.0
+}
+
+pub fn float_at(s: &[u8], k: usize) -> f64
+    requires { ⌜ 8 * k + 8 ≤ length (now s) ⌝ }
+    ensures { λ r. ⌜ r ≡ floatAt (now (s .entry)) k ⌝ }
+{
+    number(word(s, k))
+}
+
+// Whether v and the f64 of the pattern w are equal, as zeros of either sign are, or both NaN.
+pub fn same(v: f64, w: u64) -> bool
+    ensures { λ r. ⌜ r ≡ sameBits v w ⌝ }
+{
+    let x = number(w);
+    if v == x {
+        return true;
+    }
+    v != v && x != x
+}
+
+// Whether the words from k on are the patterns of v.
+pub fn all_same(v: &[f64], s: &[u8], k: usize) -> bool
+    requires { ⌜ 8 * (k + length (now v)) ≤ length (now s) ⌝ }
+    ensures { λ r. ⌜ r ≡ allSame (now (v .entry)) (now (s .entry)) k ⌝ }
+{
+    let mut i = 0;
+    while i < v.len() {
+        if !same(v[i], word(s, k + i)) {
+            return false;
+        }
+        i += 1;
+    }
+    true
+}
+
+// Whether word k is n.
+pub fn is(s: &[u8], k: usize, n: u64) -> bool
+    requires { ⌜ 8 * k + 8 ≤ length (now s) ⌝ }
+    ensures { λ r. ⌜ r ≡ eqb (wordAt (now (s .entry)) k) n ⌝ }
+{
+    word(s, k) == n
+}
+
+pub fn flag(b: bool) -> u64
+    ensures { λ r. ⌜ r ≡ cond b 1 0 ⌝ }
+{
+    if b { 1 } else { 0 }
+}
+
+// Fills a slice from the words from k on, `period` of them and then again from the first: as floats, as
+// numbers of 32 bits, as they are.
+pub fn fill_floats(xs: &mut [f64], s: &[u8], k: usize, period: usize)
+    requires { ⌜ (0 < period) × (8 * (k + period) ≤ length (now s)) ⌝ }
+    ensures { λ _. ⌜ now (xs .exit) ≡ floatsFrom (now (s .entry)) k period (length (now (xs .entry))) ⌝ }
+{
+    let mut j = 0;
+    while j < xs.len() {
+        xs[j] = float_at(s, k + j % period);
+        j += 1;
+    }
+}
+
+pub fn fill_marks(xs: &mut [u32], s: &[u8], k: usize, period: usize)
+    requires { ⌜ (0 < period) × (8 * (k + period) ≤ length (now s)) ⌝ }
+    ensures { λ _. ⌜ now (xs .exit) ≡ marksFrom (now (s .entry)) k period (length (now (xs .entry))) ⌝ }
+{
+    let mut j = 0;
+    while j < xs.len() {
+        xs[j] = (word(s, k + j % period) % 0x1_0000_0000) as u32;
+        j += 1;
+    }
+}
+
+pub fn fill_counts(xs: &mut [usize], s: &[u8], k: usize, period: usize)
+    requires { ⌜ (0 < period) × (8 * (k + period) ≤ length (now s)) ⌝ }
+    ensures { λ _. ⌜ now (xs .exit) ≡ countsFrom (now (s .entry)) k period (length (now (xs .entry))) ⌝ }
+{
+    let mut j = 0;
+    while j < xs.len() {
+        xs[j] = word(s, k + j % period) as usize;
+        j += 1;
+    }
+}

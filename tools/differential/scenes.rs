@@ -1,0 +1,119 @@
+//! Scenes: the check of their entries, and hits and insides of solids with parts.
+
+use crate::core::{CORE_SCENES, HOST_SCENES};
+use crate::harness::{Run, Share, time};
+use crate::scene_calls::{self, Found, RUST, SceneCalls, Words};
+use crate::scene_inputs::{self, Case};
+use oracle::check::parts;
+use oracle::generate::Rng;
+use std::cell::RefCell;
+use std::hint::black_box;
+
+type Sharing<'a> = [Share<'a, Case, Words>];
+
+pub fn compare(run: &mut Run) {
+    // a scene takes as long as many rays
+    let scenes = run.count.div_ceil(10);
+    let check = |calls: &SceneCalls, case: &Case| scene_calls::check(calls, &case.scene);
+    let shares: &Sharing = &[
+        ("accepted", &|_, a| a.0[0] == 0),
+        ("2", &|_, a| a.0[0] == 2),
+        ("3", &|_, a| a.0[0] == 3),
+        ("4", &|_, a| a.0[0] == 4),
+        ("5", &|_, a| a.0[0] == 5),
+        ("6", &|_, a| a.0[0] == 6),
+        ("7", &|_, a| a.0[0] == 7),
+        ("1,023 to 1,026 entries", &|case, _| case.scene.entries() > 1000),
+    ];
+    line(run, "check", scenes, scene_inputs::checked, check, shares);
+    let hit = |calls: &SceneCalls, case: &Case| {
+        scene_calls::own_hit(calls, &case.scene, case.i, case.asked[..].try_into().unwrap())
+    };
+    let shares: &Sharing = &[
+        ("hit", &|_, a| a.0[0] == 0 && a.0[2] == 1),
+        ("missed", &|_, a| a.0[0] == 0 && a.0[2] == 0),
+        ("missed through a placing", &|_, a| a.0[0] == 0 && a.0[2] == 0 && float(a.0[1]) != 1e9),
+        ("t no number", &|_, a| a.0[0] == 0 && float(a.0[1]).is_nan()),
+        ("11", &|_, a| a.0[0] == 11),
+        ("8", &|_, a| a.0[0] == 8),
+        ("2 to 7", &|_, a| (2..8).contains(&a.0[0])),
+        ("placed", &|case, _| kind(case) == 6),
+        ("cut", &|case, _| kind(case) == 7),
+        ("of parts with parts", &|case, _| nested(case)),
+    ];
+    line(run, "own_hit", run.count, scene_inputs::hit, hit, shares);
+    let contains = |calls: &SceneCalls, case: &Case| {
+        let p: &[f64; 3] = case.asked[..3].try_into().unwrap();
+        scene_calls::own_contains(calls, &case.scene, case.i, p, case.asked[3])
+    };
+    let shares: &Sharing = &[
+        ("inside", &|_, a| a.0[0] == 0 && a.0[1] == 1),
+        ("outside", &|_, a| a.0[0] == 0 && a.0[1] == 0),
+        ("2 to 7", &|_, a| a.0[0] != 0),
+        ("placed", &|case, _| kind(case) == 6),
+        ("cut", &|case, _| kind(case) == 7),
+        ("of parts with parts", &|case, _| nested(case)),
+    ];
+    line(run, "own_contains", run.count, scene_inputs::contains, contains, shares);
+}
+
+fn line(
+    run: &mut Run,
+    name: &str,
+    count: u64,
+    make: impl Fn(&mut Rng) -> Case,
+    answer: impl Fn(&SceneCalls, &Case) -> Words,
+    shares: &Sharing,
+) {
+    let cores: [&dyn Fn(&Case) -> Words; 2] =
+        [&|case| answer(&CORE_SCENES, case), &|case| answer(&HOST_SCENES, case)];
+    run.compare(name, count, make, |case| answer(&RUST, case), &cores, shares);
+}
+
+fn float(word: u64) -> f64 {
+    f64::from_bits(word)
+}
+
+fn marks(case: &Case, i: usize) -> &[u32] {
+    case.scene.marks.get(4 * i..4 * i + 4).unwrap_or(&[0; 4])
+}
+
+fn kind(case: &Case) -> u32 {
+    marks(case, case.i)[0]
+}
+
+fn nested(case: &Case) -> bool {
+    parts(marks(case, case.i)).iter().any(|part| marks(case, *part as usize)[0] >= 6)
+}
+
+/// Ordinary scenes of a few solids, and full ones; the hits are those of a few solids.
+pub fn speed() {
+    timed("check", 16, scene_inputs::ordinary, |calls, case, found| {
+        black_box((calls.check)(&case.scene, found));
+    });
+    timed("check (1,024)", 2, scene_inputs::full, |calls, case, found| {
+        black_box((calls.check)(&case.scene, found));
+    });
+    timed("own_hit", 16, scene_inputs::ordinary, |calls, case, _| {
+        let (mut t, mut ok) = (0.0, false);
+        let ray = case.asked[..].try_into().unwrap();
+        black_box((calls.own_hit)(&case.scene, case.i, ray, &mut t, &mut ok));
+    });
+}
+
+fn timed(
+    name: &str,
+    count: usize,
+    make: impl Fn(&mut Rng) -> Case,
+    call: impl Fn(&SceneCalls, &Case, &mut Found),
+) {
+    let mut rng = Rng::new(1);
+    let all: Vec<Case> = (0..count).map(|_| make(&mut rng)).collect();
+    let found = RefCell::new(scene_calls::unfilled());
+    let pass = |calls: &SceneCalls| {
+        for case in &all {
+            call(calls, case, &mut found.borrow_mut());
+        }
+    };
+    time(name, count, || pass(black_box(&RUST)), || pass(black_box(&CORE_SCENES)));
+}
