@@ -27,6 +27,7 @@ use Rattle.walk.specs.declared.Nearest.{Nearest}
 use Rattle.walk.specs.declared.Found.the-variants.{Best}
 use Rattle.walk.specs.Walks.{nothing, scan, backward, childrenOf, entriesOf, visit, walkOn, walkRows}
 use Rattle.nodes.specs.Members.{Sensible}
+use Rattle.nodes.proofs.NodeLaws.{node-at}
 use Rattle.walk.proofs.Steps.{walk-none, walk-gone, walk-skip, walk-leaf}
 use Rattle.walk.proofs.Stacks.{visits, visits-leaf, visits-split, onward-same, onward-best}
 
@@ -156,18 +157,6 @@ module _ (N : ℕ → Node) (places : ℕ) (order : List ℕ) where
           rw (← (drop-drop (length ls) start order)) (sym (drop-append-seam ls (take (length rs) (drop (length ls) (drop start order)))) ∙ ap (drop (length ls)) g ∙ drop-append-seam ls rs)
 
 -- ---- slices that begin with the rows of nodes
-pub node-at : (ns : List Node) (ys : List Float) (zs : List ℕ) (i : ℕ) (d : Node) → i < length ns → nodeAt (boxRows ns ++ ys) (markRows ns ++ zs) i ≡ getD ns i d
-node-at ns ys zs i d h =
-    let bs : List BBox = map (λ (n : Node). n .bx) ns in
-    let ms : List Triple = map marksOfNode ns in
-    let lb : length bs ≡ length ns = length-map ns (λ (n : Node). n .bx) in
-    let lm : length ms ≡ length ns = length-map ns marksOfNode in
-    let b : boxOfRow (row 6 i (boxRows ns ++ ys)) ≡ getD ns i d .bx =
-    sym (getD-view 6 boxOfRow (length bs) i (boxRows ns ++ ys) (d .bx) (omega arith)) ∙ ap (λ (l : List BBox). getD l i (d .bx)) (view-flat 6 boxOfRow boxRow (λ b. refl) (λ b. refl) bs ys) ∙ List·getD-map (λ (n : Node). n .bx) ns i d in
-    let m : tripleOf (row 3 i (markRows ns ++ zs)) ≡ marksOfNode (getD ns i d) =
-    sym (getD-view 3 tripleOf (length ms) i (markRows ns ++ zs) (marksOfNode d) (omega arith)) ∙ ap (λ (l : List Triple). getD l i (marksOfNode d)) (view-flat 3 tripleOf tripleRow (λ b. refl) (λ b. refl) ms zs) ∙ List·getD-map marksOfNode ns i d in
-    λ t. record { bx = b t; first = m t .a; count = m t .b; axis = m t .c }
-
 pub places-rows : (ns : List Node) (ys : List Float) (zs : List ℕ) → length ns ≤ placesOf (boxRows ns ++ ys) (markRows ns ++ zs)
 unfolding placesOf
 places-rows ns ys zs = go (ltb (length marks / 3) (length boxes / 6))

@@ -1,0 +1,22 @@
+use Rattle.cuts.specs.Cuts.{cutFilter}
+use Rattle.cuts.proofs.cut_filter.Statement.{statement}
+use Rattle.cuts.proofs.cut_filter.Tie as tie
+
+entry-contains-requires : tie.Need-entry-contains-requires
+entry-contains-requires c κs = tt
+
+returns : tie.Need-returns
+unfolding cutFilter
+returns c = rw (← (c .before .entry-contains .ensures), c .if1 .taken)
+
+returns-2 : tie.Need-returns-2
+unfolding cutFilter
+returns-2 c = rw (← (c .before .entry-contains .ensures), c .if1 .left)
+
+pub cut-filter-spec : {M : Type 1} → statement M
+cut-filter-spec =
+    tie.close
+    (tie.spec
+    entry-contains-requires
+    returns
+    returns-2)

@@ -1,0 +1,135 @@
+-- What a filter's stage leaves, for any test: the points that the test keeps, in order, and no point was refused.
+use mathlib.Core.Path.{_≡_, refl, sym, ap, _∙_}
+use mathlib.Core.Logic.{_⊎_, inl, inr}
+use mathlib.Core.Bool.{Bool, true, false, cond}
+use mathlib.Core.List.{List, [], _∷_, _++_, append-assoc, append-nil}
+use Prim.Native.Nat.{ℕ}
+use native.Mathlib.Omega.{arith}
+use lib.ListN.{length}
+use lib.Dec.{ltb}
+use Rattle.geometry.specs.declared.vector.Vector.{Vector}
+use Rattle.scene.specs.declared.refusal.Refusal.{Refusal}
+use Rattle.scene.specs.declared.refusal.Refusal.the-variants.{Room}
+use Rattle.nodes.specs.Members.{Member}
+use Rattle.paths.specs.Answers.{Answer, answered, refused, next}
+use Rattle.paths.specs.Paths.{Paths, pathsWith, push, opened, closed, pathsOf, each, noPaths, stage}
+use Rattle.filter.specs.Filter.{stepped, filteredFrom, pathFilter, filterPaths}
+use Rattle.filter.specs.declared.Test.{Test}
+use Rattle.filter.specs.declared.Test.the-variants.{Keep, Drop, Refused}
+
+-- a test that meets no refusal
+abbrev pub Answered : Test → Type 0
+Answered t = (k : Refusal) → t ≡ Refused k → ⊥
+
+-- a kept point stands before the others
+unfoldable pub before : Test → List Vector → List Vector
+before (Keep w) ws = w ∷ ws
+before Drop ws = ws
+before (Refused k) ws = ws
+
+-- the points that a test keeps, as it makes them, in order
+unfoldable pub kept : (Vector → Test) → List Vector → List Vector
+kept test [] = []
+kept test (v ∷ vs) = before (test v) (kept test vs)
+
+-- of all paths, one path after the other
+unfoldable pub keptOf : (Vector → Test) → List (List Vector) → List Vector
+keptOf test [] = []
+keptOf test (p ∷ ps) = kept test p ++ keptOf test ps
+
+-- each point of each path is answered
+abbrev pub AllAnswered : (Vector → Test) → List (List Vector) → Type 0
+AllAnswered test ps = (p : List Vector) → Member p ps → (v : Vector) → Member v p → Answered (test v)
+
+clash : {A : Type 0} {ℓA : Refusal} {x : A} → _≡_ {A = Answer A} (refused ℓA) (answered x) → ⊥
+clash e = let z : _≡_ {A = ℕ} 0 1 = cc in omega arith
+
+same : {A : Type 0} {x y : A} → _≡_ {A = Answer A} (answered x) (answered y) → x ≡ y
+same e = cc
+
+-- what is answered in the end was answered on the way
+went : {A B : Type 0} (a : Answer A) (f : A → Answer B) {y : B} → next a f ≡ answered y → (x : A) × (a ≡ answered x) × (f x ≡ answered y)
+went (answered x) f e = (x, refl, e)
+went (refused k) f e = absurd (clash e)
+
+pushed : {A : Type 0} (room : ℕ) (xs : List A) (x : A) {ys : List A} → push room xs x ≡ answered ys → ys ≡ xs ++ (x ∷ [])
+unfolding push
+pushed {A} room xs x {ys} e = go (ltb (length xs) room) e
+  where
+    go : (b : Bool) → cond b (answered (xs ++ (x ∷ []))) (refused Room) ≡ answered ys → ys ≡ xs ++ (x ∷ [])
+    go true e = sym (same e)
+    go false e = absurd (clash e)
+
+opened-points : (room : ℕ) (o : Paths) {q : Paths} → opened room o ≡ answered q → q .vertices ≡ o .vertices
+unfolding opened
+opened-points room o {q} e =
+    let w = went (push room (o .starts) (length (o .vertices))) (λ (ss : List ℕ). answered (pathsWith (o .vertices) ss)) e in
+    ap (λ (p : Paths). p .vertices) (sym (same (w .2)))
+
+closed-points : (o : Paths) → closed o .vertices ≡ o .vertices
+unfolding closed
+closed-points o = refl
+
+-- ---- one point
+step-points : (room startRoom : ℕ) (t : Test) (o : Paths) {q : Paths} → stepped room startRoom t o ≡ answered q → (q .vertices ≡ o .vertices ++ before t []) × Answered t
+unfolding stepped before
+step-points room startRoom (Keep w) o {q} e =
+    let s = went (push room (o .vertices) w) (λ (vs : List Vector). answered (pathsWith vs (o .starts))) e in
+    (ap (λ (p : Paths). p .vertices) (sym (same (s .2))) ∙ pushed room (o .vertices) w (s .1), λ k h. let z : _≡_ {A = ℕ} 0 1 = cc in omega arith)
+step-points room startRoom Drop o e = (opened-points startRoom (closed o) e ∙ closed-points o ∙ sym (append-nil (o .vertices)), λ k h. let z : _≡_ {A = ℕ} 0 1 = cc in omega arith)
+step-points room startRoom (Refused j) o e = absurd (clash e)
+
+before-append : (t : Test) (ws : List Vector) → before t [] ++ ws ≡ before t ws
+unfolding before
+before-append (Keep w) ws = refl
+before-append Drop ws = refl
+before-append (Refused k) ws = refl
+
+module _ (test : Vector → Test) (room startRoom : ℕ) where
+  -- ---- the points of a path
+  from-points : (vs : List Vector) (o : Paths) {q : Paths} → filteredFrom test room startRoom vs o ≡ answered q
+      → (q .vertices ≡ o .vertices ++ kept test vs) × ((v : Vector) → Member v vs → Answered (test v))
+  unfolding filteredFrom kept
+  from-points [] o e = (ap (λ (p : Paths). p .vertices) (sym (same e)) ∙ sym (append-nil (o .vertices)), λ v m. absurd m)
+  from-points (v ∷ vs) o {q} e =
+      let s = went (stepped room startRoom (test v) o) (filteredFrom test room startRoom vs) e in
+      let one = step-points room startRoom (test v) o (s .1) in
+      let more = from-points vs (s .0) (s .2) in (
+        more .0 ∙ ap (λ (l : List Vector). l ++ kept test vs) (one .0) ∙ append-assoc (o .vertices) (before (test v) []) (kept test vs)
+            ∙ ap (λ (l : List Vector). o .vertices ++ l) (before-append (test v) (kept test vs)),
+        λ u m. by u (one .1) (more .1) m,
+      )
+    where
+      by : (u : Vector) → Answered (test v) → ((u : Vector) → Member u vs → Answered (test u)) → (v ≡ u) ⊎ Member u vs → Answered (test u)
+      by u a b (inl h) = rw (← h) a
+      by u a b (inr m) = b u m
+
+  path-points : (p : List Vector) (o : Paths) {q : Paths} → pathFilter test room startRoom p o ≡ answered q
+      → (q .vertices ≡ o .vertices ++ kept test p) × ((v : Vector) → Member v p → Answered (test v))
+  unfolding pathFilter
+  path-points p o {q} e =
+      let s = went (opened startRoom o) (λ (u : Paths). next (filteredFrom test room startRoom p u) (λ (r : Paths). answered (closed r))) e in
+      let t = went (filteredFrom test room startRoom p (s .0)) (λ (r : Paths). answered (closed r)) (s .2) in
+      let f = from-points p (s .0) (t .1) in
+      (ap (λ (r : Paths). r .vertices) (sym (same (t .2))) ∙ closed-points (t .0) ∙ f .0 ∙ ap (λ (l : List Vector). l ++ kept test p) (opened-points startRoom o (s .1)), f .1)
+
+  -- ---- all paths
+  each-points : (ps : List (List Vector)) (o : Paths) {q : Paths} → each (pathFilter test room startRoom) ps o ≡ answered q
+      → (q .vertices ≡ o .vertices ++ keptOf test ps) × AllAnswered test ps
+  unfolding each keptOf
+  each-points [] o e = (ap (λ (p : Paths). p .vertices) (sym (same e)) ∙ sym (append-nil (o .vertices)), λ p m. absurd m)
+  each-points (p ∷ ps) o {q} e =
+      let s = went (pathFilter test room startRoom p o) (each (pathFilter test room startRoom) ps) e in
+      let one = path-points p o (s .1) in
+      let more = each-points ps (s .0) (s .2) in
+      (more .0 ∙ ap (λ (l : List Vector). l ++ keptOf test ps) (one .0) ∙ append-assoc (o .vertices) (kept test p) (keptOf test ps), λ u m. by u (one .1) (more .1) m)
+    where
+      by : (u : List Vector) → ((v : Vector) → Member v p → Answered (test v)) → AllAnswered test ps → (p ≡ u) ⊎ Member u ps → (v : Vector) → Member v u → Answered (test v)
+      by u a b (inl h) = rw (← h) a
+      by u a b (inr m) = b u m
+
+-- The points of a stage that is answered are those that the test keeps, in order, whatever the room; and each point was put to the test and answered.
+pub stage-keeps : (test : Vector → Test) (vs : List Vector) (ss : List ℕ) (room startRoom : ℕ) {q : Paths} → filterPaths test vs ss room startRoom ≡ answered q
+    → (q .vertices ≡ keptOf test (pathsOf vs ss)) × AllAnswered test (pathsOf vs ss)
+unfolding stage
+stage-keeps test vs ss room startRoom e = each-points test room startRoom (pathsOf vs ss) noPaths e
