@@ -5,7 +5,7 @@ use mathlib.Core.Bool.{Bool, true, false, cond, _||_}
 use Prim.Native.Nat.{ℕ, zero, suc, _+_, _-_, _*_, _/_, _≤_, _<_}
 use native.Mathlib.Omega.{arith}
 use native.Mathlib.Nat.{add-zero}
-use lib.ListN.{length, take, drop, getD, replicate, length-append, length-map, List·getD-append, List·getD-map}
+use lib.ListN.{length, take, drop, getD, replicate, length-append, length-map, List·getD-append}
 use lib.Seq.{getD-append-add, take-take, take-append-seam, take-add, drop-drop, drop-append-seam}
 use lib.Dec.{ltb, eqb, lit<}
 use borrow.Author.Tests.{lt-ltb, ne-eqb}
@@ -13,12 +13,10 @@ use lib.Ieee.{Float}
 use Rattle.floats.specs.Arith.{zeroF}
 use Rattle.geometry.specs.Boxes.{boxTest, skips}
 use Rattle.geometry.specs.declared.ray.Ray.{Ray}
-use Rattle.geometry.specs.declared.bounding_box.BBox.{BBox}
 use Rattle.rows.specs.Rows.{row, padded}
 use Rattle.rows.specs.Points.{boxOfRow, boxRow}
 use Rattle.rows.specs.Entries.{tripleOf, tripleRow}
-use Rattle.rows.specs.declared.Triple.{Triple}
-use Rattle.rows.proofs.RowLaws.{getD-row, getD-view, view-flat, length-flat, getD-padded}
+use Rattle.rows.proofs.RowLaws.{getD-row, length-flat, getD-padded}
 use Rattle.nodes.specs.Trees.{Tree, leaf, split, leaves, under, rootOf, belowOf, layout}
 use Rattle.nodes.specs.Nodes.{nodeAt, marksOfNode, placesOf, isLeaf, boxRows, markRows}
 use Rattle.nodes.specs.declared.Node.{Node}
