@@ -1,0 +1,48 @@
+use Rattle.lines.proofs.Adding.{adds-then, adds-as}
+use mathlib.Core.Path.{_∙_}
+use Rattle.lines.specs.Cubes.{across}
+use borrow.Author.Needs.{needs}
+use Rattle.lines.proofs.across.Statement.{statement}
+use Rattle.lines.proofs.across.Tie as tie
+
+new-requires : tie.Need-new-requires
+new-requires c κs = search needs
+
+new-requires-2 : tie.Need-new-requires-2
+new-requires-2 c κs = search needs
+
+line-requires : tie.Need-line-requires
+line-requires c κs = c .before .before .before .before .before .before .pre
+
+new-requires-3 : tie.Need-new-requires-3
+new-requires-3 c κs = search needs
+
+new-requires-4 : tie.Need-new-requires-4
+new-requires-4 c κs = search needs
+
+line-requires-2 : tie.Need-line-requires-2
+line-requires-2 c κs = c .before .before .before .before .before .before .before .before .line .ensures .ends .fits
+
+same-length : tie.Need-same-length
+same-length c = c .before .before .before .before .line2 .kept .1 .1 .1 .0 ∙ c .before .before .before .before .before .before .before .before .before .before .before .before .before .line .kept .1 .1 .1 .0
+
+same-length-2 : tie.Need-same-length-2
+same-length-2 c = c .before .before .before .before .line2 .kept .1 .1 .1 .1 .0 ∙ c .before .before .before .before .before .before .before .before .before .before .before .before .before .line .kept .1 .1 .1 .1 .0
+
+returns : tie.Need-returns
+unfolding across
+returns c = adds-as _ (across (c .before .before .before .before .before .before .before .before .before .before .before .before .before .before .before .before .before .before .before .before .args .s) (c .before .before .before .before .before .before .before .before .before .before .before .before .before .before .before .before .before .before .before .before .args .z)) (adds-then _ _ _ _ _ _ _ _ _ (c .before .before .before .before .before .before .before .before .before .before .before .before .before .line .ensures) (c .before .before .before .before .before .before .before .before .before .before .before .before .before .line .kept .1 .1 .1 .0) (c .before .before .before .before .before .before .before .before .before .before .before .before .before .line .kept .1 .1 .1 .1 .0) (c .before .before .before .before .line2 .ensures)) (rw (c .before .before .before .before .before .before .before .before .before .before .before .before .before .before .before .before .before .new .ensures, c .before .before .before .before .before .before .before .before .before .before .before .before .before .before .before .before .new2 .ensures, c .before .before .before .before .before .before .before .before .new3 .ensures, c .before .before .before .before .before .before .before .new4 .ensures))
+
+pub across-spec : {M : Type 1} → statement M
+across-spec =
+    tie.close
+    (tie.spec
+    new-requires
+    new-requires-2
+    line-requires
+    new-requires-3
+    new-requires-4
+    line-requires-2
+    same-length
+    same-length-2
+    returns)
