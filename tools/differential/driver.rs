@@ -1,11 +1,14 @@
-//! Compares the compiled core with larnt, and times both. A layer adds its module and its lines
-//! in `compare` and `speed`.
+//! Compares the compiled core with larnt, and times both. A layer adds its module and a line in
+//! `LAYERS`; those that are named run, or all.
 //!
-//!     driver compare SEED COUNT    COUNT cases a function; ends with 1 if anything differs
-//!     driver speed
+//!     driver compare SEED COUNT [LAYER..]   COUNT cases a function; ends with 1 if anything differs
+//!     driver speed [LAYER..]
+//!     driver demand SEED COUNT              COUNT questions of demand 3 on hiding; 1 if one is not met
+//!     driver stack
 
 mod calls;
 mod core;
+mod demand;
 mod harness;
 #[path = "../host/larnt.rs"]
 mod host;
@@ -14,37 +17,79 @@ mod leaves;
 mod scene_calls;
 mod scene_inputs;
 mod scenes;
+mod stack;
+mod stage_inputs;
+mod stages;
+mod tree_calls;
+mod tree_inputs;
+mod trees;
 
+use harness::Run;
 use std::process::ExitCode;
 
-fn compare(seed: u64, count: u64) -> ExitCode {
-    let mut run = harness::Run::new(seed, count);
-    leaves::compare(&mut run);
-    scenes::compare(&mut run);
-    if run.differences == 0 { ExitCode::SUCCESS } else { ExitCode::FAILURE }
+/// Its name, what it compares, and what it times.
+type Layer = (&'static str, fn(&mut Run), fn());
+
+const LAYERS: [Layer; 4] = [
+    ("leaves", leaves::compare, leaves::speed),
+    ("scenes", scenes::compare, scenes::speed),
+    ("trees", trees::compare, trees::speed),
+    ("stages", stages::compare, stages::speed),
+];
+
+fn layers(named: &[&str]) -> Option<Vec<Layer>> {
+    if !named.iter().all(|name| LAYERS.iter().any(|layer| layer.0 == *name)) {
+        return None;
+    }
+    let chosen = LAYERS.iter().filter(|layer| named.is_empty() || named.contains(&layer.0));
+    Some(chosen.copied().collect())
 }
 
-fn speed() -> ExitCode {
+fn compare(seed: u64, count: u64, layers: &[Layer]) -> bool {
+    let mut run = Run::new(seed, count);
+    for (_, compare, _) in layers {
+        compare(&mut run);
+    }
+    run.differences == 0
+}
+
+fn speed(layers: &[Layer]) -> bool {
     harness::times_header();
-    leaves::speed();
-    scenes::speed();
-    ExitCode::SUCCESS
+    for (_, _, speed) in layers {
+        speed();
+    }
+    true
+}
+
+/// Whether all is well, if the words can be read.
+fn command(words: &[&str]) -> Option<bool> {
+    match words {
+        ["compare", seed, count, named @ ..] => {
+            let count = count.parse().ok().filter(|count| *count > 0)?;
+            Some(compare(seed.parse().ok()?, count, &layers(named)?))
+        }
+        ["speed", named @ ..] => Some(speed(&layers(named)?)),
+        ["demand", seed, count] => Some(demand::run(seed.parse().ok()?, count.parse().ok()?)),
+        ["stack"] => {
+            stack::run();
+            Some(true)
+        }
+        _ => None,
+    }
 }
 
 fn main() -> ExitCode {
     let arguments: Vec<String> = std::env::args().skip(1).collect();
     let words: Vec<&str> = arguments.iter().map(String::as_str).collect();
-    match words[..] {
-        ["compare", seed, count] => match (seed.parse(), count.parse()) {
-            (Ok(seed), Ok(count)) if count > 0 => compare(seed, count),
-            _ => usage(),
-        },
-        ["speed"] => speed(),
-        _ => usage(),
+    // larnt recurses deeply
+    match oracle::with_stack(|| command(&words)) {
+        Some(true) => ExitCode::SUCCESS,
+        Some(false) => ExitCode::FAILURE,
+        None => {
+            eprintln!(
+                "usage: driver compare SEED COUNT [LAYER..] | speed [LAYER..] | demand SEED COUNT | stack"
+            );
+            ExitCode::from(2)
+        }
     }
-}
-
-fn usage() -> ExitCode {
-    eprintln!("usage: driver compare SEED COUNT | driver speed");
-    ExitCode::from(2)
 }

@@ -20,6 +20,9 @@ pub trait Shown {
 /// A name for some answers. The share of them tells how much the comparison bites.
 pub type Share<'a, I, A> = (&'a str, &'a dyn Fn(&I, &A) -> bool);
 
+/// The same of one question among those of a case.
+pub type Part<'a, I, A> = (&'a str, &'a dyn Fn(&I, usize, &A) -> bool);
+
 impl Run {
     pub fn new(seed: u64, count: u64) -> Run {
         println!("function            cases   differ  share           smallest differing input");
@@ -56,11 +59,65 @@ impl Run {
                 smallest = Some((size, format!("{i} rust {e} core {g}")));
             }
         }
+        let names: Vec<&str> = shares.iter().map(|(name, _)| *name).collect();
+        self.report(name, count, differ, &names, &counted, smallest);
+    }
+
+    /// The same where a case holds several questions: at least `count` of those are put. `one` is the
+    /// case of a single question.
+    pub fn compare_many<I: Shown, A: Shown + PartialEq>(
+        &mut self,
+        name: &str,
+        count: u64,
+        make: impl Fn(&mut Rng) -> I,
+        one: impl Fn(&I, usize) -> I,
+        rust: impl Fn(&I) -> Vec<A>,
+        cores: &[&dyn Fn(&I) -> Vec<A>],
+        shares: &[Part<I, A>],
+    ) {
+        let mut rng = Rng::new(self.seed ^ name_hash(name));
+        let (mut done, mut differ, mut counted) = (0, 0, vec![0; shares.len()]);
+        let mut smallest: Option<(u32, String)> = None;
+        while done < count {
+            let case = make(&mut rng);
+            let expected = rust(&case);
+            let answers: Vec<Vec<A>> = cores.iter().map(|core| core(&case)).collect();
+            for (k, e) in expected.iter().enumerate() {
+                done += 1;
+                for (counted, (_, counts)) in counted.iter_mut().zip(shares) {
+                    *counted += u64::from(counts(&case, k, e));
+                }
+                let Some(got) = answers.iter().map(|all| &all[k]).find(|got| *got != e) else {
+                    continue;
+                };
+                differ += 1;
+                let input = one(&case, k);
+                let size = input.size();
+                if smallest.as_ref().is_none_or(|(least, _)| size < *least) {
+                    let (i, e, g) = (input.text(), e.text(), got.text());
+                    smallest = Some((size, format!("{i} rust {e} core {g}")));
+                }
+            }
+        }
+        let names: Vec<&str> = shares.iter().map(|(name, _)| *name).collect();
+        self.report(name, done, differ, &names, &counted, smallest);
+    }
+
+    /// One line, whatever was compared.
+    pub fn report(
+        &mut self,
+        name: &str,
+        count: u64,
+        differ: u64,
+        shares: &[&str],
+        counted: &[u64],
+        smallest: Option<(u32, String)>,
+    ) {
         self.differences += differ;
         let text = smallest.map_or("-".to_string(), |(_, text)| text);
         let named = counted.iter().zip(shares);
         let shares: Vec<String> =
-            named.map(|(n, (share, _))| format!("{share} {}", percent(*n, count))).collect();
+            named.map(|(n, share)| format!("{share} {}", percent(*n, count))).collect();
         println!("{name:<18} {count:>8} {differ:>8}  {:<15} {text}", shares.join(", "));
     }
 }
@@ -89,7 +146,7 @@ impl<const N: usize> Shown for [u64; N] {
 }
 
 /// FNV-1a, so that each function has cases of its own, whatever stands before it.
-fn name_hash(name: &str) -> u64 {
+pub fn name_hash(name: &str) -> u64 {
     name.bytes()
         .fold(0xCBF2_9CE4_8422_2325, |h, b| (h ^ u64::from(b)).wrapping_mul(0x0000_0100_0000_01B3))
 }

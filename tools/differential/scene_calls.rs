@@ -71,7 +71,7 @@ pub fn own_contains(calls: &SceneCalls, scene: &Scene, i: usize, p: &[f64; 3], f
 }
 
 /// What stands in a place that a call is to fill.
-const UNFILLED: f64 = 7.0;
+pub const UNFILLED: f64 = 7.0;
 
 pub fn unfilled() -> Box<Found> {
     Box::new(Found {
@@ -82,12 +82,12 @@ pub fn unfilled() -> Box<Found> {
     })
 }
 
-fn put_floats(words: &mut Vec<u64>, slice: &[f64], results: usize) {
+pub fn put_floats(words: &mut Vec<u64>, slice: &[f64], results: usize) {
     let word = |k: usize| if k < results { alike(slice[k]) } else { slice[k].to_bits() };
     put(words, slice.len(), word);
 }
 
-fn put(words: &mut Vec<u64>, len: usize, word: impl Fn(usize) -> u64) {
+pub fn put(words: &mut Vec<u64>, len: usize, word: impl Fn(usize) -> u64) {
     let used = (0..len).rev().find(|k| word(*k) != 0).map_or(0, |last| last + 1);
     words.push(used as u64);
     words.extend((0..used).map(word));
@@ -132,13 +132,13 @@ fn rust_own_contains(scene: &Scene, i: usize, p: &[f64; 3], f: f64, inside: &mut
     number(&answer)
 }
 
-fn copy<T: Copy>(places: &mut [T], values: &[T]) {
+pub fn copy<T: Copy>(places: &mut [T], values: &[T]) {
     for (place, value) in places.iter_mut().zip(values) {
         *place = *value;
     }
 }
 
-fn number<T>(answer: &Answer<T>) -> u32 {
+pub fn number<T>(answer: &Answer<T>) -> u32 {
     match answer {
         Ok(_) => 0,
         Err(Trouble::Refused(number)) => *number,

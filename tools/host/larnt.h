@@ -58,6 +58,38 @@ uint32_t larnt_own_hit(LARNT_SCENE, size_t entry, const double ray[6], double *t
 /* Whether the solid at an entry, widened by f, contains a point. */
 uint32_t larnt_own_contains(LARNT_SCENE, size_t entry, const double point[3], double f, bool *inside);
 
+/* A tree: 6 numbers (box, min and max) and 3 marks a node (first child or first place in the order, count,
+   axis: 0 none, 1 X, 2 Y, 3 Z), and the drawn entries in the leaves' order. */
+#define LARNT_TREE \
+    const double *hulls, size_t hulls_count, const uint32_t *records, size_t records_count, \
+    const uint32_t *order, size_t order_count
+
+/* The tree of a scene's drawn entries, followed by zeros in each slice; count is how many nodes it has.
+   13 where a slice is too short. */
+uint32_t larnt_build(LARNT_SCENE, double *hulls, size_t hulls_count, uint32_t *records, size_t records_count,
+                     uint32_t *order, size_t order_count, size_t *count);
+
+/* The nearest hit on the tree that larnt_build made of the scene; 8 for the ray, 11 for a cut's restarts,
+   12 for the walk's waiting places. */
+uint32_t larnt_intersect(LARNT_SCENE, LARNT_TREE, const double ray[6], double *t, bool *ok);
+
+/* Whether the eye sees a point past the solids of that tree; 8 for the eye, 9 for the point, 11, 12. */
+uint32_t larnt_visible(LARNT_SCENE, LARNT_TREE, const double eye[3], const double point[3], bool *seen);
+
+/* Paths: three numbers a point, and where each path starts, in points. The result is followed by zeros in
+   both slices; what is counted is points and paths. Each answers 0, or the number of the refusal: 2 and 4
+   for the paths, 8 for the view or the threshold, 9 for a point, 13 where a slice is too short. */
+#define LARNT_PATHS \
+    double *out, size_t out_count, size_t *begins, size_t begins_count, size_t *points_out, size_t *paths_out
+
+/* The paths chopped for a view: matrix by rows (16), eye (3), width, height, step; 10 for its halvings. */
+uint32_t larnt_chop(const double view[22], const double *points, size_t points_count, const size_t *starts,
+                    size_t starts_count, LARNT_PATHS);
+
+/* The paths simplified. The call goes as deep as the path's vertices need: see docs/SPEED.md. */
+uint32_t larnt_simplify(const double *points, size_t points_count, const size_t *starts, size_t starts_count,
+                        double threshold, LARNT_PATHS);
+
 #ifdef __cplusplus
 }
 #endif

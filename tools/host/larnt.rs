@@ -61,6 +61,93 @@ pub mod raw {
             f: f64,
             inside: &mut bool,
         ) -> u32;
+        pub fn larnt_build(
+            numbers: *const f64,
+            numbers_count: usize,
+            marks: *const u32,
+            marks_count: usize,
+            points: *const f64,
+            points_count: usize,
+            starts: *const usize,
+            starts_count: usize,
+            owners: *const u32,
+            owners_count: usize,
+            hulls: *mut f64,
+            hulls_count: usize,
+            records: *mut u32,
+            records_count: usize,
+            order: *mut u32,
+            order_count: usize,
+            count: &mut usize,
+        ) -> u32;
+        pub fn larnt_intersect(
+            numbers: *const f64,
+            numbers_count: usize,
+            marks: *const u32,
+            marks_count: usize,
+            points: *const f64,
+            points_count: usize,
+            starts: *const usize,
+            starts_count: usize,
+            owners: *const u32,
+            owners_count: usize,
+            hulls: *const f64,
+            hulls_count: usize,
+            records: *const u32,
+            records_count: usize,
+            order: *const u32,
+            order_count: usize,
+            ray: &[f64; 6],
+            t: &mut f64,
+            ok: &mut bool,
+        ) -> u32;
+        pub fn larnt_visible(
+            numbers: *const f64,
+            numbers_count: usize,
+            marks: *const u32,
+            marks_count: usize,
+            points: *const f64,
+            points_count: usize,
+            starts: *const usize,
+            starts_count: usize,
+            owners: *const u32,
+            owners_count: usize,
+            hulls: *const f64,
+            hulls_count: usize,
+            records: *const u32,
+            records_count: usize,
+            order: *const u32,
+            order_count: usize,
+            eye: &[f64; 3],
+            p: &[f64; 3],
+            seen: &mut bool,
+        ) -> u32;
+        pub fn larnt_chop(
+            view: &[f64; 22],
+            points: *const f64,
+            points_count: usize,
+            starts: *const usize,
+            starts_count: usize,
+            out: *mut f64,
+            out_count: usize,
+            begins: *mut usize,
+            begins_count: usize,
+            points_out: &mut usize,
+            paths_out: &mut usize,
+        ) -> u32;
+        pub fn larnt_simplify(
+            points: *const f64,
+            points_count: usize,
+            starts: *const usize,
+            starts_count: usize,
+            threshold: f64,
+            out: *mut f64,
+            out_count: usize,
+            begins: *mut usize,
+            begins_count: usize,
+            points_out: &mut usize,
+            paths_out: &mut usize,
+        ) -> u32;
     }
 }
 
@@ -176,4 +263,125 @@ pub fn own_contains(s: Scene, entry: usize, p: &[f64; 3], f: f64) -> Result<bool
         0 => Ok(inside),
         number => Err(number),
     }
+}
+
+/// The rows of a tree, as `build` leaves them.
+#[derive(Clone, Copy)]
+pub struct Tree<'a> {
+    pub hulls: &'a [f64],
+    pub records: &'a [u32],
+    pub order: &'a [u32],
+}
+
+/// Fills the rows of the scene's tree and answers how many nodes it has, or the number of the refusal.
+pub fn build(
+    s: Scene,
+    hulls: &mut [f64],
+    records: &mut [u32],
+    order: &mut [u32],
+) -> Result<usize, u32> {
+    let mut count = 0;
+    let number = on_scene!(
+        larnt_build,
+        s,
+        hulls.as_mut_ptr(),
+        hulls.len(),
+        records.as_mut_ptr(),
+        records.len(),
+        order.as_mut_ptr(),
+        order.len(),
+        &mut count
+    );
+    if number == 0 { Ok(count) } else { Err(number) }
+}
+
+/// A raw call on a scene and the rows of its tree.
+macro_rules! on_tree {
+    ($call:ident, $s:expr, $t:expr, $($more:expr),*) => {{
+        let Tree { hulls, records, order } = $t;
+        on_scene!(
+            $call,
+            $s,
+            hulls.as_ptr(),
+            hulls.len(),
+            records.as_ptr(),
+            records.len(),
+            order.as_ptr(),
+            order.len(),
+            $($more),*
+        )
+    }};
+}
+
+/// The nearest hit on the scene's tree: its distance, and whether there is one.
+pub fn intersect(s: Scene, tree: Tree, ray: &[f64; 6]) -> Result<(f64, bool), u32> {
+    let (mut t, mut ok) = (0.0, false);
+    match on_tree!(larnt_intersect, s, tree, ray, &mut t, &mut ok) {
+        0 => Ok((t, ok)),
+        number => Err(number),
+    }
+}
+
+/// Whether the eye sees a point past the solids of the scene's tree.
+pub fn visible(s: Scene, tree: Tree, eye: &[f64; 3], p: &[f64; 3]) -> Result<bool, u32> {
+    let mut seen = false;
+    match on_tree!(larnt_visible, s, tree, eye, p, &mut seen) {
+        0 => Ok(seen),
+        number => Err(number),
+    }
+}
+
+/// Fills the chopped paths and answers how many points and paths there are. A view is the matrix by rows,
+/// the eye, width, height and step.
+pub fn chop(
+    view: &[f64; 22],
+    points: &[f64],
+    starts: &[usize],
+    out: &mut [f64],
+    begins: &mut [usize],
+) -> Result<(usize, usize), u32> {
+    let (mut n, mut m) = (0, 0);
+    let number = unsafe {
+        raw::larnt_chop(
+            view,
+            points.as_ptr(),
+            points.len(),
+            starts.as_ptr(),
+            starts.len(),
+            out.as_mut_ptr(),
+            out.len(),
+            begins.as_mut_ptr(),
+            begins.len(),
+            &mut n,
+            &mut m,
+        )
+    };
+    if number == 0 { Ok((n, m)) } else { Err(number) }
+}
+
+/// The same of the simplified paths.
+pub fn simplify(
+    points: &[f64],
+    starts: &[usize],
+    threshold: f64,
+    out: &mut [f64],
+    begins: &mut [usize],
+) -> Result<(usize, usize), u32> {
+    let (mut n, mut m) = (0, 0);
+    let number = unsafe {
+        raw::larnt_simplify(
+            points.as_ptr(),
+            points.len(),
+            starts.as_ptr(),
+            starts.len(),
+            threshold,
+            out.as_mut_ptr(),
+            out.len(),
+            begins.as_mut_ptr(),
+            begins.len(),
+            &mut n,
+            &mut m,
+        )
+    };
+    if number == 0 { Ok((n, m)) } else { Err(number) }
 }

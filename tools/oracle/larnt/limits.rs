@@ -61,6 +61,7 @@ thread_local! {
     static USED: Cell<Room> = const { Cell::new(Room::of(0)) };
     static TARGET: Cell<Target> = const { Cell::new(AT_OUT) };
     static HALVINGS: Cell<u32> = const { Cell::new(0) };
+    static DEEPEST: Cell<u32> = const { Cell::new(0) };
     static RESTARTS: Cell<u32> = const { Cell::new(0) };
     static JUDGING: Cell<bool> = const { Cell::new(true) };
     static PUT: Cell<usize> = const { Cell::new(0) };
@@ -72,6 +73,7 @@ pub fn begin(room: Room) {
     USED.set(Room::of(0));
     TARGET.set(AT_OUT);
     HALVINGS.set(0);
+    DEEPEST.set(0);
     RESTARTS.set(0);
     JUDGING.set(true);
     PUT.set(0);
@@ -117,6 +119,12 @@ pub fn halve() {
         refuse(10);
     }
     HALVINGS.set(HALVINGS.get() + 1);
+    DEEPEST.set(DEEPEST.get().max(HALVINGS.get()));
+}
+
+/// The deepest nesting of halvings in the run so far.
+pub fn deepest_halving() -> u32 {
+    DEEPEST.get()
 }
 
 /// Both halves are done.

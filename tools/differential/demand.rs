@@ -1,0 +1,149 @@
+//! Demand 3 on hiding, by brute force through the compiled library: for each eye and point, every
+//! solid's own box and own returned distance, against the eye test.
+
+use crate::core::CORE_SCENES;
+use crate::harness::{Shown, name_hash};
+use crate::host::raw::larnt_box_test;
+use crate::scene_calls::{Found, unfilled};
+use crate::tree_calls::{CORE, Rows};
+use crate::tree_inputs::{self, Rays};
+use crate::trees::length;
+use oracle::Scene;
+use oracle::generate::Rng;
+
+/// What is so of an eye and a point.
+#[derive(Clone, Copy, Default)]
+struct Truth {
+    answered: bool,
+    hidden: bool,
+    /// Some solid covers the point.
+    covered: bool,
+    /// Some solid's own distance falls short.
+    short: bool,
+    apart: bool,
+    minus_zero: bool,
+}
+
+#[derive(Default)]
+struct Tally {
+    questions: u64,
+    premise: u64,
+    covered: u64,
+    hidden: u64,
+    seen: u64,
+    refused: u64,
+    /// Covered, the premise holds, and yet visible.
+    lost: u64,
+    /// Hidden, and no solid's own distance falls short.
+    unfounded: u64,
+    /// Covered and yet visible, where only a -0 breaks the premise; the smallest of them.
+    excluded: u64,
+    smallest: Option<(u32, String)>,
+}
+
+/// Ends with whether the theorems hold and the premise on -0 is needed.
+pub fn run(seed: u64, count: u64) -> bool {
+    let mut rng = Rng::new(seed ^ name_hash("demand"));
+    let mut tally = Tally::default();
+    while tally.questions < count {
+        let case = tree_inputs::sights(&mut rng);
+        if case.scene.entries() <= 60 {
+            put(&mut tally, &case);
+        }
+    }
+    println!("questions                          {:>9}", tally.questions);
+    println!("  refused                          {:>9}", tally.refused);
+    println!("  visible                          {:>9}", tally.seen);
+    println!("  hidden                           {:>9}", tally.hidden);
+    println!("  covered, and the premise holds   {:>9}", tally.covered);
+    println!("  the premise holds                {:>9}", tally.premise);
+    println!("covered and premise, yet visible   {:>9}", tally.lost);
+    println!("hidden, yet nothing falls short    {:>9}", tally.unfounded);
+    let known = known();
+    let truth = truths(&known)[0];
+    let found = truth.answered && truth.covered && !truth.hidden && truth.minus_zero;
+    println!("with -0 admitted, covered yet visible {:>6}", tally.excluded);
+    if let Some((_, text)) = &tally.smallest {
+        println!("  the smallest: {text}");
+    }
+    println!("a box flat at x = 0 and one beside it, eye at x = -0: {}", known.text());
+    println!("  covered {}, hidden {}", truth.covered, truth.hidden);
+    tally.lost == 0 && tally.unfounded == 0 && found
+}
+
+/// A box flat at x = 0 and one beside it; the eye at x = -0 above the point.
+fn known() -> Rays {
+    let mut scene = Scene::default();
+    scene.push([4, 1, 0, 0], &[0.0, -1.0, 1.0, 0.0, 1.0, 2.0]);
+    scene.push([4, 1, 0, 0], &[1.0, -1.0, 1.0, 2.0, 1.0, 2.0]);
+    Rays { scene, asked: vec![[-0.0, 0.0, 5.0, 0.0, 0.0, 0.0]] }
+}
+
+fn put(tally: &mut Tally, case: &Rays) {
+    for (k, truth) in truths(case).into_iter().enumerate() {
+        tally.questions += 1;
+        if !truth.answered {
+            tally.refused += 1;
+            continue;
+        }
+        let premise = truth.apart && !truth.minus_zero;
+        tally.premise += u64::from(premise);
+        tally.hidden += u64::from(truth.hidden);
+        tally.seen += u64::from(!truth.hidden);
+        tally.covered += u64::from(truth.covered && premise);
+        tally.lost += u64::from(truth.covered && premise && !truth.hidden);
+        tally.unfounded += u64::from(truth.hidden && !truth.short);
+        if truth.covered && truth.apart && !premise && !truth.hidden {
+            tally.excluded += 1;
+            let one = case.one(k);
+            if tally.smallest.as_ref().is_none_or(|(least, _)| one.size() < *least) {
+                tally.smallest = Some((one.size(), one.text()));
+            }
+        }
+    }
+}
+
+fn truths(case: &Rays) -> Vec<Truth> {
+    let (mut found, mut rows) = (unfilled(), Rows::ample());
+    if (CORE_SCENES.check)(&case.scene, &mut found) != 0 {
+        return vec![Truth::default(); case.asked.len()];
+    }
+    (CORE.build)(&case.scene, &mut rows);
+    case.asked.iter().map(|asked| truth(&case.scene, &found, &rows, asked)).collect()
+}
+
+fn truth(scene: &Scene, found: &Found, rows: &Rows, asked: &[f64; 6]) -> Truth {
+    let (eye, point) = (asked.first_chunk().unwrap(), asked.last_chunk().unwrap());
+    let mut seen = false;
+    let number = (CORE.visible)(scene, rows, eye, point, &mut seen);
+    if number != 0 {
+        return Truth::default();
+    }
+    let distance = length(asked);
+    let d: [f64; 3] = std::array::from_fn(|k| (eye[k] - point[k]) / distance);
+    let ray = [point[0], point[1], point[2], d[0], d[1], d[2]];
+    let mut truth = Truth {
+        answered: true,
+        hidden: !seen,
+        apart: distance != 0.0,
+        minus_zero: d.iter().any(|x| *x == 0.0 && x.is_sign_negative()),
+        ..Truth::default()
+    };
+    if !truth.apart {
+        return truth;
+    }
+    for i in &found.drawn[..found.count] {
+        let i = *i as usize;
+        let (mut t, mut ok, mut span) = (0.0, false, [0.0; 2]);
+        // a number other than 0 is 11: it has no distance then
+        if (CORE_SCENES.own_hit)(scene, i, &ray, &mut t, &mut ok) != 0 {
+            continue;
+        }
+        larnt_box_test(found.boxes[6 * i..6 * i + 6].try_into().unwrap(), &ray, &mut span);
+        let [tmin, tmax] = span;
+        let passes = !(tmax < tmin) && !(tmax <= 0.0);
+        truth.short |= t < distance;
+        truth.covered |= passes && tmin <= t && t < distance;
+    }
+    truth
+}

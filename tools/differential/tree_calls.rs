@@ -1,0 +1,377 @@
+//! The calls on the tree of a scene, what they answer as words, and the oracle's own answers.
+
+use crate::calls::alike;
+use crate::host::{self, raw};
+use crate::scene_calls::{Found, MOST, UNFILLED, Words, copy, number, put, put_floats, unfilled};
+use crate::tree_inputs::{Build, Rays};
+use oracle::Scene;
+
+/// The most nodes of a tree.
+pub const NODES: usize = 2 * MOST - 1;
+
+/// What a build fills.
+pub struct Rows {
+    pub hulls: Vec<f64>,
+    pub records: Vec<u32>,
+    pub order: Vec<u32>,
+    pub count: usize,
+}
+
+impl Rows {
+    /// Slices of these lengths, with something in each place.
+    pub fn new(hulls: usize, records: usize, order: usize) -> Rows {
+        let (hulls, records) = (vec![UNFILLED; hulls], vec![7; records]);
+        Rows { hulls, records, order: vec![7; order], count: 7 }
+    }
+
+    /// With room for every tree.
+    pub fn ample() -> Rows {
+        Rows::new(6 * NODES, 3 * NODES, MOST)
+    }
+
+    fn lent(&self) -> host::Tree<'_> {
+        host::Tree { hulls: &self.hulls, records: &self.records, order: &self.order }
+    }
+}
+
+/// The calls as tools/host/larnt.h declares them; each answers 0 or the number of the refusal.
+pub struct TreeCalls {
+    pub build: fn(&Scene, &mut Rows) -> u32,
+    pub intersect: fn(&Scene, &Rows, &[f64; 6], &mut f64, &mut bool) -> u32,
+    pub visible: fn(&Scene, &Rows, &[f64; 3], &[f64; 3], &mut bool) -> u32,
+}
+
+pub const CORE: TreeCalls =
+    TreeCalls { build: core_build, intersect: core_intersect, visible: core_visible };
+
+pub const HOST: TreeCalls =
+    TreeCalls { build: host_build, intersect: host_intersect, visible: host_visible };
+
+/// A direct call on a scene.
+macro_rules! direct {
+    ($call:ident, $s:ident, $($more:expr),*) => {
+        unsafe {
+            raw::$call(
+                $s.numbers.as_ptr(),
+                $s.numbers.len(),
+                $s.marks.as_ptr(),
+                $s.marks.len(),
+                $s.points.as_ptr(),
+                $s.points.len(),
+                $s.starts.as_ptr(),
+                $s.starts.len(),
+                $s.owners.as_ptr(),
+                $s.owners.len(),
+                $($more),*
+            )
+        }
+    };
+}
+
+/// The same on its tree too.
+macro_rules! on_rows {
+    ($call:ident, $s:ident, $rows:ident, $($more:expr),*) => {
+        direct!(
+            $call,
+            $s,
+            $rows.hulls.as_ptr(),
+            $rows.hulls.len(),
+            $rows.records.as_ptr(),
+            $rows.records.len(),
+            $rows.order.as_ptr(),
+            $rows.order.len(),
+            $($more),*
+        )
+    };
+}
+
+fn core_build(s: &Scene, rows: &mut Rows) -> u32 {
+    let Rows { hulls, records, order, count } = rows;
+    direct!(
+        larnt_build,
+        s,
+        hulls.as_mut_ptr(),
+        hulls.len(),
+        records.as_mut_ptr(),
+        records.len(),
+        order.as_mut_ptr(),
+        order.len(),
+        count
+    )
+}
+
+fn core_intersect(s: &Scene, rows: &Rows, ray: &[f64; 6], t: &mut f64, ok: &mut bool) -> u32 {
+    on_rows!(larnt_intersect, s, rows, ray, t, ok)
+}
+
+fn core_visible(s: &Scene, rows: &Rows, eye: &[f64; 3], point: &[f64; 3], seen: &mut bool) -> u32 {
+    on_rows!(larnt_visible, s, rows, eye, point, seen)
+}
+
+/// A scene as a host in Rust hands it over.
+fn lent(s: &Scene) -> host::Scene<'_> {
+    host::Scene {
+        numbers: &s.numbers,
+        marks: &s.marks,
+        points: &s.points,
+        starts: &s.starts,
+        owners: &s.owners,
+    }
+}
+
+fn numbered<T: Default>(result: Result<T, u32>) -> (u32, T) {
+    match result {
+        Ok(value) => (0, value),
+        Err(number) => (number, T::default()),
+    }
+}
+
+fn host_build(s: &Scene, rows: &mut Rows) -> u32 {
+    let number;
+    let built = host::build(lent(s), &mut rows.hulls, &mut rows.records, &mut rows.order);
+    (number, rows.count) = numbered(built);
+    number
+}
+
+fn host_intersect(s: &Scene, rows: &Rows, ray: &[f64; 6], t: &mut f64, ok: &mut bool) -> u32 {
+    let number;
+    (number, (*t, *ok)) = numbered(host::intersect(lent(s), rows.lent(), ray));
+    number
+}
+
+fn host_visible(s: &Scene, rows: &Rows, eye: &[f64; 3], point: &[f64; 3], seen: &mut bool) -> u32 {
+    let number;
+    (number, *seen) = numbered(host::visible(lent(s), rows.lent(), eye, point));
+    number
+}
+
+/// The walk and the eye test of crate bench: on a scene that is checked already, with its inverses.
+mod bench {
+    #[link(name = "bench", kind = "static")]
+    unsafe extern "C" {
+        pub fn bench_intersect(
+            numbers: *const f64,
+            numbers_count: usize,
+            inverses: *const f64,
+            inverses_count: usize,
+            marks: *const u32,
+            marks_count: usize,
+            hulls: *const f64,
+            hulls_count: usize,
+            records: *const u32,
+            records_count: usize,
+            order: *const u32,
+            order_count: usize,
+            ray: &[f64; 6],
+            t: &mut f64,
+            ok: &mut bool,
+        ) -> u32;
+        pub fn bench_visible(
+            numbers: *const f64,
+            numbers_count: usize,
+            inverses: *const f64,
+            inverses_count: usize,
+            marks: *const u32,
+            marks_count: usize,
+            hulls: *const f64,
+            hulls_count: usize,
+            records: *const u32,
+            records_count: usize,
+            order: *const u32,
+            order_count: usize,
+            eye: &[f64; 3],
+            point: &[f64; 3],
+            seen: &mut bool,
+        ) -> u32;
+    }
+}
+
+/// A scene that is checked, and its tree.
+pub struct Checked<'a> {
+    pub scene: &'a Scene,
+    pub found: Box<Found>,
+    pub rows: Rows,
+}
+
+macro_rules! inner {
+    ($call:ident, $c:ident, $($more:expr),*) => {
+        unsafe {
+            bench::$call(
+                $c.scene.numbers.as_ptr(),
+                $c.scene.numbers.len(),
+                $c.found.inverses.as_ptr(),
+                $c.found.inverses.len(),
+                $c.scene.marks.as_ptr(),
+                $c.scene.marks.len(),
+                $c.rows.hulls.as_ptr(),
+                $c.rows.hulls.len(),
+                $c.rows.records.as_ptr(),
+                $c.rows.records.len(),
+                $c.rows.order.as_ptr(),
+                $c.rows.order.len(),
+                $($more),*
+            )
+        }
+    };
+}
+
+impl Checked<'_> {
+    /// By the core's calls; the number of the refusal if there is one.
+    pub fn new(scene: &Scene) -> Result<Checked<'_>, u32> {
+        let (mut found, mut rows) = (unfilled(), Rows::ample());
+        let check = crate::core::CORE_SCENES.check;
+        match check(scene, &mut found).max((CORE.build)(scene, &mut rows)) {
+            0 => Ok(Checked { scene, found, rows }),
+            number => Err(number),
+        }
+    }
+
+    pub fn intersect(&self, ray: &[f64; 6], t: &mut f64, ok: &mut bool) -> u32 {
+        inner!(bench_intersect, self, ray, t, ok)
+    }
+
+    pub fn visible(&self, eye: &[f64; 3], point: &[f64; 3], seen: &mut bool) -> u32 {
+        inner!(bench_visible, self, eye, point, seen)
+    }
+}
+
+// Answers as words.
+
+/// The answer, the count, then each slice: how much of it there is before zeros alone follow, and
+/// that. NaNs are written alike; zeros too, among the results.
+pub fn build(call: fn(&Scene, &mut Rows) -> u32, case: &Build) -> Words {
+    let [hulls, records, order] = case.lengths;
+    let mut rows = Rows::new(hulls, records, order);
+    let number = call(&case.scene, &mut rows);
+    let mut words = vec![u64::from(number), rows.count as u64];
+    put_floats(&mut words, &rows.hulls, 6 * rows.count);
+    put(&mut words, rows.records.len(), |k| u64::from(rows.records[k]));
+    put(&mut words, rows.order.len(), |k| u64::from(rows.order[k]));
+    Words(words)
+}
+
+pub fn rust_build(scene: &Scene, rows: &mut Rows) -> u32 {
+    let places = (rows.hulls.len() / 6).min(rows.records.len() / 3);
+    let answer = oracle::build(scene, places, rows.order.len());
+    rows.hulls.fill(0.0);
+    rows.records.fill(0);
+    rows.order.fill(0);
+    rows.count = 0;
+    if let Ok(built) = &answer {
+        copy(&mut rows.hulls, &built.boxes);
+        copy(&mut rows.records, &built.marks);
+        copy(&mut rows.order, &built.order);
+        rows.count = built.marks.len() / 3;
+    }
+    number(&answer)
+}
+
+/// Number, t and ok, or number and seen.
+pub type Told = [u64; 3];
+
+fn told_hit(number: u32, t: f64, ok: bool) -> Told {
+    let t = if number == 0 { alike(t) } else { t.to_bits() };
+    [u64::from(number), t, u64::from(ok)]
+}
+
+fn told_sight(number: u32, seen: bool) -> Told {
+    [u64::from(number), u64::from(seen), 0]
+}
+
+fn eye_and_point(asked: &[f64; 6]) -> (&[f64; 3], &[f64; 3]) {
+    (asked.first_chunk().unwrap(), asked.last_chunk().unwrap())
+}
+
+/// The public calls, directly and as a host in Rust makes them, in turn.
+pub fn core_hits(case: &Rays) -> Vec<Told> {
+    by_calls(case, |calls, rows, k, asked| {
+        let (mut t, mut ok) = (UNFILLED, k % 4 < 2);
+        let number = (calls.intersect)(&case.scene, rows, asked, &mut t, &mut ok);
+        told_hit(number, t, ok)
+    })
+}
+
+pub fn core_sights(case: &Rays) -> Vec<Told> {
+    by_calls(case, |calls, rows, k, asked| {
+        let mut seen = k % 4 < 2;
+        let (eye, point) = eye_and_point(asked);
+        let number = (calls.visible)(&case.scene, rows, eye, point, &mut seen);
+        told_sight(number, seen)
+    })
+}
+
+fn by_calls(case: &Rays, one: impl Fn(&TreeCalls, &Rows, usize, &[f64; 6]) -> Told) -> Vec<Told> {
+    let mut rows = Rows::ample();
+    (CORE.build)(&case.scene, &mut rows);
+    let asked = case.asked.iter().enumerate();
+    asked.map(|(k, a)| one(if k % 2 == 0 { &CORE } else { &HOST }, &rows, k, a)).collect()
+}
+
+/// The inner walk, where nothing is refused before it.
+pub fn inner_hits(case: &Rays) -> Vec<Told> {
+    inner(case, |checked, k, asked| {
+        if oracle::check::measures(asked).is_err() {
+            return told_hit(8, 0.0, false);
+        }
+        let (mut t, mut ok) = (UNFILLED, k % 4 < 2);
+        let number = checked.intersect(asked, &mut t, &mut ok);
+        told_hit(number, t, ok)
+    })
+}
+
+pub fn inner_sights(case: &Rays) -> Vec<Told> {
+    inner(case, |checked, k, asked| {
+        let (eye, point) = eye_and_point(asked);
+        if oracle::check::measures(eye).is_err() {
+            return told_sight(8, false);
+        }
+        if oracle::check::measures(point).is_err() {
+            return told_sight(9, false);
+        }
+        let mut seen = k % 4 < 2;
+        let number = checked.visible(eye, point, &mut seen);
+        told_sight(number, seen)
+    })
+}
+
+fn inner(case: &Rays, one: impl Fn(&Checked, usize, &[f64; 6]) -> Told) -> Vec<Told> {
+    match Checked::new(&case.scene) {
+        Err(number) => vec![[u64::from(number), 0, 0]; case.asked.len()],
+        Ok(checked) => {
+            case.asked.iter().enumerate().map(|(k, asked)| one(&checked, k, asked)).collect()
+        }
+    }
+}
+
+pub fn rust_hits(case: &Rays) -> Vec<Told> {
+    rust(case, |tree, asked| {
+        let answer = oracle::intersect_built(tree, *asked);
+        let (t, ok) = answer.as_ref().map_or((0.0, false), |hit| (hit.t, hit.ok));
+        told_hit(number(&answer), t, ok)
+    })
+}
+
+pub fn rust_sights(case: &Rays) -> Vec<Told> {
+    rust(case, |tree, asked| {
+        let (eye, point) = eye_and_point(asked);
+        // 9 precedes the test for a length of 0
+        let answer = oracle::visible_built(tree, *eye, *point);
+        told_sight(number(&answer), answer.unwrap_or(false))
+    })
+}
+
+fn rust(
+    case: &Rays,
+    one: impl Fn(&oracle::larnt_limited::tree::Tree<oracle::limited::Drawn>, &[f64; 6]) -> Told,
+) -> Vec<Told> {
+    match oracle::accepted(&case.scene) {
+        Err(trouble) => {
+            let number = number::<()>(&Err(trouble));
+            vec![[u64::from(number), 0, 0]; case.asked.len()]
+        }
+        Ok(entries) => {
+            let tree = oracle::tree(&entries);
+            case.asked.iter().map(|asked| one(&tree, asked)).collect()
+        }
+    }
+}
