@@ -41,7 +41,7 @@ keptOf test (p ∷ ps) = kept test p ++ keptOf test ps
 abbrev pub AllAnswered : (Vector → Test) → List (List Vector) → Type 0
 AllAnswered test ps = (p : List Vector) → Member p ps → (v : Vector) → Member v p → Answered (test v)
 
-clash : {A : Type 0} {ℓA : Refusal} {x : A} → _≡_ {A = Answer A} (refused ℓA) (answered x) → ⊥
+clash : {A : Type 0} {k : Refusal} {x : A} → _≡_ {A = Answer A} (refused k) (answered x) → ⊥
 clash e = let z : _≡_ {A = ℕ} 0 1 = cc in omega arith
 
 same : {A : Type 0} {x y : A} → _≡_ {A = Answer A} (answered x) (answered y) → x ≡ y
