@@ -62,6 +62,9 @@ pub fn checked(rng: &mut Rng) -> Case {
 
 /// An entry of a scene, and a ray aimed at it.
 pub fn hit(rng: &mut Rng) -> Case {
+    if rng.chance(3) {
+        return many_restarts(rng);
+    }
     let (mut case, grain) = aimed_at(rng);
     let ray = inputs::ray_to(rng, grain, &|rng| spot(rng, grain, &case.scene, case.i));
     case.asked = ray.to_vec();
@@ -92,17 +95,41 @@ pub fn ordinary(rng: &mut Rng) -> Case {
     }
 }
 
-/// A scene as large as it may be.
+/// A scene as large as it may be: cuts, placings and simple solids.
 pub fn full(rng: &mut Rng) -> Case {
+    loop {
+        let mut yard = Yard::new(rng);
+        while yard.scene.entries() < 1000 {
+            let about = inputs::place(yard.rng, yard.grain);
+            yard.cut_of_leaves(about);
+            let part = yard.leaf([0.0; 3]);
+            yard.placings(part, 1, about);
+        }
+        while yard.scene.entries() < 1024 {
+            yard.leaf([0.0; 3]);
+        }
+        if oracle::check(&yard.scene).is_ok() {
+            return Case { scene: yard.scene, i: 0, asked: Vec::new() };
+        }
+    }
+}
+
+/// A solid cut by one so small that its misses come back as 0.01 or so: the cut restarts every two
+/// centimetres on the way to the surface, which may be as far away as 64 restarts go, or farther.
+fn many_restarts(rng: &mut Rng) -> Case {
     let mut yard = Yard::new(rng);
-    while yard.scene.entries() < 1000 {
-        let about = inputs::place(yard.rng, yard.grain);
-        yard.cut_of_leaves(about);
-    }
-    while yard.scene.entries() < 1024 {
-        yard.leaf([0.0; 3]);
-    }
-    Case { scene: yard.scene, i: 0, asked: Vec::new() }
+    yard.grain = Grain::Any;
+    let about = inputs::place(yard.rng, yard.grain);
+    let (a, tiny) = (yard.leaf(about), yard.leaf([0.0; 3]));
+    let by = yard.rng.pick(&[1e-11, 1.1e-11, 0.8e-11]);
+    let b = yard.scene.push([6, 0, tiny, 0], &stretched([by; 3]));
+    yard.scene.push([7, 1, a, b], &[]);
+    let Yard { scene, grain, rng, .. } = yard;
+    let aim = spot(rng, grain, &scene, a as usize);
+    let origin = inputs::along(aim.point, aim.normal, rng.between(0.0, 2.0));
+    let d = aim.normal.map(|x| -x);
+    let asked = origin.into_iter().chain(d).collect();
+    Case { scene, i: 3, asked }
 }
 
 /// A scene of a few solids, and mostly one that isn't simple.
@@ -305,6 +332,9 @@ impl Yard<'_> {
     fn leaf(&mut self, about: Point) -> u32 {
         let kind = self.rng.pick(&[1, 1, 1, 2, 2, 3, 4, 4, 4, 5]);
         let mut n = inputs::solid(self.rng, self.grain, kind);
+        if kind == 3 && n[1] == 0.0 {
+            n[1] = 1.0;
+        }
         if matches!(kind, 1 | 4 | 5) {
             let to: Point = std::array::from_fn(|k| {
                 about[k] + inputs::metres(self.rng, self.grain) / 8.0

@@ -266,6 +266,17 @@ fn named(list: &mut List) {
     list.hit("an infinite scale in a cut", &cut_with(thin), down, |_, _, _| true);
 }
 
+/// The farthest that 64 restarts reach, and a little farther: the misses of a sphere so small come back
+/// as 0.01, so that the cut restarts every two centimetres.
+fn restarts(list: &mut List) {
+    let scene = cut_with(stretched([1e-11; 3]));
+    let ray = |k: u32| [0.0, 0.0, 1.0 + f64::from(k) / 1024.0, 0.0, 0.0, -1.0];
+    let refused = |k: &u32| record(&scene, Asked { i: 3, ray: ray(*k), ..DOWN }).1.hit.0 == 11;
+    let first = (0..10_000).find(refused).expect("too far");
+    list.hit("64 restarts", &scene, ray(first - 1), |n, _, _| n == 0);
+    list.hit("a 65th", &scene, ray(first), |n, _, _| n == 11);
+}
+
 fn boundaries(list: &mut List) {
     let above = 1e6f64.next_up();
     let mut s = cube();
@@ -333,6 +344,7 @@ fn main() -> std::io::Result<()> {
     let folder = std::env::args().nth(1).expect("usage: scene_lists FOLDER");
     let mut list = List::default();
     named(&mut list);
+    restarts(&mut list);
     boundaries(&mut list);
     let deep = |s: &Scene| s.entries() > 4;
     list.pick(6, scene_inputs::hit, |s, a| deep(s) && a.hit.0 == 0 && a.hit.2);

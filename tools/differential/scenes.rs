@@ -75,7 +75,7 @@ fn float(word: u64) -> f64 {
 }
 
 fn marks(case: &Case, i: usize) -> &[u32] {
-    case.scene.marks.get(4 * i..4 * i + 4).unwrap_or(&[0; 4])
+    case.scene.marks.chunks_exact(4).nth(i).unwrap_or(&[0; 4])
 }
 
 fn kind(case: &Case) -> u32 {

@@ -1,7 +1,7 @@
--- What the program counts: the records of 256 words with an answer that is not what the call gives.
+-- What the program counts: the records with an answer that is not what the call gives. A record is a list of 256 words, 2048 bytes.
 use mathlib.Core.Bool.{Bool, cond, _&&_}
 use mathlib.Core.List.{List}
-use Prim.Native.Nat.{ℕ, zero, suc, _+_, _*_, _%_}
+use Prim.Native.Nat.{ℕ, zero, suc, _+_, _%_}
 use lib.Dec.{leb, eqb}
 use lib.ListN.{getD}
 use Rattle.floats.specs.Arith.{zeroF}
@@ -12,6 +12,7 @@ use Rattle.geometry.specs.declared.ray.Ray.{Ray}
 use Rattle.rows.specs.Rows.{row, padded}
 use Rattle.parts.specs.Drawn.{drawn}
 use Rattle.accept.specs.Checks.{Scene, sceneOf, checkOf, inversesOf, boxesOf, ifAccepted}
+use Rattle.accept.specs.declared.Verdict.{Verdict}
 use Rattle.own.specs.Own.{ownHit, ownContains}
 use Rattle.own.specs.Answers.{verdictNumber, drawnCount, struckNumber, distance, met, containedNumber, inside}
 use Rattle.words.specs.Words.{wordAt, floatAt, sameBits, allSame, floatsFrom, marksFrom, countsFrom}
@@ -22,64 +23,77 @@ pointAt s k = vec (floatAt s k) (floatAt s (k + 1)) (floatAt s (k + 2))
 unfoldable pub rayAt : List ℕ → ℕ → Ray
 rayAt s k = rayOf (pointAt s k) (pointAt s (k + 3))
 
--- a record, from its first word k on: the lengths of the five slices, which its words fill over and over ..
-unfoldable pub sceneAt : List ℕ → ℕ → Scene
-sceneAt s k =
-    sceneOf (floatsFrom s (k + 16) 144 (wordAt s k))
-    (marksFrom s (k + 160) 36 (wordAt s (k + 1)))
-    (floatsFrom s (k + 196) 12 (wordAt s (k + 2)))
-    (countsFrom s (k + 208) 4 (wordAt s (k + 3)))
-    (marksFrom s (k + 212) 4 (wordAt s (k + 4)))
+-- the scene of a record: the lengths of its five slices, and the words that fill them over and over ..
+unfoldable pub sceneAt : List ℕ → Scene
+sceneAt r =
+    sceneOf (floatsFrom r 16 144 (wordAt r 0))
+    (marksFrom r 160 36 (wordAt r 1))
+    (floatsFrom r 196 12 (wordAt r 2))
+    (countsFrom r 208 4 (wordAt r 3))
+    (marksFrom r 212 4 (wordAt r 4))
 
 -- .. if they are not too long
-unfoldable pub fits : List ℕ → ℕ → Bool
-fits s k =
-    leb (wordAt s k) 16416
-    && (leb (wordAt s (k + 1)) 4104
-    && (leb (wordAt s (k + 2)) 32
-    && (leb (wordAt s (k + 3)) 8
-    && leb (wordAt s (k + 4)) 8)))
+unfoldable pub fits : List ℕ → Bool
+fits r =
+    leb (wordAt r 0) 16416
+    && (leb (wordAt r 1) 4104
+    && (leb (wordAt r 2) 32
+    && (leb (wordAt r 3) 8
+    && leb (wordAt r 4) 8)))
 
 abbrev pub flagOf : Bool → ℕ
 flagOf b = cond b 1 0
 
 -- the check: its number, how many entries are drawn, and row i of each of the three slices
-unfoldable pub checkRight : Scene → List ℕ → ℕ → Bool
-checkRight x s k =
+abbrev pub rowOf : List ℕ → ℕ
+rowOf r = wordAt r 5 % 1024
+
+abbrev pub numberRight : Verdict → List ℕ → Bool
+numberRight v r = eqb (wordAt r 216) (verdictNumber v)
+
+abbrev pub countRight : Verdict → List ℕ → Bool
+countRight v r = eqb (wordAt r 217) (drawnCount v)
+
+abbrev pub boxRight : Scene → Verdict → List ℕ → Bool
+boxRight x v r = allSame (row 6 (rowOf r) (padded zeroF 6144 (ifAccepted v (boxesOf x)))) r 218
+
+abbrev pub inverseRight : Scene → Verdict → List ℕ → Bool
+inverseRight x v r = allSame (row 16 (rowOf r) (padded zeroF 16384 (ifAccepted v (inversesOf x)))) r 224
+
+abbrev pub drawnRight : Scene → Verdict → List ℕ → Bool
+drawnRight x v r = eqb (wordAt r 245) (getD (padded 0 1024 (ifAccepted v (drawn (x .marks)))) (rowOf r) 0)
+
+unfoldable pub checkRight : Scene → List ℕ → Bool
+checkRight x r =
     let v = checkOf x in
-    let i = wordAt s (k + 5) % 1024 in
-    eqb (wordAt s (k + 216)) (verdictNumber v)
-    && (eqb (wordAt s (k + 217)) (drawnCount v)
-    && (allSame (row 6 i (padded zeroF 6144 (ifAccepted v (boxesOf x)))) s (k + 218)
-    && (allSame (row 16 i (padded zeroF 16384 (ifAccepted v (inversesOf x)))) s (k + 224)
-    && eqb (wordAt s (k + 245)) (getD (padded 0 1024 (ifAccepted v (drawn (x .marks)))) i 0))))
+    numberRight v r && (countRight v r && (boxRight x v r && (inverseRight x v r && drawnRight x v r)))
 
 -- the hit that entry i gives a ray: its number, t, and ok as 0 or 1
-unfoldable pub hitRight : Scene → List ℕ → ℕ → Bool
-hitRight x s k =
-    let h = ownHit x (wordAt s (k + 5)) (rayAt s (k + 6)) in
-    eqb (wordAt s (k + 240)) (struckNumber h)
-    && (sameBits (distance h) (wordAt s (k + 241))
-    && eqb (wordAt s (k + 242)) (flagOf (met h)))
+unfoldable pub hitRight : Scene → List ℕ → Bool
+hitRight x r =
+    let h = ownHit x (wordAt r 5) (rayAt r 6) in
+    eqb (wordAt r 240) (struckNumber h)
+    && (sameBits (distance h) (wordAt r 241)
+    && eqb (wordAt r 242) (flagOf (met h)))
 
 -- whether entry i, widened by f, contains a point: its number, and inside as 0 or 1
-unfoldable pub containsRight : Scene → List ℕ → ℕ → Bool
-containsRight x s k =
-    let c = ownContains x (wordAt s (k + 5)) (pointAt s (k + 12)) (floatAt s (k + 15)) in
-    eqb (wordAt s (k + 243)) (containedNumber c)
-    && eqb (wordAt s (k + 244)) (flagOf (inside c))
+unfoldable pub containsRight : Scene → List ℕ → Bool
+containsRight x r =
+    let c = ownContains x (wordAt r 5) (pointAt r 12) (floatAt r 15) in
+    eqb (wordAt r 243) (containedNumber c)
+    && eqb (wordAt r 244) (flagOf (inside c))
 
-unfoldable pub answersRight : Scene → List ℕ → ℕ → Bool
-answersRight x s k = checkRight x s k && (hitRight x s k && containsRight x s k)
+unfoldable pub answersRight : Scene → List ℕ → Bool
+answersRight x r = checkRight x r && (hitRight x r && containsRight x r)
 
-unfoldable pub right : List ℕ → ℕ → Bool
-right s k = fits s k && answersRight (sceneAt s k) s k
+unfoldable pub right : List ℕ → Bool
+right r = fits r && answersRight (sceneAt r) r
 
 -- 1 if the record is wrong, else 0
-abbrev pub missed : List ℕ → ℕ → ℕ
-missed s k = cond (right s k) 0 1
+abbrev pub missed : List ℕ → ℕ
+missed r = cond (right r) 0 1
 
 -- how many of the first records of s are wrong
 unfoldable pub wrongOf : List ℕ → ℕ → ℕ
 wrongOf s zero = 0
-wrongOf s (suc i) = wrongOf s i + missed s (256 * i)
+wrongOf s (suc i) = wrongOf s i + missed (row 2048 i s)

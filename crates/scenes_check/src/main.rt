@@ -1,5 +1,5 @@
 // Reads records of 256 words of 8 bytes, and writes how many there are and how many are wrong. A record
-// is a scene with what is asked of it, and the answers of the calls on it.
+// is a scene with what is asked of it, and the answers of the calls on it (specs/Records).
 ghost use mathlib.Core.Path.{_≡_};
 ghost use Prim.Native.Nat.{_+_, _*_, _/_, _≤_};
 ghost use lib.ListN.{length};
@@ -26,18 +26,23 @@ fn ray_at(s: &[u8], k: usize) -> Ray
     Ray::new(point_at(s, k), point_at(s, k + 3))
 }
 
-// For each call on the scene, whether the answers of the record that starts at word k are right.
+fn wide(x: u32) -> u64
+    ensures { λ r. ⌜ r ≡ x ⌝ }
+{
+    x as u64
+}
+
+// For each call on the scene, whether the answers of the record are right.
 fn check_right(
     numbers: &[f64],
     marks: &[u32],
     points: &[f64],
     starts: &[usize],
     owners: &[u32],
-    s: &[u8],
-    k: usize,
+    r: &[u8],
 ) -> bool
-    requires { ⌜ 8 * k + 2048 ≤ length (now s) ⌝ }
-    ensures { λ r. ⌜ r ≡ checkRight (sceneOf (now (numbers .entry)) (now (marks .entry)) (now (points .entry)) (now (starts .entry)) (now (owners .entry))) (now (s .entry)) k ⌝ }
+    requires { ⌜ length (now r) ≡ 2048 ⌝ }
+    ensures { λ b. ⌜ b ≡ checkRight (sceneOf (now (numbers .entry)) (now (marks .entry)) (now (points .entry)) (now (starts .entry)) (now (owners .entry))) (now (r .entry)) ⌝ }
 {
     let mut inverses = [0.0; 16384];
     let mut boxes = [0.0; 6144];
@@ -52,22 +57,22 @@ fn check_right(
         &mut boxes,
         &mut drawn,
     );
-    if !words::is(s, k + 216, own::answers::verdict_number(v) as u64) {
+    if !words::is(r, 216, wide(own::answers::verdict_number(v))) {
         return false;
     }
-    if !words::is(s, k + 217, own::answers::drawn_count(v) as u64) {
+    if !words::is(r, 217, own::answers::drawn_count(v) as u64) {
         return false;
     }
-    let i = (words::word(s, k + 5) % 1024) as usize;
+    let i = (words::word(r, 5) % 1024) as usize;
     let b = i * 6;
-    if !words::all_same(&boxes[b..b + 6], s, k + 218) {
+    if !words::all_same(&boxes[b..b + 6], r, 218) {
         return false;
     }
     let m = i * 16;
-    if !words::all_same(&inverses[m..m + 16], s, k + 224) {
+    if !words::all_same(&inverses[m..m + 16], r, 224) {
         return false;
     }
-    words::is(s, k + 245, drawn[i] as u64)
+    words::is(r, 245, wide(drawn[i]))
 }
 
 fn hit_right(
@@ -76,21 +81,20 @@ fn hit_right(
     points: &[f64],
     starts: &[usize],
     owners: &[u32],
-    s: &[u8],
-    k: usize,
+    r: &[u8],
 ) -> bool
-    requires { ⌜ 8 * k + 2048 ≤ length (now s) ⌝ }
-    ensures { λ r. ⌜ r ≡ hitRight (sceneOf (now (numbers .entry)) (now (marks .entry)) (now (points .entry)) (now (starts .entry)) (now (owners .entry))) (now (s .entry)) k ⌝ }
+    requires { ⌜ length (now r) ≡ 2048 ⌝ }
+    ensures { λ b. ⌜ b ≡ hitRight (sceneOf (now (numbers .entry)) (now (marks .entry)) (now (points .entry)) (now (starts .entry)) (now (owners .entry))) (now (r .entry)) ⌝ }
 {
-    let i = words::word(s, k + 5) as usize;
-    let h = own::own_hit(numbers, marks, points, starts, owners, i, ray_at(s, k + 6));
-    if !words::is(s, k + 240, own::answers::struck_number(h) as u64) {
+    let i = words::word(r, 5) as usize;
+    let h = own::own_hit(numbers, marks, points, starts, owners, i, ray_at(r, 6));
+    if !words::is(r, 240, wide(own::answers::struck_number(h))) {
         return false;
     }
-    if !words::same(own::answers::distance(h), words::word(s, k + 241)) {
+    if !words::same(own::answers::distance(h), words::word(r, 241)) {
         return false;
     }
-    words::is(s, k + 242, words::flag(own::answers::met(h)))
+    words::is(r, 242, words::flag(own::answers::met(h)))
 }
 
 fn contains_right(
@@ -99,13 +103,12 @@ fn contains_right(
     points: &[f64],
     starts: &[usize],
     owners: &[u32],
-    s: &[u8],
-    k: usize,
+    r: &[u8],
 ) -> bool
-    requires { ⌜ 8 * k + 2048 ≤ length (now s) ⌝ }
-    ensures { λ r. ⌜ r ≡ containsRight (sceneOf (now (numbers .entry)) (now (marks .entry)) (now (points .entry)) (now (starts .entry)) (now (owners .entry))) (now (s .entry)) k ⌝ }
+    requires { ⌜ length (now r) ≡ 2048 ⌝ }
+    ensures { λ b. ⌜ b ≡ containsRight (sceneOf (now (numbers .entry)) (now (marks .entry)) (now (points .entry)) (now (starts .entry)) (now (owners .entry))) (now (r .entry)) ⌝ }
 {
-    let i = words::word(s, k + 5) as usize;
+    let i = words::word(r, 5) as usize;
     let c = own::own_contains(
         numbers,
         marks,
@@ -113,13 +116,13 @@ fn contains_right(
         starts,
         owners,
         i,
-        point_at(s, k + 12),
-        words::float_at(s, k + 15),
+        point_at(r, 12),
+        words::float_at(r, 15),
     );
-    if !words::is(s, k + 243, own::answers::contained_number(c) as u64) {
+    if !words::is(r, 243, wide(own::answers::contained_number(c))) {
         return false;
     }
-    words::is(s, k + 244, words::flag(own::answers::inside(c)))
+    words::is(r, 244, words::flag(own::answers::inside(c)))
 }
 
 fn answers_right(
@@ -128,81 +131,79 @@ fn answers_right(
     points: &[f64],
     starts: &[usize],
     owners: &[u32],
-    s: &[u8],
-    k: usize,
+    r: &[u8],
 ) -> bool
-    requires { ⌜ 8 * k + 2048 ≤ length (now s) ⌝ }
-    ensures { λ r. ⌜ r ≡ answersRight (sceneOf (now (numbers .entry)) (now (marks .entry)) (now (points .entry)) (now (starts .entry)) (now (owners .entry))) (now (s .entry)) k ⌝ }
+    requires { ⌜ length (now r) ≡ 2048 ⌝ }
+    ensures { λ b. ⌜ b ≡ answersRight (sceneOf (now (numbers .entry)) (now (marks .entry)) (now (points .entry)) (now (starts .entry)) (now (owners .entry))) (now (r .entry)) ⌝ }
 {
-    if !check_right(numbers, marks, points, starts, owners, s, k) {
+    if !check_right(numbers, marks, points, starts, owners, r) {
         return false;
     }
-    if !hit_right(numbers, marks, points, starts, owners, s, k) {
+    if !hit_right(numbers, marks, points, starts, owners, r) {
         return false;
     }
-    contains_right(numbers, marks, points, starts, owners, s, k)
+    contains_right(numbers, marks, points, starts, owners, r)
 }
 
 // Whether the slices of the record have room.
-fn fits(s: &[u8], k: usize) -> bool
-    requires { ⌜ 8 * k + 2048 ≤ length (now s) ⌝ }
-    ensures { λ r. ⌜ r ≡ fitsOf (now (s .entry)) k ⌝ }
+fn fits(r: &[u8]) -> bool
+    requires { ⌜ length (now r) ≡ 2048 ⌝ }
+    ensures { λ b. ⌜ b ≡ fitsOf (now (r .entry)) ⌝ }
 {
-    if words::word(s, k) > 16416 {
+    if words::word(r, 0) > 16416 {
         return false;
     }
-    if words::word(s, k + 1) > 4104 {
+    if words::word(r, 1) > 4104 {
         return false;
     }
-    if words::word(s, k + 2) > 32 {
+    if words::word(r, 2) > 32 {
         return false;
     }
-    if words::word(s, k + 3) > 8 {
+    if words::word(r, 3) > 8 {
         return false;
     }
-    words::word(s, k + 4) <= 8
+    words::word(r, 4) <= 8
 }
 
-// Whether the record that starts at word k is right.
-fn right(s: &[u8], k: usize) -> bool
-    requires { ⌜ 8 * k + 2048 ≤ length (now s) ⌝ }
-    ensures { λ r. ⌜ r ≡ rightOf (now (s .entry)) k ⌝ }
+// Whether the record is right.
+fn right(r: &[u8]) -> bool
+    requires { ⌜ length (now r) ≡ 2048 ⌝ }
+    ensures { λ b. ⌜ b ≡ rightOf (now (r .entry)) ⌝ }
 {
-    if !fits(s, k) {
+    if !fits(r) {
         return false;
     }
-    let a = words::word(s, k) as usize;
-    let b = words::word(s, k + 1) as usize;
-    let c = words::word(s, k + 2) as usize;
-    let d = words::word(s, k + 3) as usize;
-    let e = words::word(s, k + 4) as usize;
+    let a = words::word(r, 0) as usize;
+    let b = words::word(r, 1) as usize;
+    let c = words::word(r, 2) as usize;
+    let d = words::word(r, 3) as usize;
+    let e = words::word(r, 4) as usize;
     let mut numbers = [0.0; 16416];
     let mut marks = [0u32; 4104];
     let mut points = [0.0; 32];
     let mut starts = [0usize; 8];
     let mut owners = [0u32; 8];
-    words::fill_floats(&mut numbers[..a], s, k + 16, 144);
-    words::fill_marks(&mut marks[..b], s, k + 160, 36);
-    words::fill_floats(&mut points[..c], s, k + 196, 12);
-    words::fill_counts(&mut starts[..d], s, k + 208, 4);
-    words::fill_marks(&mut owners[..e], s, k + 212, 4);
+    words::fill_floats(&mut numbers, a, r, 16, 144);
+    words::fill_marks(&mut marks, b, r, 160, 36);
+    words::fill_floats(&mut points, c, r, 196, 12);
+    words::fill_counts(&mut starts, d, r, 208, 4);
+    words::fill_marks(&mut owners, e, r, 212, 4);
     answers_right(
         &numbers[..a],
         &marks[..b],
         &points[..c],
         &starts[..d],
         &owners[..e],
-        s,
-        k,
+        r,
     )
 }
 
 // 1 if the record is wrong, else 0.
-fn miss(s: &[u8], k: usize) -> u64
-    requires { ⌜ 8 * k + 2048 ≤ length (now s) ⌝ }
-    ensures { λ n. ⌜ (n ≡ missed (now (s .entry)) k) × (n ≤ 1) ⌝ }
+fn miss(r: &[u8]) -> u64
+    requires { ⌜ length (now r) ≡ 2048 ⌝ }
+    ensures { λ n. ⌜ (n ≡ missed (now (r .entry))) × (n ≤ 1) ⌝ }
 {
-    if right(s, k) { 0 } else { 1 }
+    if right(r) { 0 } else { 1 }
 }
 
 // How many of the records are wrong.
@@ -213,7 +214,8 @@ fn wrong(s: &[u8]) -> u64
     let mut n: u64 = 0;
     let mut i = 0usize;
     while i < count {
-        n += miss(s, 256 * i);
+        let at = i * 2048;
+        n += miss(&s[at..at + 2048]);
         i += 1;
     }
     n

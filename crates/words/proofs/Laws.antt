@@ -7,7 +7,7 @@ use native.Mathlib.Numerals.{add-one}
 use native.Mathlib.Nat.{add-zero}
 use native.Mathlib.Omega.{arith}
 use lib.ListN.{length, take, drop, set, getD, drop-of-length-le, length-set}
-use lib.Seq.{drop-cons, take-all, take-suc-set}
+use lib.Seq.{drop-cons, take-suc-set}
 use lib.Ieee.{Float, nan, isNan, eq, ne, div, ofBits}
 use Rattle.floats.specs.Arith.{_⊘_, bits, zeroF}
 use Rattle.floats.proofs.Tests.{ne-self}
@@ -51,24 +51,22 @@ module _ (v : List Float) (s : List ℕ) (k : ℕ) where
   left-end i h l = sym (ap (λ (u : List Float). allSame u s (k + i)) (drop-of-length-le v {i = i} l)) ∙ h .left
 
 -- the loops that fill: what f gives stands before place j
-pub record Filled {A : Type 0} (f : ℕ → A) (n j : ℕ) (xs : List A) : Type 0 where
+pub record Filled {A : Type 0} (f : ℕ → A) (L n j : ℕ) (xs : List A) : Type 0 where
   pub upto : j ≤ n
-  pub whole : length xs ≡ n
+  pub whole : length xs ≡ L
   pub done : take j xs ≡ listTo f j
 
-module _ {A : Type 0} (f : ℕ → A) (n : ℕ) where
-  pub filled-start : (xs : List A) → length xs ≡ n → Filled f n 0 xs
+module _ {A : Type 0} (f : ℕ → A) (L n : ℕ) where
+  pub filled-start : (xs : List A) → length xs ≡ L → Filled f L n 0 xs
   unfolding listTo
   filled-start xs e = record { upto = omega arith; whole = e; done = refl }
 
-  pub filled-turn : (j : ℕ) (xs : List A) {x : A} → Filled f n j xs → j < n → x ≡ f j → Filled f n (j + 1) (set xs j x)
-  filled-turn j xs {x} h l e = record {
+  pub filled-turn : (j : ℕ) (xs : List A) {x : A} → n ≤ L → Filled f L n j xs → j < n → x ≡ f j → Filled f L n (j + 1) (set xs j x)
+  filled-turn j xs {x} fit h l e = record {
     upto = omega arith;
     whole = length-set xs j x ∙ h .whole;
     done = ap (λ (m : ℕ). take m (set xs j x)) (add-one j) ∙ take-suc-set xs j x (omega (arith, h .whole)) ∙ rw (h .done, e) (sym (list-more f j));
   }
 
-  pub filled-end : (j : ℕ) (xs : List A) → Filled f n j xs → n ≤ j → xs ≡ listTo f n
-  filled-end j xs h l =
-      let e : j ≡ n = omega (arith, h .upto) in
-      sym (take-all j xs (omega (arith, h .whole))) ∙ h .done ∙ ap (listTo f) e
+  pub filled-end : (j : ℕ) (xs : List A) → Filled f L n j xs → n ≤ j → take n xs ≡ listTo f n
+  filled-end j xs h l = let e : j ≡ n = omega (arith, h .upto) in rw (← e) (h .done)

@@ -4,7 +4,7 @@ ghost use mathlib.Core.Path.{_≡_};
 ghost use mathlib.Core.Bool.{cond};
 ghost use Prim.Native.Nat.{_+_, _*_, _≤_, _<_};
 ghost use lib.Dec.{eqb};
-ghost use lib.ListN.{length};
+ghost use lib.ListN.{length, take};
 ghost use Rattle.floats.specs.Arith.{bits};
 ghost use Rattle.words.specs.Words.{halfAt, wordAt, floatAt, sameBits, allSame, floatsFrom, marksFrom, countsFrom};
 
@@ -92,36 +92,36 @@ pub fn flag(b: bool) -> u64
     if b { 1 } else { 0 }
 }
 
-// Fills a slice from the words from k on, `period` of them and then again from the first: as floats, as
-// numbers of 32 bits, as they are.
-pub fn fill_floats(xs: &mut [f64], s: &[u8], k: usize, period: usize)
-    requires { ⌜ (0 < period) × (8 * (k + period) ≤ length (now s)) ⌝ }
-    ensures { λ _. ⌜ now (xs .exit) ≡ floatsFrom (now (s .entry)) k period (length (now (xs .entry))) ⌝ }
+// Fills the first n places of a slice from the words from k on, `period` of them and then again from the
+// first: as floats, as numbers of 32 bits, as they are.
+pub fn fill_floats(xs: &mut [f64], n: usize, s: &[u8], k: usize, period: usize)
+    requires { ⌜ (n ≤ length (now xs)) × ((0 < period) × (8 * (k + period) ≤ length (now s))) ⌝ }
+    ensures { λ _. ⌜ take n (now (xs .exit)) ≡ floatsFrom (now (s .entry)) k period n ⌝ }
 {
     let mut j = 0;
-    while j < xs.len() {
+    while j < n {
         xs[j] = float_at(s, k + j % period);
         j += 1;
     }
 }
 
-pub fn fill_marks(xs: &mut [u32], s: &[u8], k: usize, period: usize)
-    requires { ⌜ (0 < period) × (8 * (k + period) ≤ length (now s)) ⌝ }
-    ensures { λ _. ⌜ now (xs .exit) ≡ marksFrom (now (s .entry)) k period (length (now (xs .entry))) ⌝ }
+pub fn fill_marks(xs: &mut [u32], n: usize, s: &[u8], k: usize, period: usize)
+    requires { ⌜ (n ≤ length (now xs)) × ((0 < period) × (8 * (k + period) ≤ length (now s))) ⌝ }
+    ensures { λ _. ⌜ take n (now (xs .exit)) ≡ marksFrom (now (s .entry)) k period n ⌝ }
 {
     let mut j = 0;
-    while j < xs.len() {
+    while j < n {
         xs[j] = (word(s, k + j % period) % 0x1_0000_0000) as u32;
         j += 1;
     }
 }
 
-pub fn fill_counts(xs: &mut [usize], s: &[u8], k: usize, period: usize)
-    requires { ⌜ (0 < period) × (8 * (k + period) ≤ length (now s)) ⌝ }
-    ensures { λ _. ⌜ now (xs .exit) ≡ countsFrom (now (s .entry)) k period (length (now (xs .entry))) ⌝ }
+pub fn fill_counts(xs: &mut [usize], n: usize, s: &[u8], k: usize, period: usize)
+    requires { ⌜ (n ≤ length (now xs)) × ((0 < period) × (8 * (k + period) ≤ length (now s))) ⌝ }
+    ensures { λ _. ⌜ take n (now (xs .exit)) ≡ countsFrom (now (s .entry)) k period n ⌝ }
 {
     let mut j = 0;
-    while j < xs.len() {
+    while j < n {
         xs[j] = word(s, k + j % period) as usize;
         j += 1;
     }

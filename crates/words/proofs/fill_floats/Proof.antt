@@ -10,34 +10,34 @@ use Rattle.words.proofs.fill_floats.Statement.{statement}
 use Rattle.words.proofs.fill_floats.Tie as tie
 
 abbrev Inv-loop : tie.InvT-loop
-Inv-loop xs₀ s k period j₀ xs j = Filled (λ i. floatAt s (k + i % period)) (length xs₀) j xs
+Inv-loop xs₀ n s k period j₀ xs j = Filled (λ i. floatAt s (k + i % period)) (length xs₀) n j xs
 
 abbrev μ-loop : tie.MeasureT-loop
-μ-loop xs₀ s k period j₀ xs j = length xs₀ - j
+μ-loop xs₀ n s k period j₀ xs j = n - j
 
 loop-holds : tie.Need-loop-holds Inv-loop μ-loop
-loop-holds c = filled-start _ _ _ refl
+loop-holds c = filled-start _ _ _ _ refl
 
 rem-float-at : tie.Need-rem-float-at Inv-loop μ-loop
 rem-float-at c = omega (arith, c .before .before .before .before .pre)
 
 add-float-at : tie.Need-add-float-at Inv-loop μ-loop
-add-float-at c = omega (arith, c .before .before .before .before .pre, mod-lt (c .before .loop .j) (c .before .before .before .before .pre .0))
+add-float-at c = omega (arith, c .before .before .before .before .pre, mod-lt (c .before .loop .j) (c .before .before .before .before .pre .1 .0))
 
 float-at-requires : tie.Need-float-at-requires Inv-loop μ-loop
-float-at-requires c κs = omega (arith, c .before .before .before .before .pre, mod-lt (c .before .loop .j) (c .before .before .before .before .pre .0))
+float-at-requires c κs = omega (arith, c .before .before .before .before .pre, mod-lt (c .before .loop .j) (c .before .before .before .before .pre .1 .0))
 
 slice-write-xs : tie.Need-slice-write-xs Inv-loop μ-loop
-slice-write-xs c = omega (arith, c .before .before .loop .inv .whole, c .before .loop-test)
+slice-write-xs c = omega (arith, c .before .before .before .before .before .pre .0, c .before .before .loop .inv .whole, c .before .loop-test .taken)
 
 loop-again : tie.Need-loop-again Inv-loop μ-loop
-loop-again c = filled-turn _ _ _ _ (c .before .before .loop .inv) (omega (arith, c .before .before .loop .inv .whole, c .before .loop-test .taken)) (c .float-at .ensures)
+loop-again c = filled-turn _ _ _ _ _ (c .before .before .before .before .before .pre .0) (c .before .before .loop .inv) (c .before .loop-test .taken) (c .float-at .ensures)
 
 same-length : tie.Need-same-length Inv-loop μ-loop
 same-length c = c .before .loop .inv .whole
 
 returns : tie.Need-returns Inv-loop μ-loop
-returns c = filled-end _ _ _ _ (c .before .loop .inv) (omega (arith, c .before .loop .inv .whole, c .loop-test .left))
+returns c = filled-end _ _ _ _ _ (c .before .loop .inv) (c .loop-test .left)
 
 pub fill-floats-spec : {M : Type 1} → statement M
 fill-floats-spec =

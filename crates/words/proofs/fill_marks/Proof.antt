@@ -10,34 +10,34 @@ use Rattle.words.proofs.fill_marks.Statement.{statement}
 use Rattle.words.proofs.fill_marks.Tie as tie
 
 abbrev Inv-loop : tie.InvT-loop
-Inv-loop xs₀ s k period j₀ xs j = Filled (λ i. wordAt s (k + i % period) % 0x1_0000_0000) (length xs₀) j xs
+Inv-loop xs₀ n s k period j₀ xs j = Filled (λ i. wordAt s (k + i % period) % 0x1_0000_0000) (length xs₀) n j xs
 
 abbrev μ-loop : tie.MeasureT-loop
-μ-loop xs₀ s k period j₀ xs j = length xs₀ - j
+μ-loop xs₀ n s k period j₀ xs j = n - j
 
 loop-holds : tie.Need-loop-holds Inv-loop μ-loop
-loop-holds c = filled-start _ _ _ refl
+loop-holds c = filled-start _ _ _ _ refl
 
 rem-word : tie.Need-rem-word Inv-loop μ-loop
 rem-word c = omega (arith, c .before .before .before .before .pre)
 
 add-word : tie.Need-add-word Inv-loop μ-loop
-add-word c = omega (arith, c .before .before .before .before .pre, mod-lt (c .before .loop .j) (c .before .before .before .before .pre .0))
+add-word c = omega (arith, c .before .before .before .before .pre, mod-lt (c .before .loop .j) (c .before .before .before .before .pre .1 .0))
 
 word-requires : tie.Need-word-requires Inv-loop μ-loop
-word-requires c κs = omega (arith, c .before .before .before .before .pre, mod-lt (c .before .loop .j) (c .before .before .before .before .pre .0))
+word-requires c κs = omega (arith, c .before .before .before .before .pre, mod-lt (c .before .loop .j) (c .before .before .before .before .pre .1 .0))
 
 slice-write-xs : tie.Need-slice-write-xs Inv-loop μ-loop
-slice-write-xs c = omega (arith, c .before .before .loop .inv .whole, c .before .loop-test)
+slice-write-xs c = omega (arith, c .before .before .before .before .before .pre .0, c .before .before .loop .inv .whole, c .before .loop-test .taken)
 
 loop-again : tie.Need-loop-again Inv-loop μ-loop
-loop-again c = filled-turn _ _ _ _ (c .before .before .loop .inv) (omega (arith, c .before .before .loop .inv .whole, c .before .loop-test .taken)) (ap (λ (w : ℕ). w % 0x1_0000_0000) (c .word .ensures))
+loop-again c = filled-turn _ _ _ _ _ (c .before .before .before .before .before .pre .0) (c .before .before .loop .inv) (c .before .loop-test .taken) (ap (λ (w : ℕ). w % 0x1_0000_0000) (c .word .ensures))
 
 same-length : tie.Need-same-length Inv-loop μ-loop
 same-length c = c .before .loop .inv .whole
 
 returns : tie.Need-returns Inv-loop μ-loop
-returns c = filled-end _ _ _ _ (c .before .loop .inv) (omega (arith, c .before .loop .inv .whole, c .loop-test .left))
+returns c = filled-end _ _ _ _ _ (c .before .loop .inv) (c .loop-test .left)
 
 pub fill-marks-spec : {M : Type 1} → statement M
 fill-marks-spec =

@@ -1,0 +1,13 @@
+use native.Mathlib.Omega.{arith}
+use borrow.Author.Needs.{needs}
+use Rattle.scenes_check.proofs.miss.Statement.{statement}
+use Rattle.scenes_check.proofs.miss.Tie as tie
+
+returns : tie.Need-returns
+returns c = (simp (← c .before .right .ensures, c .if1 .taken), omega arith)
+
+returns-2 : tie.Need-returns-2
+returns-2 c = (simp (← c .before .right .ensures, c .if1 .left), omega arith)
+
+pub miss-spec : {M : Type 1} → statement M
+miss-spec = tie.close (tie.spec (λ c κs. search needs) returns returns-2)
