@@ -9,6 +9,7 @@ use crate::tree_calls::{CORE, Rows};
 use crate::tree_inputs::{self, Rays};
 use crate::trees::length;
 use oracle::Scene;
+use oracle::check::parts;
 use oracle::generate::Rng;
 
 /// What is so of an eye and a point.
@@ -16,8 +17,9 @@ use oracle::generate::Rng;
 struct Truth {
     answered: bool,
     hidden: bool,
-    /// Some solid covers the point.
+    /// Some solid covers the point, and which entry that is.
     covered: bool,
+    by: usize,
     /// Some solid's own distance falls short.
     short: bool,
     apart: bool,
@@ -36,6 +38,8 @@ struct Tally {
     lost: u64,
     /// Hidden, and no solid's own distance falls short.
     unfounded: u64,
+    /// Covered, the premise holds, and the covering solid alone in a scene doesn't hide it.
+    brought_back: u64,
     /// Covered and yet visible, where only a -0 breaks the premise; the smallest of them.
     excluded: u64,
     smallest: Option<(u32, String)>,
@@ -59,6 +63,7 @@ pub fn run(seed: u64, count: u64) -> bool {
     println!("  the premise holds                {:>9}", tally.premise);
     println!("covered and premise, yet visible   {:>9}", tally.lost);
     println!("hidden, yet nothing falls short    {:>9}", tally.unfounded);
+    println!("visible past the coverer alone     {:>9}", tally.brought_back);
     let known = known();
     let truth = truths(&known)[0];
     let found = truth.answered && truth.covered && !truth.hidden && truth.minus_zero;
@@ -68,7 +73,7 @@ pub fn run(seed: u64, count: u64) -> bool {
     }
     println!("a box flat at x = 0 and one beside it, eye at x = -0: {}", known.text());
     println!("  covered {}, hidden {}", truth.covered, truth.hidden);
-    tally.lost == 0 && tally.unfounded == 0 && found
+    tally.lost == 0 && tally.unfounded == 0 && tally.brought_back == 0 && found
 }
 
 /// A box flat at x = 0 and one beside it; the eye at x = -0 above the point.
@@ -93,6 +98,11 @@ fn put(tally: &mut Tally, case: &Rays) {
         tally.covered += u64::from(truth.covered && premise);
         tally.lost += u64::from(truth.covered && premise && !truth.hidden);
         tally.unfounded += u64::from(truth.hidden && !truth.short);
+        if truth.covered && premise {
+            let scene = alone(&case.scene, truth.by);
+            let again = truths(&Rays { scene, asked: vec![case.asked[k]] })[0];
+            tally.brought_back += u64::from(!again.covered || !again.hidden);
+        }
         if truth.covered && truth.apart && !premise && !truth.hidden {
             tally.excluded += 1;
             let one = case.one(k);
@@ -101,6 +111,27 @@ fn put(tally: &mut Tally, case: &Rays) {
             }
         }
     }
+}
+
+/// The solid at an entry, with all others removed.
+fn alone(scene: &Scene, i: usize) -> Scene {
+    let mut kept = vec![false; i + 1];
+    kept[i] = true;
+    for k in (0..=i).rev() {
+        if kept[k] {
+            parts(scene.marks_of(k)).iter().for_each(|part| kept[*part as usize] = true);
+        }
+    }
+    let mut alone = Scene::default();
+    let mut moved = vec![0; i + 1];
+    for k in (0..=i).filter(|k| kept[*k]) {
+        let mut marks: [u32; 4] = scene.marks_of(k).try_into().unwrap();
+        for place in 2..2 + parts(&marks).len() {
+            marks[place] = moved[marks[place] as usize];
+        }
+        moved[k] = alone.push(marks, scene.numbers_of(k));
+    }
+    alone
 }
 
 fn truths(case: &Rays) -> Vec<Truth> {
@@ -143,7 +174,9 @@ fn truth(scene: &Scene, found: &Found, rows: &Rows, asked: &[f64; 6]) -> Truth {
         let [tmin, tmax] = span;
         let passes = !(tmax < tmin) && !(tmax <= 0.0);
         truth.short |= t < distance;
-        truth.covered |= passes && tmin <= t && t < distance;
+        if passes && tmin <= t && t < distance {
+            (truth.covered, truth.by) = (true, i);
+        }
     }
     truth
 }

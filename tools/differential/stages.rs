@@ -138,7 +138,7 @@ pub fn compare(run: &mut Run) {
     run.compare("chop", run.count, stage_inputs::chop, rust, &cores, shares);
     let longest = run.count.div_ceil(10);
     run.compare("chop.longest", longest, stage_inputs::longest, rust, &cores, &shares[..1]);
-    println!("the deepest nesting of halvings: {}", deepest.get());
+    println!("(the deepest nesting of halvings: {})", deepest.get());
 
     let shares: &Sharing = &[
         ("simplified", &|_, a| a.0[0] == 0),
