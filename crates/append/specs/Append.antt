@@ -1,7 +1,7 @@
 -- Paths appended to others (`Paths::extend` of path.rs).
 use mathlib.Core.Path.{_≡_}
 use mathlib.Core.List.{List, map}
-use Prim.Native.Nat.{ℕ, _+_, _≤_, _<_}
+use Prim.Native.Nat.{ℕ, _+_, _^_, _≤_, _<_}
 use lib.ListN.{length, getD}
 use Rattle.geometry.specs.declared.vector.Vector.{Vector}
 use Rattle.paths.specs.Answers.{Answer, answered, next}
@@ -20,3 +20,7 @@ appended room startRoom p q =
 -- no start is beyond n points
 abbrev pub Low : ℕ → List ℕ → Type 0
 Low n ss = (j : ℕ) → j < length ss → getD ss j 0 ≤ n
+
+-- starts that can be moved on by n are still starts of a `usize`
+abbrev pub Movable : ℕ → List ℕ → Type 0
+Movable n ss = (j : ℕ) → j < length ss → getD ss j 0 + n < 2 ^ 64

@@ -4,7 +4,7 @@ ghost use Prim.Native.Nat.{_+_, _*_, _/_, _≤_};
 ghost use lib.ListN.{length, take, drop};
 ghost use lib.Seq.{sets};
 ghost use Rattle.paths.specs.Ends.{held, EndsBoth};
-ghost use Rattle.append.specs.Append.{Low, shifted, appended};
+ghost use Rattle.append.specs.Append.{Low, Movable, shifted, appended};
 use paths::Counts;
 use scene::refusal::Refusal;
 
@@ -21,8 +21,8 @@ fn copy(xs: &mut [f64], from: usize, to: usize, count: usize)
 }
 
 // The starts from `from` on, so many, are written from `to` on too, each `by` later.
-fn shift(ss: &mut [usize], from: usize, to: usize, count: usize, by: usize, upto: usize)
-    requires { ⌜ (to + count ≤ from) × ((from + count ≤ length (now ss)) × (Low upto (take count (drop from (now ss))) × (upto + by ≤ 18446744073709551615))) ⌝ }
+fn shift(ss: &mut [usize], from: usize, to: usize, count: usize, by: usize)
+    requires { ⌜ (to + count ≤ from) × ((from + count ≤ length (now ss)) × Movable by (take count (drop from (now ss)))) ⌝ }
     ensures { λ _. ⌜ now (ss .exit) ≡ sets (now (ss .entry)) to (shifted by (take count (drop from (now (ss .entry))))) ⌝ }
 {
     let mut j = 0;
@@ -53,7 +53,7 @@ pub fn append(
     if wide / 3 - n < p {
         return Counts::Refused(Refusal::Room);
     }
-    shift(begins, many, m, q, n, p);
+    shift(begins, many, m, q, n);
     copy(work, wide, n * 3, p * 3);
     Counts::Both(n + p, m + q)
 }
