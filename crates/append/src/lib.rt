@@ -22,7 +22,7 @@ fn copy(xs: &mut [f64], from: usize, to: usize, count: usize)
 
 // The starts from `from` on, so many, are written from `to` on too, each `by` later.
 fn shift(ss: &mut [usize], from: usize, to: usize, count: usize, by: usize)
-    requires { ⌜ (to + count ≤ from) × ((from + count ≤ length (now ss)) × Movable by (take count (drop from (now ss)))) ⌝ }
+    requires { ⌜ (to + count ≤ from) × (from + count ≤ length (now ss)) × Movable by (take count (drop from (now ss))) ⌝ }
     ensures { λ _. ⌜ now (ss .exit) ≡ sets (now (ss .entry)) to (shifted by (take count (drop from (now (ss .entry))))) ⌝ }
 {
     let mut j = 0;
@@ -44,7 +44,7 @@ pub fn append(
     p: usize,
     q: usize,
 ) -> Counts
-    requires { ⌜ ((n * 3 ≤ wide) × (m ≤ many)) × (((p * 3 ≤ wide) × (q ≤ many)) × (((wide + wide ≤ length (now work)) × (many + many ≤ length (now begins))) × Low p (take q (drop many (now begins))))) ⌝ }
+    requires { ⌜ (n * 3 ≤ wide) × (m ≤ many) × (p * 3 ≤ wide) × (q ≤ many) × (wide + wide ≤ length (now work)) × (many + many ≤ length (now begins)) × Low p (take q (drop many (now begins))) ⌝ }
     ensures { λ r. ⌜ EndsBoth (appended (wide / 3) many (held n (take wide (now (work .entry))) m (take many (now (begins .entry)))) (held p (take wide (drop wide (now (work .entry)))) q (take many (drop many (now (begins .entry)))))) (take wide (now (work .exit))) (take many (now (begins .exit))) r ⌝ }
 {
     if many - m < q {

@@ -1,3 +1,6 @@
+use lib.Ieee.{Float, nan}
+use Rattle.append.proofs.Copying.{Copying, copying-start, copying-turn, copied-end}
+use Prim.Native.Nat.{_-_}
 use borrow.Author.Needs.{needs}
 use Rattle.append.proofs.copy.Statement.{statement}
 use Rattle.append.proofs.copy.Tie as tie
@@ -5,14 +8,14 @@ use Rattle.append.proofs.copy.Reads as reads
 use Rattle.append.proofs.copy.Lts as lts
 
 abbrev Inv-loop : tie.InvT-loop
-Inv-loop xs₀ from to count j₀ xs j = ?
+Inv-loop xs₀ from to count j₀ xs j = Copying (λ (x : Float). x) xs₀ from to count xs j
 
 abbrev μ-loop : tie.MeasureT-loop
-μ-loop xs₀ from to count j₀ xs j = ?
+μ-loop xs₀ from to count j₀ xs j = count - j
 
 -- src/lib.rt:17:5
 loop-holds : tie.Need-loop-holds Inv-loop μ-loop
-loop-holds c = search needs
+loop-holds c = copying-start (λ (x : Float). x) _ _ _ _ (c .pre .0) (c .pre .1)
 
 -- src/lib.rt:18:25
 add-xs : tie.Need-add-xs Inv-loop μ-loop
@@ -48,15 +51,15 @@ loop-less c = search needs
 
 -- src/lib.rt:17:5
 loop-again : tie.Need-loop-again Inv-loop μ-loop
-loop-again c = search needs
+loop-again c = copying-turn (λ (x : Float). x) _ _ _ _ _ _ (c .before .before .loop .inv) nan (c .before .loop-test .taken)
 
 -- src/lib.rt:12:1
 same-length : tie.Need-same-length Inv-loop μ-loop
-same-length c = search needs
+same-length c = c .before .loop .inv .same
 
 -- src/lib.rt:12:1
 returns : tie.Need-returns Inv-loop μ-loop
-returns c = search needs
+returns c = copied-end _ _ _ _ _ _ (c .before .loop .inv) (c .loop-test .left)
 
 pub copy-spec : {M : Type 1} → statement M
 copy-spec =

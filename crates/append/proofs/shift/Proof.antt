@@ -1,3 +1,5 @@
+use Rattle.append.proofs.Copying.{Copying, copying-start, copying-turn, copying-end, shift-fits}
+use Prim.Native.Nat.{ℕ, _+_, _-_}
 use borrow.Author.Needs.{needs}
 use Rattle.append.proofs.shift.Statement.{statement}
 use Rattle.append.proofs.shift.Tie as tie
@@ -5,14 +7,14 @@ use Rattle.append.proofs.shift.Reads as reads
 use Rattle.append.proofs.shift.Lts as lts
 
 abbrev Inv-loop : tie.InvT-loop
-Inv-loop ss₀ from to count by j₀ ss j = ?
+Inv-loop ss₀ from to count by j₀ ss j = Copying (λ (s : ℕ). s + by) ss₀ from to count ss j
 
 abbrev μ-loop : tie.MeasureT-loop
-μ-loop ss₀ from to count by j₀ ss j = ?
+μ-loop ss₀ from to count by j₀ ss j = count - j
 
 -- src/lib.rt:29:5
 loop-holds : tie.Need-loop-holds Inv-loop μ-loop
-loop-holds c = search needs
+loop-holds c = copying-start (λ (s : ℕ). s + c .args .by) _ _ _ _ (c .pre .0) (c .pre .1)
 
 -- src/lib.rt:30:25
 add-ss : tie.Need-add-ss Inv-loop μ-loop
@@ -28,7 +30,7 @@ slice-read-ss c = search needs
 
 -- src/lib.rt:30:22
 add-ss-2 : tie.Need-add-ss-2 Inv-loop μ-loop
-add-ss-2 c = search needs
+add-ss-2 c = record { fits = shift-fits _ _ _ _ _ _ _ (c .before .before .loop .inv) (c .before .before .before .pre .2) (c .before .loop-test .taken) }
 
 -- src/lib.rt:30:12
 add-ss-3 : tie.Need-add-ss-3 Inv-loop μ-loop
@@ -52,15 +54,15 @@ loop-less c = search needs
 
 -- src/lib.rt:29:5
 loop-again : tie.Need-loop-again Inv-loop μ-loop
-loop-again c = search needs
+loop-again c = copying-turn (λ (s : ℕ). s + c .before .before .before .args .by) _ _ _ _ _ _ (c .before .before .loop .inv) 0 (c .before .loop-test .taken)
 
 -- src/lib.rt:24:1
 same-length : tie.Need-same-length Inv-loop μ-loop
-same-length c = search needs
+same-length c = c .before .loop .inv .same
 
 -- src/lib.rt:24:1
 returns : tie.Need-returns Inv-loop μ-loop
-returns c = search needs
+returns c = copying-end (λ (s : ℕ). s + c .before .before .args .by) _ _ _ _ _ _ (c .before .loop .inv) (c .loop-test .left)
 
 pub shift-spec : {M : Type 1} → statement M
 shift-spec =
