@@ -29,7 +29,7 @@ module _ {A : Type 0} (f : A → A) (xs₀ : List A) (from to count : ℕ) where
     copying-reads d =
         sym (getD-drop from xs j d)
         ∙ ap (λ (l : List A). getD l j d)
-            (ap (drop from) (h .done) ∙ drop-sets-le from xs₀ to (map f (take j (drop from xs₀))) (omega (arith, many, h .upto, h .ahead)))
+        (ap (drop from) (h .done) ∙ drop-sets-le from xs₀ to (map f (take j (drop from xs₀))) (omega (arith, many, h .upto, h .ahead)))
 
     pub copying-turn : (d : A) → j < count → Copying (set xs (to + j) (f (getD xs (from + j) d))) (j + 1)
     copying-turn d l = record {

@@ -1,10 +1,10 @@
 -- A second vector of paths written after the first one's: what the two hold together, and how the call ends. Assumes nothing.
-use mathlib.Core.Path.{_≡_, refl, sym, ap, ap₂, _∙_}
-use mathlib.Core.List.{List, [], _∷_, _++_}
+use mathlib.Core.Path.{_≡_, sym, ap, ap₂, _∙_}
+use mathlib.Core.List.{List, _∷_, _++_}
 use Prim.Native.Nat.{ℕ, zero, suc, _+_, _-_, _*_, _/_, _^_, _≤_, _<_}
 use native.Mathlib.Nat.{zero-add, zero-mul, suc-add, suc-mul, add-comm, add-mul}
 use native.Mathlib.Omega.{arith}
-use lib.ListN.{length, take, drop, getD, length-append, length-map, length-drop}
+use lib.ListN.{length, take, drop, length-append, length-map, length-drop}
 use lib.Seq.{sets, sets-eq, length-sets, take-at, drop-at, take-take, drop-drop, length-take-le}
 use lib.Ieee.{Float}
 use Rattle.geometry.specs.declared.vector.Vector.{Vector}
@@ -12,7 +12,7 @@ use Rattle.scene.specs.declared.refusal.Refusal.the-variants.{Room}
 use Rattle.rows.specs.Rows.{view}
 use Rattle.rows.specs.Points.{points, pointOf}
 use Rattle.rows.proofs.RowLaws.{view-append, view-take}
-use Rattle.paths.specs.Answers.{Answer, answered, refused, next}
+use Rattle.paths.specs.Answers.{Answer, answered, next}
 use Rattle.paths.specs.Paths.{Paths, pathsWith, extend}
 use Rattle.paths.specs.Ends.{held, EndsBoth}
 use Rattle.paths.specs.declared.Counts.the-variants.{Both, Refused}
@@ -36,7 +36,7 @@ module _ {A B : Type 0} (k : ℕ) (f : List A → B) where
   view-add (suc n) p xs =
       rw suc-add
       (ap (λ (t : List B). f (take k xs) ∷ t)
-          (view-add n p (drop k xs) ∙ rw (drop-drop, suc-mul, add-comm k (n * k))))
+      (view-add n p (drop k xs) ∙ rw (drop-drop, suc-mul, add-comm k (n * k))))
 
   view-both : (n p : ℕ) (xs ys : List A) → length xs ≡ n * k → view k f (n + p) (xs ++ ys) ≡ view k f n xs ++ view k f p ys
   view-both n p xs ys e = view-add n p (xs ++ ys) ∙ rw (view-append k f n xs ys (omega arith), drop-at xs ys (n * k) e)
@@ -82,14 +82,14 @@ module _ (wide many n m p q : ℕ) (xs : List Float) (ss : List ℕ) (fn : n * 3
         refuses-both ys us
         (begun
         ∙ rw (extend-full (wide / 3) (points n (take wide xs)) (points p (take wide (drop wide xs))) (rw (length-points n (take wide xs)) (omega arith))
-            (rw (length-points n (take wide xs), length-points p (take wide (drop wide xs))) (omega arith))))
+        (rw (length-points n (take wide xs), length-points p (take wide (drop wide xs))) (omega arith))))
 
     pub joined : p ≤ wide / 3 - n → (ys : List Float) (us : List ℕ) → us ≡ sets ss m (shifted n (take q (drop many ss)))
         → ys ≡ sets xs (n * 3) (take (p * 3) (drop wide xs)) → EndsBoth whole (take wide ys) (take many us) (Both (n + p) (m + q))
     joined l ys us es ex =
         answers-both (n + p) (m + q) (take wide ys) (take many us) (begun ∙ rw (fits, points-joined, starts-joined))
-            (rw (length-take-le wide ys (rw (ex, length-sets xs (n * 3) (take (p * 3) (drop wide xs))) (omega arith))) (omega (arith, add-mul n p 3)))
-            (rw (length-take-le many us (rw (es, length-sets ss m (shifted n (take q (drop many ss)))) (omega arith))) (omega arith))
+        (rw (length-take-le wide ys (rw (ex, length-sets xs (n * 3) (take (p * 3) (drop wide xs))) (omega arith))) (omega (arith, add-mul n p 3)))
+        (rw (length-take-le many us (rw (es, length-sets ss m (shifted n (take q (drop many ss)))) (omega arith))) (omega arith))
       where
         fits : extend (wide / 3) (points n (take wide xs)) (points p (take wide (drop wide xs))) ≡ answered (points n (take wide xs) ++ points p (take wide (drop wide xs)))
         fits = extend-fits (wide / 3) (points n (take wide xs)) (points p (take wide (drop wide xs))) (rw (length-points n (take wide xs), length-points p (take wide (drop wide xs))) (omega arith))

@@ -9,7 +9,7 @@ use lib.Dec.{ltb, eqb}
 use lib.ListN.{length, take, getD, length-append}
 use lib.Ieee.{Float}
 use Rattle.geometry.specs.declared.vector.Vector.{Vector}
-use Rattle.paths.specs.Answers.{Answer, answered, refused, next}
+use Rattle.paths.specs.Answers.{Answer, answered, next}
 use Rattle.paths.specs.Paths.{Paths, pathsWith, noPaths, push, opened, closedStarts, closed, front, pathsOf, each, stage}
 use Rattle.paths.specs.Ends.{EndsBoth}
 use Rattle.paths.specs.declared.Counts.{Counts}

@@ -1,5 +1,4 @@
 -- Paths appended to others (`Paths::extend` of path.rs).
-use mathlib.Core.Path.{_≡_}
 use mathlib.Core.List.{List, map}
 use Prim.Native.Nat.{ℕ, _+_, _^_, _≤_, _<_}
 use lib.ListN.{length, getD}
@@ -21,6 +20,6 @@ appended room startRoom p q =
 abbrev pub Low : ℕ → List ℕ → Type 0
 Low n ss = (j : ℕ) → j < length ss → getD ss j 0 ≤ n
 
--- starts that can be moved on by n are still starts of a `usize`
+-- a `usize` holds each start once it is moved on by n
 abbrev pub Movable : ℕ → List ℕ → Type 0
 Movable n ss = (j : ℕ) → j < length ss → getD ss j 0 + n < 2 ^ 64

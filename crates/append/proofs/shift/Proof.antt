@@ -3,8 +3,6 @@ use Prim.Native.Nat.{ℕ, _+_, _-_}
 use borrow.Author.Needs.{needs}
 use Rattle.append.proofs.shift.Statement.{statement}
 use Rattle.append.proofs.shift.Tie as tie
-use Rattle.append.proofs.shift.Reads as reads
-use Rattle.append.proofs.shift.Lts as lts
 
 abbrev Inv-loop : tie.InvT-loop
 Inv-loop ss₀ from to count by j₀ ss j = Copying (λ (s : ℕ). s + by) ss₀ from to count ss j
@@ -12,55 +10,42 @@ Inv-loop ss₀ from to count by j₀ ss j = Copying (λ (s : ℕ). s + by) ss₀
 abbrev μ-loop : tie.MeasureT-loop
 μ-loop ss₀ from to count by j₀ ss j = count - j
 
--- src/lib.rt:29:5
 loop-holds : tie.Need-loop-holds Inv-loop μ-loop
 loop-holds c = copying-start (λ (s : ℕ). s + c .args .by) _ _ _ _ (c .pre .0) (c .pre .1)
 
--- src/lib.rt:30:25
 add-ss : tie.Need-add-ss Inv-loop μ-loop
 add-ss c = search needs
 
--- src/lib.rt:30:22
 mul-ss : tie.Need-mul-ss Inv-loop μ-loop
 mul-ss c = search needs
 
--- src/lib.rt:30:22
 slice-read-ss : tie.Need-slice-read-ss Inv-loop μ-loop
 slice-read-ss c = search needs
 
--- src/lib.rt:30:22
 add-ss-2 : tie.Need-add-ss-2 Inv-loop μ-loop
 add-ss-2 c = record { fits = shift-fits _ _ _ _ _ _ _ (c .before .before .loop .inv) (c .before .before .before .pre .2) (c .before .loop-test .taken) }
 
--- src/lib.rt:30:12
 add-ss-3 : tie.Need-add-ss-3 Inv-loop μ-loop
 add-ss-3 c = search needs
 
--- src/lib.rt:30:9
 mul-ss-2 : tie.Need-mul-ss-2 Inv-loop μ-loop
 mul-ss-2 c = search needs
 
--- src/lib.rt:30:9
 slice-write-ss : tie.Need-slice-write-ss Inv-loop μ-loop
 slice-write-ss c = search needs
 
--- src/lib.rt:31:9
 add-j : tie.Need-add-j Inv-loop μ-loop
 add-j c = search needs
 
--- src/lib.rt:29:5
 loop-less : tie.Need-loop-less Inv-loop μ-loop
 loop-less c = search needs
 
--- src/lib.rt:29:5
 loop-again : tie.Need-loop-again Inv-loop μ-loop
 loop-again c = copying-turn (λ (s : ℕ). s + c .before .before .before .args .by) _ _ _ _ _ _ (c .before .before .loop .inv) 0 (c .before .loop-test .taken)
 
--- src/lib.rt:24:1
 same-length : tie.Need-same-length Inv-loop μ-loop
 same-length c = c .before .loop .inv .same
 
--- src/lib.rt:24:1
 returns : tie.Need-returns Inv-loop μ-loop
 returns c = copying-end (λ (s : ℕ). s + c .before .before .args .by) _ _ _ _ _ _ (c .before .loop .inv) (c .loop-test .left)
 
