@@ -30,7 +30,7 @@ module _ {A : Type 0} where
 
 -- ---- n rows and then p
 module _ {A B : Type 0} (k : ℕ) (f : List A → B) where
-  view-add : (n p : ℕ) (xs : List A) → view k f (n + p) xs ≡ view k f n xs ++ view k f p (drop (n * k) xs)
+  pub view-add : (n p : ℕ) (xs : List A) → view k f (n + p) xs ≡ view k f n xs ++ view k f p (drop (n * k) xs)
   unfolding view
   view-add zero p xs = rw (zero-add, zero-mul)
   view-add (suc n) p xs =
@@ -38,7 +38,7 @@ module _ {A B : Type 0} (k : ℕ) (f : List A → B) where
       (ap (λ (t : List B). f (take k xs) ∷ t)
       (view-add n p (drop k xs) ∙ rw (drop-drop, suc-mul, add-comm k (n * k))))
 
-  view-both : (n p : ℕ) (xs ys : List A) → length xs ≡ n * k → view k f (n + p) (xs ++ ys) ≡ view k f n xs ++ view k f p ys
+  pub view-both : (n p : ℕ) (xs ys : List A) → length xs ≡ n * k → view k f (n + p) (xs ++ ys) ≡ view k f n xs ++ view k f p ys
   view-both n p xs ys e = view-add n p (xs ++ ys) ∙ rw (view-append k f n xs ys (omega arith), drop-at xs ys (n * k) e)
 
 -- ---- starts that are no more than p, moved on by n

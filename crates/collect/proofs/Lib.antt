@@ -1,0 +1,4 @@
+pub mod Vectors
+pub mod Sifting
+pub mod Moved
+pub mod Joins

@@ -1,0 +1,60 @@
+-- The lines of a cut, sifted: each way out. Assumes nothing.
+use mathlib.Core.Path.{_≡_, refl, sym, ap, _∙_}
+use mathlib.Core.Bool.{Bool, true, false}
+use mathlib.Core.List.{List}
+use Prim.Native.Nat.{ℕ, _*_, _≤_}
+use lib.ListN.{length, take}
+use lib.Ieee.{Float}
+use Rattle.scene.specs.declared.refusal.Refusal.{Refusal}
+use Rattle.scene.specs.declared.refusal.Refusal.the-variants.{Point}
+use Rattle.shape.specs.Shapes.{Shape}
+use Rattle.rows.specs.Points.{points}
+use Rattle.paths.specs.Answers.{answered, refused, next}
+use Rattle.paths.specs.Paths.{Paths, pathsWith}
+use Rattle.paths.specs.Ends.{places, allPoints, held, EndsBoth}
+use Rattle.paths.specs.Judged.{pointsOk}
+use Rattle.paths.specs.declared.Counts.{Counts}
+use Rattle.paths.specs.declared.Counts.the-variants.{Both, Refused}
+use Rattle.paths.proofs.Ending.{both-at, both-refused, refuses-both}
+use Rattle.paths.proofs.Parts.{part-all}
+use Rattle.lines.proofs.Adding.{ends-both-as}
+use Rattle.view.specs.declared.RenderArgs.{RenderArgs}
+use Rattle.chop.specs.Chop.{chopPaths}
+use Rattle.cuts.specs.Cuts.{cutPaths}
+use Rattle.collect.specs.Collect.{Room, handed, sifted}
+use Rattle.collect.specs.Slices.{roomOf}
+
+-- points that are handed on, and points that are not
+pub handed-on : (p : Paths) → pointsOk (p .vertices) ≡ true → handed p ≡ answered p
+unfolding handed
+handed-on p h = rw h
+
+pub handed-far : (p : Paths) → pointsOk (p .vertices) ≡ false → handed p ≡ refused Point
+unfolding handed
+handed-far p h = rw h
+
+module _ (a : RenderArgs) (s : Shape) (path : List Float) (begins : List ℕ) (chopped : List Float) (cuts : List ℕ) (n m : ℕ) (fit : n * 3 ≤ length path) where
+  room : Room
+  room = roomOf (length path) (length begins) chopped cuts
+
+  pub sift-far : {b : Bool} → b ≡ pointsOk (allPoints (take (n * 3) path)) → b ≡ false → EndsBoth (sifted a (roomOf (length path) (length begins) chopped cuts) s (held n path m begins)) path begins (Refused Point)
+  unfolding sifted
+  sift-far {b} e h = refuses-both path begins (rw (handed-far (held n path m begins) (ap pointsOk (sym (part-all path n fit)) ∙ sym e ∙ h)))
+
+  module _ {b : Bool} (e : b ≡ pointsOk (allPoints (take (n * 3) path))) (near : b ≡ true)
+      (ys : List Float) (us : List ℕ) {c : Counts} (ends : EndsBoth (chopPaths a (allPoints (take (n * 3) path)) (take m begins) (places chopped) (length cuts)) ys us c) where
+    on : handed (held n path m begins) ≡ answered (held n path m begins)
+    on = handed-on (held n path m begins) (ap pointsOk (sym (part-all path n fit)) ∙ sym e ∙ near)
+
+    chopped-as : chopPaths a (points n path) (take m begins) (places chopped) (length cuts) ≡ chopPaths a (allPoints (take (n * 3) path)) (take m begins) (places chopped) (length cuts)
+    chopped-as = rw (part-all path n fit)
+
+    pub sift-refused : {k : Refusal} → c ≡ Refused k → EndsBoth (sifted a (roomOf (length path) (length begins) chopped cuts) s (held n path m begins)) path begins (Refused k)
+    unfolding sifted
+    sift-refused h = refuses-both path begins (rw (on, chopped-as, both-refused ends h))
+
+    pub sift-filters : {p q : ℕ} → c ≡ Both p q → p * 3 ≤ length ys → (zs : List Float) (vs : List ℕ) {r : Counts}
+        → EndsBoth (cutPaths s (allPoints (take (p * 3) ys)) (take q us) (places path) (length begins)) zs vs r
+        → EndsBoth (sifted a (roomOf (length path) (length begins) chopped cuts) s (held n path m begins)) zs vs r
+    unfolding sifted
+    sift-filters {p} {q} h l zs vs f = ends-both-as (rw (on, chopped-as, both-at ends h, part-all ys p l)) f
