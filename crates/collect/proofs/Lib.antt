@@ -2,3 +2,4 @@ pub mod Vectors
 pub mod Sifting
 pub mod Moved
 pub mod Joins
+pub mod Nesting
