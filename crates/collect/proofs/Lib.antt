@@ -3,3 +3,4 @@ pub mod Sifting
 pub mod Moved
 pub mod Joins
 pub mod Nesting
+pub mod Listing

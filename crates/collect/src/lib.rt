@@ -284,6 +284,12 @@ fn part_paths(
     }
 }
 
+fn index(x: u32) -> usize
+    ensures { λ r. ⌜ r ≡ x ⌝ }
+{
+    x as usize
+}
+
 // The lines of the first `count` of the listed entries, from the first place of the first vector on;
 // there are eight vectors.
 pub fn all_paths(
@@ -317,7 +323,7 @@ pub fn all_paths(
             points,
             starts,
             owners,
-            listed[i] as usize,
+            index(listed[i]),
             args,
             8,
             wide,
