@@ -24,7 +24,7 @@ use Rattle.chop.specs.Chop.{chopPaths}
 use Rattle.cuts.specs.Cuts.{cutFilter, cutPaths}
 use Rattle.append.specs.Append.{Low, appended}
 use Rattle.append.proofs.LowStarts.{filter-low}
-use Rattle.collect.specs.Collect.{Room, handed, sifted}
+use Rattle.collect.specs.Collect.{Room, choppedLines, sifted}
 use Rattle.collect.specs.Slices.{roomOf, firstHeld, Lent, joined}
 use Rattle.collect.proofs.Vectors.{second-is, second-length, second-after}
 
@@ -32,9 +32,8 @@ use Rattle.collect.proofs.Vectors.{second-is, second-length, second-aft
 sifted-low : (a : RenderArgs) (w : Room) (s : Shape) (p q : Paths) → sifted a w s p ≡ answered q → Low (length (q .vertices)) (q .starts)
 unfolding sifted
 sifted-low a w s p q e =
-    let one = next-answered (handed p) (λ (u : Paths). next (chopPaths a (u .vertices) (u .starts) (w .chopped) (w .begins)) (λ (c : Paths). cutPaths s (c .vertices) (c .starts) (w .points) (w .starts))) q e in
-    let two = next-answered (chopPaths a (one .0 .vertices) (one .0 .starts) (w .chopped) (w .begins)) (λ (c : Paths). cutPaths s (c .vertices) (c .starts) (w .points) (w .starts)) q (one .2) in
-    filter-low (cutFilter s) (two .0 .vertices) (two .0 .starts) (w .points) (w .starts) (two .2)
+    let one = next-answered (choppedLines a (w .chopped) (w .begins) p) (λ (c : Paths). cutPaths s (c .vertices) (c .starts) (w .points) (w .starts)) q e in
+    filter-low (cutFilter s) (one .0 .vertices) (one .0 .starts) (w .points) (w .starts) (one .2)
 
 module _ (wide many n m : ℕ) (xs : List Float) (ss : List ℕ) (L : Lent 2 wide many n m xs ss) where
   pub two-wide : wide + wide ≤ length xs

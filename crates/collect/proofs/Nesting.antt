@@ -35,7 +35,7 @@ use Rattle.lines.proofs.Adding.{ends-both-as}
 use Rattle.view.specs.declared.RenderArgs.{RenderArgs}
 use Rattle.append.specs.Append.{appended}
 use Rattle.collect.specs.Lined.{Lined, noLines, lined, placedLines, cutLines, bare, linedOf, readLined, detailAt, ownLines}
-use Rattle.collect.specs.Collect.{Room, placedArgs, movedFrom, handed, sifted, collected}
+use Rattle.collect.specs.Collect.{Room, placedArgs, movedFrom, handed, choppedLines, sifted, collected}
 use Rattle.collect.specs.Slices.{roomOf, linedAt, firstHeld, Lent, joined}
 use Rattle.collect.proofs.Vectors.{rest-is, rest-after}
 
@@ -69,7 +69,7 @@ module _ (at : ℕ → Entry) (own : ℕ → Solid → List (List Vector)) where
 
 -- a cut of parts without lines adds nothing
 cut-of-nothing : (a : RenderArgs) (w : Room) (o : Op) (p : Paths) → collected a w (cutLines o noLines noLines) p ≡ answered p
-unfolding collected sifted handed pointsOk stage pathsOf each appended extend
+unfolding collected sifted choppedLines handed pointsOk stage pathsOf each appended extend
 cut-of-nothing a w o p = refl
 
 module _ (a : RenderArgs) (wide many n m : ℕ) (xs : List Float) (ss : List ℕ) (chopped : List Float) (cuts : List ℕ)

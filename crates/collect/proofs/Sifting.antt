@@ -21,7 +21,7 @@ use Rattle.lines.proofs.Adding.{ends-both-as}
 use Rattle.view.specs.declared.RenderArgs.{RenderArgs}
 use Rattle.chop.specs.Chop.{chopPaths}
 use Rattle.cuts.specs.Cuts.{cutPaths}
-use Rattle.collect.specs.Collect.{Room, handed, sifted}
+use Rattle.collect.specs.Collect.{handed, choppedLines, sifted}
 use Rattle.collect.specs.Slices.{roomOf}
 
 -- points that are handed on, and points that are not
@@ -33,28 +33,27 @@ pub handed-far : (p : Paths) → pointsOk (p .vertices) ≡ false → handed p �
 unfolding handed
 handed-far p h = rw h
 
-module _ (a : RenderArgs) (s : Shape) (path : List Float) (begins : List ℕ) (chopped : List Float) (cuts : List ℕ) (n m : ℕ) (fit : n * 3 ≤ length path) where
-  room : Room
-  room = roomOf (length path) (length begins) chopped cuts
+module _ (a : RenderArgs) (path : List Float) (starts : List ℕ) (room startRoom : ℕ) {b : Bool} (e : b ≡ pointsOk (allPoints path)) where
+  pub chop-far : b ≡ false → (ys : List Float) (us : List ℕ) → EndsBoth (choppedLines a room startRoom (pathsWith (allPoints path) starts)) ys us (Refused Point)
+  unfolding choppedLines
+  chop-far h ys us = refuses-both ys us (rw (handed-far (pathsWith (allPoints path) starts) (sym e ∙ h)))
 
-  pub sift-far : {b : Bool} → b ≡ pointsOk (allPoints (take (n * 3) path)) → b ≡ false → EndsBoth (sifted a (roomOf (length path) (length begins) chopped cuts) s (held n path m begins)) path begins (Refused Point)
+  pub chop-near : b ≡ true → (ys : List Float) (us : List ℕ) {r : Counts} → EndsBoth (chopPaths a (allPoints path) starts room startRoom) ys us r
+      → EndsBoth (choppedLines a room startRoom (pathsWith (allPoints path) starts)) ys us r
+  unfolding choppedLines
+  chop-near h ys us f = ends-both-as (rw (handed-on (pathsWith (allPoints path) starts) (sym e ∙ h))) f
+
+module _ (a : RenderArgs) (s : Shape) (path : List Float) (begins : List ℕ) (chopped : List Float) (cuts : List ℕ) (n m : ℕ) (fit : n * 3 ≤ length path)
+    (ys : List Float) (us : List ℕ) {c : Counts} (ends : EndsBoth (choppedLines a (places chopped) (length cuts) (pathsWith (allPoints (take (n * 3) path)) (take m begins))) ys us c) where
+  chopped-as : choppedLines a (places chopped) (length cuts) (held n path m begins) ≡ choppedLines a (places chopped) (length cuts) (pathsWith (allPoints (take (n * 3) path)) (take m begins))
+  chopped-as = rw (part-all path n fit)
+
+  pub sift-refused : {k : Refusal} → c ≡ Refused k → EndsBoth (sifted a (roomOf (length path) (length begins) chopped cuts) s (held n path m begins)) path begins (Refused k)
   unfolding sifted
-  sift-far {b} e h = refuses-both path begins (rw (handed-far (held n path m begins) (ap pointsOk (sym (part-all path n fit)) ∙ sym e ∙ h)))
+  sift-refused h = refuses-both path begins (rw (chopped-as, both-refused ends h))
 
-  module _ {b : Bool} (e : b ≡ pointsOk (allPoints (take (n * 3) path))) (near : b ≡ true)
-      (ys : List Float) (us : List ℕ) {c : Counts} (ends : EndsBoth (chopPaths a (allPoints (take (n * 3) path)) (take m begins) (places chopped) (length cuts)) ys us c) where
-    on : handed (held n path m begins) ≡ answered (held n path m begins)
-    on = handed-on (held n path m begins) (ap pointsOk (sym (part-all path n fit)) ∙ sym e ∙ near)
-
-    chopped-as : chopPaths a (points n path) (take m begins) (places chopped) (length cuts) ≡ chopPaths a (allPoints (take (n * 3) path)) (take m begins) (places chopped) (length cuts)
-    chopped-as = rw (part-all path n fit)
-
-    pub sift-refused : {k : Refusal} → c ≡ Refused k → EndsBoth (sifted a (roomOf (length path) (length begins) chopped cuts) s (held n path m begins)) path begins (Refused k)
-    unfolding sifted
-    sift-refused h = refuses-both path begins (rw (on, chopped-as, both-refused ends h))
-
-    pub sift-filters : {p q : ℕ} → c ≡ Both p q → p * 3 ≤ length ys → (zs : List Float) (vs : List ℕ) {r : Counts}
-        → EndsBoth (cutPaths s (allPoints (take (p * 3) ys)) (take q us) (places path) (length begins)) zs vs r
-        → EndsBoth (sifted a (roomOf (length path) (length begins) chopped cuts) s (held n path m begins)) zs vs r
-    unfolding sifted
-    sift-filters {p} {q} h l zs vs f = ends-both-as (rw (on, chopped-as, both-at ends h, part-all ys p l)) f
+  pub sift-filters : {p q : ℕ} → c ≡ Both p q → p * 3 ≤ length ys → (zs : List Float) (vs : List ℕ) {r : Counts}
+      → EndsBoth (cutPaths s (allPoints (take (p * 3) ys)) (take q us) (places path) (length begins)) zs vs r
+      → EndsBoth (sifted a (roomOf (length path) (length begins) chopped cuts) s (held n path m begins)) zs vs r
+  unfolding sifted
+  sift-filters {p} {q} h l zs vs f = ends-both-as (rw (chopped-as, both-at ends h, part-all ys p l)) f

@@ -37,11 +37,13 @@ movedFrom m n p = pathsWith (take n (p .vertices) ++ map (mulPosition m) (drop n
 unfoldable pub handed : Paths → Answer Paths
 handed p = cond (pointsOk (p .vertices)) (answered p) (refused Point)
 
+-- lines that are handed to a chop
+unfoldable pub choppedLines : RenderArgs → ℕ → ℕ → Paths → Answer Paths
+choppedLines a room startRoom p = next (handed p) (λ (q : Paths). chopPaths a (q .vertices) (q .starts) room startRoom)
+
 -- the lines of a cut's parts chopped, even at step 0, and then filtered by the cut's own insides
 unfoldable pub sifted : RenderArgs → Room → Shape → Paths → Answer Paths
-sifted a w s p =
-    next (handed p)
-    (λ (q : Paths). next (chopPaths a (q .vertices) (q .starts) (w .chopped) (w .begins)) (λ (c : Paths). cutPaths s (c .vertices) (c .starts) (w .points) (w .starts)))
+sifted a w s p = next (choppedLines a (w .chopped) (w .begins) p) (λ (c : Paths). cutPaths s (c .vertices) (c .starts) (w .points) (w .starts))
 
 -- The lines of a drawn value after those that there are. A cut's are collected in a vector of their own, which is then appended.
 unfoldable pub collected : RenderArgs → Room → Lined → Paths → Answer Paths

@@ -7,8 +7,8 @@ ghost use lib.ListN.{length, take, drop};
 ghost use Rattle.matrix.specs.Matrices.{mulPosition};
 ghost use Rattle.rows.specs.Points.{points as pointsIn};
 ghost use Rattle.paths.specs.Answers.{next};
-ghost use Rattle.paths.specs.Paths.{noPaths};
-ghost use Rattle.paths.specs.Ends.{places, held, EndsBoth};
+ghost use Rattle.paths.specs.Paths.{pathsWith, noPaths};
+ghost use Rattle.paths.specs.Ends.{places, allPoints, held, EndsBoth};
 ghost use Rattle.paths.specs.declared.Counts.the-variants.{Both};
 ghost use Rattle.shape.specs.Shapes.{decode};
 ghost use Rattle.collect.specs.Lined.{detailAt};
@@ -56,6 +56,22 @@ fn move_points(matrix: Matrix, xs: &mut [f64], n: usize, end: usize)
     }
 }
 
+// Lines are judged by number 9 and chopped.
+pub fn chop_lines(
+    args: RenderArgs,
+    path: &[f64],
+    starts: &[usize],
+    out: &mut [f64],
+    begins: &mut [usize],
+) -> Counts
+    ensures { λ r. ⌜ EndsBoth (Collect.choppedLines args (places (now (out .entry))) (length (now (begins .entry))) (pathsWith (allPoints (now (path .entry))) (now (starts .entry)))) (now (out .exit)) (now (begins .exit)) r ⌝ }
+{
+    if !paths::points_ok(path) {
+        return Counts::Refused(Refusal::Point);
+    }
+    chop::chop_paths(args, path, starts, out, begins)
+}
+
 // The lines of a cut's parts, n points and m starts, are chopped and then filtered by the insides of
 // the cut, entry k.
 fn sift(
@@ -76,10 +92,7 @@ fn sift(
     ensures { λ r. ⌜ EndsBoth (Collect.sifted args (roomOf (length (now (path .entry))) (length (now (begins .entry))) (now (chopped .entry)) (now (cuts .entry))) (decode depth (now (numbers .entry)) (now (inverses .entry)) (now (marks .entry)) k) (held n (now (path .entry)) m (now (begins .entry)))) (now (path .exit)) (now (begins .exit)) r ⌝ }
 {
     let end = n * 3;
-    if !paths::points_ok(&path[..end]) {
-        return Counts::Refused(Refusal::Point);
-    }
-    let c = chop::chop_paths(args, &path[..end], &begins[..m], chopped, cuts);
+    let c = chop_lines(args, &path[..end], &begins[..m], chopped, cuts);
     match c {
         Counts::Refused(e) => Counts::Refused(e),
         Counts::Both(p, q) => {
