@@ -51,7 +51,7 @@ fn clear_all(hulls: &mut [f64], records: &mut [u32], order: &mut [u32])
 }
 
 // The tree of the first n of the listed solids, whose boxes are given.
-fn plant(
+pub fn plant(
     boxes: &[f64],
     listed: &[u32],
     n: usize,
