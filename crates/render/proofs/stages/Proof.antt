@@ -11,243 +11,243 @@ use Rattle.view.proofs.View.args.Reads as args-reads
 
 -- src/lib.rt:106:15
 mul-end : tie.Need-mul-end
-mul-end c = search needs
+mul-end c = ?
 
 -- src/lib.rt:107:9
 stepping-requires : tie.Need-stepping-requires
-stepping-requires c κs = search needs
+stepping-requires c κs = ?
 
 -- src/lib.rt:116:13
 slice-reshare-prefix-visible-lines : tie.Need-slice-reshare-prefix-visible-lines
-slice-reshare-prefix-visible-lines c = search needs
+slice-reshare-prefix-visible-lines c = ?
 
 -- src/lib.rt:116:13
 slice-aggregate-visible-lines : tie.Need-slice-aggregate-visible-lines
-slice-aggregate-visible-lines c = search needs
+slice-aggregate-visible-lines c = ?
 
 -- src/lib.rt:117:13
 slice-reshare-prefix-visible-lines-2 : tie.Need-slice-reshare-prefix-visible-lines-2
-slice-reshare-prefix-visible-lines-2 c = search needs
+slice-reshare-prefix-visible-lines-2 c = ?
 
 -- src/lib.rt:117:13
 slice-aggregate-visible-lines-2 : tie.Need-slice-aggregate-visible-lines-2
-slice-aggregate-visible-lines-2 c = search needs
+slice-aggregate-visible-lines-2 c = ?
 
 -- src/lib.rt:108:9
 visible-lines-requires : tie.Need-visible-lines-requires
-visible-lines-requires c κs = search needs
+visible-lines-requires c κs = ?
 
 -- src/lib.rt:108:9
 same-length : tie.Need-same-length
-same-length c = search needs
+same-length c = ?
 
 -- src/lib.rt:108:9
 same-length-2 : tie.Need-same-length-2
-same-length-2 c = search needs
+same-length-2 c = ?
 
 -- src/lib.rt:108:9
 same-length-3 : tie.Need-same-length-3
-same-length-3 c = search needs
+same-length-3 c = ?
 
 -- src/lib.rt:108:9
 same-length-4 : tie.Need-same-length-4
-same-length-4 c = search needs
+same-length-4 c = ?
 
 -- src/lib.rt:108:9
 same-length-5 : tie.Need-same-length-5
-same-length-5 c = search needs
+same-length-5 c = ?
 
 -- src/lib.rt:108:9
 same-length-6 : tie.Need-same-length-6
-same-length-6 c = search needs
+same-length-6 c = ?
 
 -- src/lib.rt:108:9
 same-length-7 : tie.Need-same-length-7
-same-length-7 c = search needs
+same-length-7 c = ?
 
 -- src/lib.rt:108:9
 returns : tie.Need-returns
-returns c = search needs
+returns c = ?
 
 -- src/lib.rt:125:33
 args-requires : tie.Need-args-requires
-args-requires c κs = search needs
+args-requires c κs = ?
 
 -- src/lib.rt:125:46
 slice-reshare-prefix-chop-lines : tie.Need-slice-reshare-prefix-chop-lines
-slice-reshare-prefix-chop-lines c = search needs
+slice-reshare-prefix-chop-lines c = ?
 
 -- src/lib.rt:125:46
 slice-aggregate-chop-lines : tie.Need-slice-aggregate-chop-lines
-slice-aggregate-chop-lines c = search needs
+slice-aggregate-chop-lines c = ?
 
 -- src/lib.rt:125:60
 slice-reshare-prefix-chop-lines-2 : tie.Need-slice-reshare-prefix-chop-lines-2
-slice-reshare-prefix-chop-lines-2 c = search needs
+slice-reshare-prefix-chop-lines-2 c = ?
 
 -- src/lib.rt:125:60
 slice-aggregate-chop-lines-2 : tie.Need-slice-aggregate-chop-lines-2
-slice-aggregate-chop-lines-2 c = search needs
+slice-aggregate-chop-lines-2 c = ?
 
 -- src/lib.rt:125:9
 chop-lines-requires : tie.Need-chop-lines-requires
-chop-lines-requires c κs = search needs
+chop-lines-requires c κs = ?
 
 -- src/lib.rt:127:25
 enum-known-c : tie.Need-enum-known-c
-enum-known-c c = search needs
+enum-known-c c = ?
 
 -- src/lib.rt:128:22
 enum-known-c-2 : tie.Need-enum-known-c-2
-enum-known-c-2 c = search needs
+enum-known-c-2 c = ?
 
 -- src/lib.rt:129:24
 mul-last : tie.Need-mul-last
-mul-last c = search needs
+mul-last c = ?
 
 -- src/lib.rt:138:17
 slice-reshare-prefix-visible-lines-3 : tie.Need-slice-reshare-prefix-visible-lines-3
-slice-reshare-prefix-visible-lines-3 c = search needs
+slice-reshare-prefix-visible-lines-3 c = ?
 
 -- src/lib.rt:138:17
 slice-aggregate-visible-lines-3 : tie.Need-slice-aggregate-visible-lines-3
-slice-aggregate-visible-lines-3 c = search needs
+slice-aggregate-visible-lines-3 c = ?
 
 -- src/lib.rt:139:17
 slice-reshare-prefix-visible-lines-4 : tie.Need-slice-reshare-prefix-visible-lines-4
-slice-reshare-prefix-visible-lines-4 c = search needs
+slice-reshare-prefix-visible-lines-4 c = ?
 
 -- src/lib.rt:139:17
 slice-aggregate-visible-lines-4 : tie.Need-slice-aggregate-visible-lines-4
-slice-aggregate-visible-lines-4 c = search needs
+slice-aggregate-visible-lines-4 c = ?
 
 -- src/lib.rt:130:17
 visible-lines-requires-2 : tie.Need-visible-lines-requires-2
-visible-lines-requires-2 c κs = search needs
+visible-lines-requires-2 c κs = ?
 
 -- src/lib.rt:147:33
 enum-known-d : tie.Need-enum-known-d
-enum-known-d c = search needs
+enum-known-d c = ?
 
 -- src/lib.rt:148:30
 enum-known-d-2 : tie.Need-enum-known-d-2
-enum-known-d-2 c = search needs
+enum-known-d-2 c = ?
 
 -- src/lib.rt:149:29
 mul-z : tie.Need-mul-z
-mul-z c = search needs
+mul-z c = ?
 
 -- src/lib.rt:150:47
 slice-reshare-prefix-simplify-lines : tie.Need-slice-reshare-prefix-simplify-lines
-slice-reshare-prefix-simplify-lines c = search needs
+slice-reshare-prefix-simplify-lines c = ?
 
 -- src/lib.rt:150:47
 slice-aggregate-simplify-lines : tie.Need-slice-aggregate-simplify-lines
-slice-aggregate-simplify-lines c = search needs
+slice-aggregate-simplify-lines c = ?
 
 -- src/lib.rt:150:59
 slice-reshare-prefix-simplify-lines-2 : tie.Need-slice-reshare-prefix-simplify-lines-2
-slice-reshare-prefix-simplify-lines-2 c = search needs
+slice-reshare-prefix-simplify-lines-2 c = ?
 
 -- src/lib.rt:150:59
 slice-aggregate-simplify-lines-2 : tie.Need-slice-aggregate-simplify-lines-2
-slice-aggregate-simplify-lines-2 c = search needs
+slice-aggregate-simplify-lines-2 c = ?
 
 -- src/lib.rt:150:21
 simplify-lines-requires : tie.Need-simplify-lines-requires
-simplify-lines-requires c κs = search needs
+simplify-lines-requires c κs = ?
 
 -- src/lib.rt:82:1
 same-length-8 : tie.Need-same-length-8
-same-length-8 c = search needs
+same-length-8 c = ?
 
 -- src/lib.rt:82:1
 same-length-9 : tie.Need-same-length-9
-same-length-9 c = search needs
+same-length-9 c = ?
 
 -- src/lib.rt:82:1
 same-length-10 : tie.Need-same-length-10
-same-length-10 c = search needs
+same-length-10 c = ?
 
 -- src/lib.rt:82:1
 same-length-11 : tie.Need-same-length-11
-same-length-11 c = search needs
+same-length-11 c = ?
 
 -- src/lib.rt:82:1
 returns-2 : tie.Need-returns-2
-returns-2 c = search needs
+returns-2 c = ?
 
 -- src/lib.rt:82:1
 same-length-12 : tie.Need-same-length-12
-same-length-12 c = search needs
+same-length-12 c = ?
 
 -- src/lib.rt:82:1
 same-length-13 : tie.Need-same-length-13
-same-length-13 c = search needs
+same-length-13 c = ?
 
 -- src/lib.rt:82:1
 same-length-14 : tie.Need-same-length-14
-same-length-14 c = search needs
+same-length-14 c = ?
 
 -- src/lib.rt:82:1
 same-length-15 : tie.Need-same-length-15
-same-length-15 c = search needs
+same-length-15 c = ?
 
 -- src/lib.rt:82:1
 same-length-16 : tie.Need-same-length-16
-same-length-16 c = search needs
+same-length-16 c = ?
 
 -- src/lib.rt:82:1
 same-length-17 : tie.Need-same-length-17
-same-length-17 c = search needs
+same-length-17 c = ?
 
 -- src/lib.rt:82:1
 same-length-18 : tie.Need-same-length-18
-same-length-18 c = search needs
+same-length-18 c = ?
 
 -- src/lib.rt:82:1
 returns-3 : tie.Need-returns-3
-returns-3 c = search needs
+returns-3 c = ?
 
 -- src/lib.rt:82:1
 same-length-19 : tie.Need-same-length-19
-same-length-19 c = search needs
+same-length-19 c = ?
 
 -- src/lib.rt:82:1
 same-length-20 : tie.Need-same-length-20
-same-length-20 c = search needs
+same-length-20 c = ?
 
 -- src/lib.rt:82:1
 same-length-21 : tie.Need-same-length-21
-same-length-21 c = search needs
+same-length-21 c = ?
 
 -- src/lib.rt:82:1
 same-length-22 : tie.Need-same-length-22
-same-length-22 c = search needs
+same-length-22 c = ?
 
 -- src/lib.rt:82:1
 same-length-23 : tie.Need-same-length-23
-same-length-23 c = search needs
+same-length-23 c = ?
 
 -- src/lib.rt:82:1
 same-length-24 : tie.Need-same-length-24
-same-length-24 c = search needs
+same-length-24 c = ?
 
 -- src/lib.rt:82:1
 same-length-25 : tie.Need-same-length-25
-same-length-25 c = search needs
+same-length-25 c = ?
 
 -- src/lib.rt:82:1
 same-length-26 : tie.Need-same-length-26
-same-length-26 c = search needs
+same-length-26 c = ?
 
 -- src/lib.rt:82:1
 same-length-27 : tie.Need-same-length-27
-same-length-27 c = search needs
+same-length-27 c = ?
 
 -- src/lib.rt:82:1
 returns-4 : tie.Need-returns-4
-returns-4 c = search needs
+returns-4 c = ?
 
 pub stages-spec : {M : Type 1} → statement M
 stages-spec =
