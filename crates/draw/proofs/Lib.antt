@@ -1,0 +1,3 @@
+pub mod Bridge
+pub mod Drawings
+pub mod Endings

@@ -1,0 +1,176 @@
+-- What the check leaves of an accepted scene is drawn as the scene itself. Assumes nothing.
+use Prim.Native.Nat.{ℕ, zero, suc, _+_, _-_, _*_, _/_, _<_, _≤_}
+use mathlib.Core.Path.{_≡_, refl, sym, ap, ap₂, subst, fun-ext, _∙_}
+use mathlib.Core.List.{List, [], _∷_}
+use mathlib.Core.Bool.{Bool, true, false, _&&_, cond}
+use native.Mathlib.Omega.{arith}
+use lib.ListN.{length, take, replicate, length-append}
+use lib.Dec.{ltb, leb}
+use lib.Ieee.{Float}
+use borrow.Author.Tests.{le-ltb, ltb-true, ltb-false}
+use Rattle.floats.specs.Arith.{zeroF}
+use Rattle.geometry.specs.declared.ray.Ray.{Ray}
+use Rattle.geometry.specs.declared.bounding_box.BBox.{BBox}
+use Rattle.rows.specs.Rows.{view, padded}
+use Rattle.rows.specs.Entries.{numbersOf, numbersRow}
+use Rattle.rows.specs.declared.Numbers.{Numbers}
+use Rattle.rows.proofs.RowLaws.{view-flat, length-flat}
+use Rattle.scene.specs.Entries.{entryAt, ownEntry}
+use Rattle.scene.specs.declared.entry.Entry.{Entry}
+use Rattle.scene.specs.declared.entry.Entry.the-variants.{None}
+use Rattle.scene.specs.declared.refusal.Refusal.the-variants.{Room}
+use Rattle.shape.specs.Shapes.{Shape, shapeBox, shapeHit}
+use Rattle.nodes.specs.Trees.{Tree, layout}
+use Rattle.nodes.specs.declared.Node.{Node}
+use Rattle.sort.specs.Sort.{Each}
+use Rattle.sort.proofs.EachLaws.{each-append, each-map}
+use Rattle.tree.specs.Build.{Fits, boxAt, nodesFor}
+use Rattle.tree.proofs.Agreement.{same-tree}
+use Rattle.walk.specs.Walks.{nothing, visit}
+use Rattle.walk.specs.declared.Found.{Found}
+use Rattle.parts.specs.Parts.{entries, namedBefore}
+use Rattle.parts.specs.Drawn.{unnamed, drawn}
+use Rattle.measures.specs.Each.{listTo}
+use Rattle.measures.proofs.EachLaws.{length-to}
+use Rattle.accept.specs.Placings.{inverseAt}
+use Rattle.accept.specs.Extents.{ownBox}
+use Rattle.accept.specs.Checks.{Scene, entriesOf, checkOf, inversesOf, boxesOf}
+use Rattle.accept.specs.declared.Verdict.the-variants.{Accepted}
+use Rattle.accept.proofs.Reading.{stored-entry}
+use Rattle.accept.proofs.Left.{accepted-numbers, own-box}
+use Rattle.queries.specs.Queries.{plantedOf}
+use Rattle.queries.specs.declared.Built.{Built}
+use Rattle.queries.specs.declared.Built.the-variants.{Nodes, Refused as NotBuilt}
+use Rattle.queries.proofs.Plants.{accepted-many, accepted-fits}
+use Rattle.paths.specs.Answers.{Answer, answered, next}
+use Rattle.paths.specs.Paths.{Paths, noPaths}
+use Rattle.view.specs.Views.{viewport, argsOf}
+use Rattle.view.specs.declared.View.{View}
+use Rattle.clip.specs.Clip.{clipPaths}
+use Rattle.visible.specs.Sights.{sees}
+use Rattle.collect.specs.Lined.{Lined, bare, readLined, ownLines}
+use Rattle.collect.specs.Collect.{choppedLines, collectedAll}
+use Rattle.collect.specs.Slices.{linedAt}
+use Rattle.collect.proofs.Nesting.{bare-read}
+use Rattle.render.specs.Render.{Places, stepping, nearestOf, onTree, seenLines, simplifiedLines, mapped, staged, rendered}
+use Rattle.render.specs.Slices.{Listed}
+use Rattle.draw.specs.Draw.{linedIn, render}
+
+-- ---- a drawing hangs on the boxes of its solids alone
+module _ (box box′ : ℕ → BBox) where
+  nodes-alike : (ids : List ℕ) → Each (λ (i : ℕ). box i ≡ box′ i) ids → nodesFor box ids ≡ nodesFor box′ ids
+  unfolding nodesFor
+  nodes-alike [] e = refl
+  nodes-alike (i ∷ ids) e = ap layout (same-tree box box′ (i ∷ ids) e)
+
+  -- and so does the build
+  pub planted-alike : (ids : List ℕ) → Each (λ (i : ℕ). box i ≡ box′ i) ids → (places room : ℕ) → plantedOf box ids places room ≡ plantedOf box′ ids places room
+  unfolding plantedOf
+  planted-alike ids e places room = ap (λ (ns : List Node). cond (leb (length ids) room && leb (length ns) places) (Nodes (length ns)) (NotBuilt Room)) (nodes-alike ids e)
+
+  nearest-alike : (solid : ℕ → Shape) (ids : List ℕ) → Each (λ (i : ℕ). box i ≡ box′ i) ids → nearestOf solid box ids ≡ nearestOf solid box′ ids
+  unfolding nearestOf
+  nearest-alike solid ids e = fun-ext (λ (r : Ray). go ids e r)
+    where
+      go : (ids : List ℕ) → Each (λ (i : ℕ). box i ≡ box′ i) ids → (r : Ray) → nearestOf solid box ids r ≡ nearestOf solid box′ ids r
+      go [] e r = refl
+      go (i ∷ ids) e r = ap (λ (t : Tree ℕ). visit (λ (k : ℕ). shapeHit (solid k) r) r t 0 nothing) (same-tree box box′ (i ∷ ids) e)
+
+  module _ (t : Float) (v : View) (w : Places) (ids : List ℕ) (e : Each (λ (i : ℕ). box i ≡ box′ i) ids) where
+    seen-alike : (solid : ℕ → Shape) (room startRoom : ℕ) (p : Paths) → seenLines v (w .nodes) (w .order) solid box ids room startRoom p ≡ seenLines v (w .nodes) (w .order) solid box′ ids room startRoom p
+    unfolding seenLines
+    seen-alike solid room startRoom p =
+        ap₂ (λ (b : Built) (near : Ray → Found). onTree b (clipPaths (v .matrix) (sees near (v .eye)) (p .vertices) (p .starts) room startRoom))
+        (planted-alike ids e (w .nodes) (w .order)) (nearest-alike solid ids e)
+
+    staged-alike : (solid : ℕ → Shape) (p : Paths) → staged t v w solid box ids p ≡ staged t v w solid box′ ids p
+    unfolding staged
+    staged-alike solid p =
+        ap₂ (λ (f : Paths → Answer Paths) (a : Answer Paths). cond (stepping v)
+        (next (choppedLines (argsOf v) (w .lines .chopped) (w .lines .begins) p) (λ (q : Paths). next (f q) (simplifiedLines t (w .points) (w .starts)))) a)
+        (fun-ext (λ (q : Paths). seen-alike solid (w .lines .points) (w .lines .starts) q)) (seen-alike solid (w .points) (w .starts) p)
+
+    pub boxes-alike : (lined : ℕ → Lined) → rendered t v w lined box ids ≡ rendered t v w lined box′ ids
+    unfolding rendered
+    boxes-alike lined =
+        ap (λ (f : Paths → Answer Paths). next (collectedAll (argsOf v) (w .lines) lined ids noPaths) (λ (p : Paths). next (f p) (λ (s : Paths). answered (mapped (viewport (v .width) (v .height)) s))))
+        (fun-ext (λ (p : Paths). staged-alike (λ (i : ℕ). bare (lined i)) p))
+
+-- ---- drawn entries are entries
+each-unnamed : (P : ℕ → Type 0) (g : ℕ → Bool) (n : ℕ) → ((i : ℕ) → i < n → P i) → Each P (unnamed g n)
+unfolding unnamed Each
+each-unnamed P g zero h = tt
+each-unnamed P g (suc n) h = each-append P (unnamed g n) (cond (g n) [] (n ∷ [])) (each-unnamed P g n (λ i l. h i (omega arith))) (last (g n))
+  where
+    last : (t : Bool) → Each P (cond t [] (n ∷ []))
+    last true = tt
+    last false = (h n (omega arith), tt)
+
+-- ---- where there is no entry, none is read
+no-entry : (i n : ℕ) → n ≤ i → (a b : Bool) (x y : Entry) → cond (a && (b && ltb i n)) x None ≡ cond (a && ltb i n) y None
+no-entry i n h true true x y = rw (le-ltb i n h)
+no-entry i n h true false x y = rw (le-ltb i n h)
+no-entry i n h false b x y = refl
+
+module _ (s : Scene) (n : ℕ) (is : checkOf s ≡ Accepted n) where
+  module _ (L : ℕ) (vs : List Float) (left : vs ≡ padded zeroF L (inversesOf s)) where
+    abbrev inverses : List Numbers
+    inverses = listTo (inverseAt (s .numbers) (s .marks)) (entriesOf s)
+
+    abbrev zeros : List Float
+    zeros = replicate (L - length (inversesOf s)) zeroF
+
+    inverses-read : view 16 numbersOf (entriesOf s) vs ≡ inverses
+    unfolding padded
+    inverses-read =
+        ap (view 16 numbersOf (entriesOf s)) left
+        ∙ sym (ap (λ (m : ℕ). view 16 numbersOf m (padded zeroF L (inversesOf s))) (length-to (inverseAt (s .numbers) (s .marks)) (entriesOf s)))
+        ∙ view-flat 16 numbersOf numbersRow (λ b. refl) (λ b. refl) inverses zeros
+
+    inverses-long : entriesOf s * 16 ≤ length vs
+    unfolding padded
+    inverses-long =
+        let e : length vs ≡ length (inversesOf s) + length zeros = ap length left ∙ length-append (inversesOf s) zeros in
+        let w : length (inversesOf s) ≡ entriesOf s * 16 = length-flat 16 numbersOf numbersRow (λ b. refl) inverses ∙ ap (λ (m : ℕ). m * 16) (length-to (inverseAt (s .numbers) (s .marks)) (entriesOf s)) in
+        omega (arith, e, w)
+
+    entry-is : (i : ℕ) (t : Bool) → ltb i (entriesOf s) ≡ t → entryAt (s .numbers) vs (s .marks) i ≡ ownEntry (s .numbers) (s .marks) i
+    unfolding entryAt ownEntry
+    entry-is i true e = stored-entry (s .numbers) vs (s .marks) (omega (arith, accepted-numbers s n is)) inverses-long inverses-read i (ltb-true i (entriesOf s) e)
+    entry-is i false e = no-entry i (entriesOf s) (ltb-false i (entriesOf s) e) (ltb i (length (s .numbers) / 16)) (ltb i (length vs / 16)) _ _
+
+    -- the drawn values read with the inverses that are left are the scene's own
+    pub own-lined : linedAt 8 (s .numbers) vs (s .marks) (s .points) (s .starts) (s .owners) ≡ linedIn s
+    own-lined =
+        ap (λ (at : ℕ → Entry). readLined 8 at (ownLines (s .marks) (s .points) (s .starts) (s .owners)))
+        (fun-ext (λ (i : ℕ). entry-is i (ltb i (entriesOf s)) refl))
+
+  module _ (L : ℕ) (bs : List Float) (left : bs ≡ padded zeroF L (boxesOf s)) where
+    -- and the boxes of the drawn entries are their own
+    pub own-boxes : Each (λ (i : ℕ). boxAt bs i ≡ ownBox (s .numbers) (s .marks) i) (drawn (s .marks))
+    own-boxes =
+        each-unnamed (λ (i : ℕ). boxAt bs i ≡ ownBox (s .numbers) (s .marks) i) (namedBefore (s .marks) (entriesOf s)) (entriesOf s)
+        (λ i h. own-box s n is L bs left i h)
+
+    lined-boxes : Each (λ (i : ℕ). boxAt bs i ≡ shapeBox (bare (linedIn s i))) (drawn (s .marks))
+    lined-boxes =
+        each-map (λ (i : ℕ). boxAt bs i ≡ ownBox (s .numbers) (s .marks) i) (λ (i : ℕ). boxAt bs i ≡ shapeBox (bare (linedIn s i)))
+        (λ i e. e ∙ sym (ap shapeBox (bare-read (ownEntry (s .numbers) (s .marks)) (ownLines (s .marks) (s .points) (s .starts) (s .owners)) 8 i)))
+        (drawn (s .marks)) own-boxes
+
+    -- so many solids are listed, each with its box
+    pub accepted-listed : 6144 ≤ length bs → (ds : List ℕ) → n ≤ length ds → take n ds ≡ drawn (s .marks) → Listed bs ds n
+    accepted-listed long ds upto listed = record {
+      upto = upto;
+      few = accepted-many s n is;
+      boxed = subst (Each (Fits bs)) (sym listed) (accepted-fits s n is bs long L left);
+    }
+
+  -- what the check leaves is drawn as the scene is
+  pub rendered-is-render : (t : Float) (v : View) (w : Places) (L : ℕ) (vs : List Float) → vs ≡ padded zeroF L (inversesOf s) → (M : ℕ) (bs : List Float) → bs ≡ padded zeroF M (boxesOf s)
+      → (ds : List ℕ) → take n ds ≡ drawn (s .marks)
+      → rendered t v w (linedAt 8 (s .numbers) vs (s .marks) (s .points) (s .starts) (s .owners)) (boxAt bs) (take n ds) ≡ render t v w (linedIn s) (drawn (s .marks))
+  unfolding render
+  rendered-is-render t v w L vs lv M bs lb ds listed =
+      ap₂ (λ (lined : ℕ → Lined) (ids : List ℕ). rendered t v w lined (boxAt bs) ids) (own-lined L vs lv) listed
+      ∙ boxes-alike (boxAt bs) (λ (i : ℕ). shapeBox (bare (linedIn s i))) t v w (drawn (s .marks)) (lined-boxes M bs lb) (linedIn s)

@@ -1,0 +1,66 @@
+-- How a draw ends, by the verdict on the scene and by what the check left. Assumes nothing.
+use Prim.Native.Nat.{ℕ, _≤_}
+use mathlib.Core.Path.{_≡_, refl, sym, _∙_}
+use mathlib.Core.List.{List}
+use mathlib.Core.Bool.{Bool, true, false}
+use native.Mathlib.Omega.{arith}
+use lib.ListN.{length, take}
+use lib.Ieee.{Float, lt, ofBits}
+use Rattle.floats.specs.Arith.{zeroF}
+use Rattle.rows.specs.Rows.{padded}
+use Rattle.scene.specs.declared.refusal.Refusal.{Refusal}
+use Rattle.scene.specs.declared.refusal.Refusal.the-variants.{View as BadView}
+use Rattle.tree.specs.Build.{boxAt}
+use Rattle.parts.specs.Drawn.{drawn}
+use Rattle.accept.specs.Checks.{Scene, checkOf, inversesOf, boxesOf, ifAccepted}
+use Rattle.accept.specs.declared.Verdict.{Verdict}
+use Rattle.accept.specs.declared.Verdict.the-variants.{Accepted, Refused}
+use Rattle.accept.proofs.Left.{left-is, own-drawn}
+use Rattle.queries.proofs.Plants.{accepted-count, accepted-many}
+use Rattle.paths.specs.Ends.{EndsBoth}
+use Rattle.paths.specs.declared.Counts.{Counts}
+use Rattle.paths.specs.declared.Counts.the-variants.{Refused as NotBoth}
+use Rattle.paths.proofs.Ending.{refuses-both}
+use Rattle.lines.proofs.Adding.{ends-both-as}
+use Rattle.view.specs.Views.{viewOk}
+use Rattle.view.specs.declared.View.{View}
+use Rattle.collect.specs.Slices.{linedAt}
+use Rattle.render.specs.Render.{Places, rendered}
+use Rattle.render.specs.Slices.{Listed}
+use Rattle.draw.specs.Draw.{linedIn, millionth, render, drawnAfter, drawOf}
+use Rattle.draw.proofs.Bridge.{accepted-listed, rendered-is-render}
+
+pub millionth-fine : lt millionth zeroF ≡ false
+unfolding ofBits lt
+millionth-fine = refl
+
+-- the verdict, and what the check left
+module _ (s : Scene) (d : Verdict) (judged : d ≡ checkOf s) (v : View) (w : Places) where
+  pub scene-refused : {k : Refusal} → d ≡ Refused k → (xs : List Float) (ss : List ℕ) → EndsBoth (drawOf s v w) xs ss (NotBoth k)
+  unfolding drawOf drawnAfter
+  scene-refused h xs ss = refuses-both xs ss (rw (← judged, h))
+
+  module _ {n : ℕ} (h : d ≡ Accepted n) where
+    pub view-refused : {b : Bool} → b ≡ viewOk v → b ≡ false → (xs : List Float) (ss : List ℕ) → EndsBoth (drawOf s v w) xs ss (NotBoth BadView)
+    unfolding drawOf drawnAfter
+    view-refused e f xs ss = refuses-both xs ss (rw (← judged, h, ← e, f))
+
+    draw-as : {b : Bool} → b ≡ viewOk v → b ≡ true → drawOf s v w ≡ render millionth v w (linedIn s) (drawn (s .marks))
+    unfolding drawOf drawnAfter
+    draw-as e t = rw (← judged, h, ← e, t)
+
+    module _ (M O : ℕ) (bs : List Float) (lb : bs ≡ padded zeroF M (ifAccepted d (boxesOf s))) (ds : List ℕ) (ld : ds ≡ padded 0 O (ifAccepted d (drawn (s .marks)))) where
+      is : checkOf s ≡ Accepted n
+      is = sym judged ∙ h
+
+      listed : take n ds ≡ drawn (s .marks)
+      listed = own-drawn s n is O ds (left-is 0 n h O (drawn (s .marks)) ld) (accepted-count s n is)
+
+      pub scene-listed : 6144 ≤ length bs → 1024 ≤ length ds → Listed bs ds n
+      scene-listed long room = accepted-listed s n is M bs (left-is zeroF n h M (boxesOf s) lb) long ds (omega (arith, accepted-many s n is)) listed
+
+      pub scene-rendered : (L : ℕ) (vs : List Float) → vs ≡ padded zeroF L (ifAccepted d (inversesOf s)) → {b : Bool} → b ≡ viewOk v → b ≡ true → (xs : List Float) (ss : List ℕ) {r : Counts}
+          → EndsBoth (rendered millionth v w (linedAt 8 (s .numbers) vs (s .marks) (s .points) (s .starts) (s .owners)) (boxAt bs) (take n ds)) xs ss r → EndsBoth (drawOf s v w) xs ss r
+      scene-rendered L vs lv e t xs ss f =
+          ends-both-as (draw-as e t
+          ∙ sym (rendered-is-render s n is millionth v w L vs (left-is zeroF n h L (inversesOf s) lv) M bs (left-is zeroF n h M (boxesOf s) lb) ds listed)) f

@@ -1,0 +1,1 @@
+// Demand 3 in a draw: definitions and theorems, in specs/.
