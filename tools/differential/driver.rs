@@ -9,6 +9,8 @@
 mod calls;
 mod core;
 mod demand;
+mod draw_inputs;
+mod draws;
 mod harness;
 #[path = "../host/larnt.rs"]
 mod host;
@@ -30,11 +32,12 @@ use std::process::ExitCode;
 /// Its name, what it compares, and what it times.
 type Layer = (&'static str, fn(&mut Run), fn());
 
-const LAYERS: [Layer; 4] = [
+const LAYERS: [Layer; 5] = [
     ("leaves", leaves::compare, leaves::speed),
     ("scenes", scenes::compare, scenes::speed),
     ("trees", trees::compare, trees::speed),
     ("stages", stages::compare, stages::speed),
+    ("draws", draws::compare, draws::speed),
 ];
 
 fn layers(named: &[&str]) -> Option<Vec<Layer>> {
