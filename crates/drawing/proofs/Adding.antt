@@ -1,0 +1,84 @@
+-- Words added one after the other, in a row of calls or in a loop. Assumes nothing.
+use Prim.Native.Nat.{ℕ, zero, suc, _+_, _-_, _*_, _/_, _%_, _≤_, _<_}
+use mathlib.Core.Path.{_≡_, refl, sym, ap, _∙_, subst}
+use mathlib.Core.List.{List, [], _∷_, _++_, append-nil}
+use native.Mathlib.Omega.{arith}
+use native.Mathlib.Numerals.{add-one}
+use borrow.Author.Tests.{lt-ltb, le-ltb}
+use lib.ListN.{length, take, drop, getD, set, length-set}
+use lib.Seq.{take-suc-set, length-take-le, drop-cons}
+use Rattle.scene.specs.declared.refusal.Refusal.{Refusal}
+use Rattle.scene.specs.declared.refusal.Refusal.the-variants.{Room}
+use Rattle.paths.specs.Answers.{Answer, answered, refused, next}
+use Rattle.paths.specs.Paths.{push, extend}
+use Rattle.paths.specs.declared.Count.{Count}
+use Rattle.paths.specs.declared.Count.the-variants.{At, Refused}
+use Rattle.paths.proofs.Runs.{extend-append, extend-one}
+use Rattle.drawing.specs.Writing.{sofar, adds, Within, Writes}
+
+module _ (room : ℕ) where
+  pub adds-append : (a : Answer (List ℕ)) (v w : List ℕ) → adds room a (v ++ w) ≡ adds room (adds room a v) w
+  unfolding adds
+  adds-append (answered s) v w = extend-append room s v w
+  adds-append (refused k) v w = refl
+
+  pub adds-nothing : (a : Answer (List ℕ)) → adds room a [] ≡ a
+  unfolding adds extend
+  adds-nothing (answered s) = refl
+  adds-nothing (refused k) = refl
+
+-- ---- a byte
+module _ (xs : List ℕ) (b : ℕ) where
+  pub byte-refused : (c : Count) {k : Refusal} → c ≡ Refused k → Writes (b ∷ []) xs c xs (Refused k)
+  unfolding adds
+  byte-refused c {k} e = record { is = sym (ap (λ (d : Count). adds (length xs) (sofar d xs) (b ∷ [])) e); fits = λ n q. clash n q }
+    where
+      clash : (n : ℕ) → Refused k ≡ At n → n ≤ length xs
+      clash n q = let z : _≡_ {A = ℕ} 0 1 = cc in absurd (omega arith)
+
+  pub byte-full : (c : Count) {n : ℕ} → c ≡ At n → n ≤ length xs → length xs ≤ n → Writes (b ∷ []) xs c xs (Refused Room)
+  unfolding adds push
+  byte-full c {n} e h l =
+      record { is = sym (ap (λ (d : Count). adds (length xs) (sofar d xs) (b ∷ [])) e ∙ extend-one (length xs) (take n xs) b ∙ rw (length-take-le n xs h, le-ltb n (length xs) l) refl); fits = λ m q. clash m q }
+    where
+      clash : (m : ℕ) → Refused Room ≡ At m → m ≤ length xs
+      clash m q = let z : _≡_ {A = ℕ} 0 1 = cc in absurd (omega arith)
+
+  pub byte-put : (c : Count) {n : ℕ} → c ≡ At n → n < length xs → Writes (b ∷ []) xs c (set xs n b) (At (n + 1))
+  unfolding adds push
+  byte-put c {n} e h =
+      let l : length (set xs n b) ≡ length xs = length-set xs n b in
+      record {
+        is = sym (ap (λ (d : Count). adds (length xs) (sofar d xs) (b ∷ [])) e ∙ extend-one (length xs) (take n xs) b ∙ rw (length-take-le n xs (omega arith), lt-ltb n (length xs) h) refl ∙ ap answered (sym (rw add-one (take-suc-set xs n b h))));
+        fits = λ m q. fit m q;
+      }
+    where
+      fit : (m : ℕ) → At (n + 1) ≡ At m → m ≤ length (set xs n b)
+      fit m q = let z : n + 1 ≡ m = cc in omega (arith, length-set xs n b)
+
+-- ---- what is left to add answers as the whole does
+pub record Writing (w xs : List ℕ) (c : Count) (ys : List ℕ) (d : Count) (rest : List ℕ) : Type 0 where
+  pub same : length ys ≡ length xs
+  pub fits : Within d (length ys)
+  pub left : adds (length xs) (sofar d ys) rest ≡ adds (length xs) (sofar c xs) w
+
+module _ {w xs : List ℕ} {c : Count} where
+  pub writing-start : Within c (length xs) → Writing w xs c xs c w
+  writing-start h = record { same = refl; fits = h; left = refl }
+
+  pub writing-turn : {ys : List ℕ} {d : Count} (v rest : List ℕ) {zs : List ℕ} {e : Count} → Writing w xs c ys d (v ++ rest) → Writes v ys d zs e → length zs ≡ length ys → Writing w xs c zs e rest
+  writing-turn {ys} {d} v rest {zs} {e} h k l = record {
+    same = l ∙ h .same;
+    fits = k .fits;
+    left = ap (λ (a : Answer (List ℕ)). adds (length xs) a rest) (k .is ∙ ap (λ (n : ℕ). adds n (sofar d ys) v) (h .same)) ∙ sym (adds-append (length xs) (sofar d ys) v rest) ∙ h .left;
+  }
+
+  pub writing-end : {ys : List ℕ} {d : Count} → Writing w xs c ys d [] → Writes w xs c ys d
+  writing-end {ys} {d} h = record { is = sym (adds-nothing (length xs) (sofar d ys)) ∙ h .left; fits = h .fits }
+
+  pub writing-as : {ys : List ℕ} {d : Count} {r s : List ℕ} → r ≡ s → Writing w xs c ys d r → Writing w xs c ys d s
+  writing-as {ys} {d} e h = subst (λ (t : List ℕ). Writing w xs c ys d t) e h
+
+-- ---- a last word
+pub writes-last : {w xs : List ℕ} {c : Count} {ys : List ℕ} {d : Count} (v : List ℕ) {zs : List ℕ} {e : Count} → Writing w xs c ys d v → Writes v ys d zs e → length zs ≡ length ys → Writes w xs c zs e
+writes-last {w} {xs} {c} v h k l = writing-end (writing-turn v [] (writing-as (sym (append-nil v)) h) k l)

@@ -1,0 +1,3 @@
+-- Laws of writing on in a slice of bytes.
+pub mod Numbers
+pub mod Adding

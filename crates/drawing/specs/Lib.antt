@@ -1,0 +1,4 @@
+-- The definitions that the contracts of `drawing` cite.
+pub mod Numbers
+pub mod Drawings
+pub mod Writing
