@@ -99,11 +99,11 @@ fn put_decimal(text: &mut [u8], c: Count, k: usize, n: u64) -> Count
 }
 
 // A number, with a byte before it.
-fn put_number(text: &mut [u8], c: Count, before: u8, x: f64) -> Count
+fn put_number(text: &mut [u8], c: Count, first: u8, x: f64) -> Count
     requires { ⌜ Within c (length (now text)) ⌝ }
-    ensures { λ r. ⌜ Writes (before ∷ numberText x) (now (text .entry)) c (now (text .exit)) r ⌝ }
+    ensures { λ r. ⌜ Writes (first ∷ numberText x) (now (text .entry)) c (now (text .exit)) r ⌝ }
 {
-    let d = put_byte(text, c, before);
+    let d = put_byte(text, c, first);
     let e = put_byte(text, d, 35);
     put_hex(text, e, 16, bits_of(x))
 }
