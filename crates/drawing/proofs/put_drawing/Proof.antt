@@ -1,3 +1,6 @@
+use mathlib.Core.Path.{_∙_}
+use Rattle.drawing.proofs.Ends.{within-none}
+use Rattle.drawing.proofs.Texts.{drawing-put}
 use borrow.Author.Needs.{needs}
 use Rattle.drawing.proofs.put_drawing.Statement.{statement}
 use Rattle.drawing.proofs.put_drawing.Tie as tie
@@ -13,11 +16,11 @@ slice-aggregate-put-word c = search needs
 
 -- src/lib.rt:163:9
 put-word-requires : tie.Need-put-word-requires
-put-word-requires c κs = search needs
+put-word-requires c κs = within-none _
 
 -- src/lib.rt:164:9
 put-decimal-requires : tie.Need-put-decimal-requires
-put-decimal-requires c κs = search needs
+put-decimal-requires c κs = c .before .before .before .put-word .ensures .fits
 
 -- src/lib.rt:165:31
 slice-aggregate-put-word-2 : tie.Need-slice-aggregate-put-word-2
@@ -25,19 +28,19 @@ slice-aggregate-put-word-2 c = search needs
 
 -- src/lib.rt:165:9
 put-word-requires-2 : tie.Need-put-word-requires-2
-put-word-requires-2 c κs = search needs
+put-word-requires-2 c κs = c .before .before .before .before .put-decimal .ensures .fits
 
 -- src/lib.rt:166:5
 put-paths-requires : tie.Need-put-paths-requires
-put-paths-requires c κs = search needs
+put-paths-requires c κs = c .before .before .before .put-word2 .ensures .fits
 
 -- src/lib.rt:160:1
 same-length : tie.Need-same-length
-same-length c = search needs
+same-length c = c .before .before .put-paths .kept .0 ∙ c .before .before .before .before .before .before .put-word2 .kept .0 ∙ c .before .before .before .before .before .before .before .before .before .before .before .put-decimal .kept .0 ∙ c .before .before .before .before .before .before .before .before .before .before .before .before .before .before .before .put-word .kept .0
 
 -- src/lib.rt:160:1
 returns : tie.Need-returns
-returns c = search needs
+returns c = drawing-put (within-none _) _ _ (c .before .before .before .before .before .before .before .before .before .before .before .before .before .before .before .put-word .ensures) (c .before .before .before .before .before .before .before .before .before .before .before .before .before .before .before .put-word .kept .0) (c .before .before .before .before .before .before .before .before .before .before .before .put-decimal .ensures) (c .before .before .before .before .before .before .before .before .before .before .before .put-decimal .kept .0) (c .before .before .before .before .before .before .put-word2 .ensures) (c .before .before .before .before .before .before .put-word2 .kept .0) (c .before .before .put-paths .ensures) (c .before .before .put-paths .kept .0)
 
 pub put-drawing-spec : {M : Type 1} → statement M
 put-drawing-spec =

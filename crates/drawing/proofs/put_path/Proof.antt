@@ -18,7 +18,7 @@ put-word-requires c κs = c .before .before .before .before .pre .0
 
 -- src/lib.rt:141:9
 put-points-requires : tie.Need-put-points-requires
-put-points-requires c κs = (c .before .before .before .put-word .ensures .fits, c .before .before .before .before .before .before .before .before .pre .1)
+put-points-requires c κs = (c .before .before .before .put-word .ensures .fits, c .before .before .before .before .before .before .before .before .pre .1, c .before .before .before .before .before .before .before .before .pre .2)
 
 -- src/lib.rt:142:23
 slice-aggregate-put-word-2 : tie.Need-slice-aggregate-put-word-2

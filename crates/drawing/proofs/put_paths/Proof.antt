@@ -32,7 +32,7 @@ span-of-requires c κs = search needs
 
 -- src/lib.rt:154:9
 put-path-requires : tie.Need-put-path-requires Inv-loop μ-loop
-put-path-requires c κs = (c .before .before .before .loop .inv .fits, span-fits (c .before .before .before .before .before .before .before .args .path .now) (c .before .before .before .before .before .before .before .args .starts .now) (c .before .before .before .loop .i) (c .before .span-of .result) (c .before .span-of .ensures))
+put-path-requires c κs = let w = span-fits (c .before .before .before .before .before .before .before .args .path .now) (c .before .before .before .before .before .before .before .args .starts .now) (c .before .before .before .loop .i) (c .before .span-of .result) (c .before .span-of .ensures) in (c .before .before .before .loop .inv .fits, w .0, w .1)
 
 -- src/lib.rt:155:9
 add-i : tie.Need-add-i Inv-loop μ-loop
