@@ -1,5 +1,5 @@
 -- Words added one after the other, in a row of calls or in a loop. Assumes nothing.
-use Prim.Native.Nat.{ℕ, zero, suc, _+_, _-_, _*_, _/_, _%_, _≤_, _<_}
+use Prim.Native.Nat.{ℕ, _+_, _-_, _≤_, _<_}
 use mathlib.Core.Path.{_≡_, refl, sym, ap, _∙_, subst}
 use mathlib.Core.List.{List, [], _∷_, _++_, append-nil}
 use native.Mathlib.Omega.{arith}
@@ -9,7 +9,7 @@ use lib.ListN.{length, take, drop, getD, set, length-set, drop-of-length-le}
 use lib.Seq.{take-suc-set, length-take-le, drop-cons}
 use Rattle.scene.specs.declared.refusal.Refusal.{Refusal}
 use Rattle.scene.specs.declared.refusal.Refusal.the-variants.{Room}
-use Rattle.paths.specs.Answers.{Answer, answered, refused, next}
+use Rattle.paths.specs.Answers.{Answer, answered, refused}
 use Rattle.paths.specs.Paths.{push, extend}
 use Rattle.paths.specs.declared.Count.{Count}
 use Rattle.paths.specs.declared.Count.the-variants.{At, Refused}

@@ -5,20 +5,20 @@ use mathlib.Core.Logic.{_⊎_, inl, inr}
 use mathlib.Core.Bool.{Bool, true, false, cond}
 use mathlib.Core.List.{List, [], _∷_, _++_}
 use native.Mathlib.Omega.{arith}
-use borrow.Author.Tests.{le-leb, lt-leb, ltb-true, ltb-false}
+use borrow.Author.Tests.{le-leb, lt-leb, ltb-true}
 use lib.Dec.{ltb, leb}
 use lib.ListN.{length, take, drop, replicate}
 use lib.Seq.{take-all, length-take-le}
 use lib.Ieee.{Float}
 use Rattle.floats.proofs.Order.{le-or-lt}
 use Rattle.geometry.specs.declared.vector.Vector.{Vector}
-use Rattle.rows.specs.Rows.{view, padded}
+use Rattle.rows.specs.Rows.{view}
 use Rattle.rows.specs.Points.{points, pointOf}
 use Rattle.rows.proofs.RowLaws.{padded-take}
 use Rattle.scene.specs.Refusals.{numberOf}
 use Rattle.scene.specs.declared.refusal.Refusal.{Refusal}
 use Rattle.scene.specs.declared.refusal.Refusal.the-variants.{Room}
-use Rattle.paths.specs.Answers.{Answer, answered, refused}
+use Rattle.paths.specs.Answers.{answered, refused}
 use Rattle.paths.specs.Paths.{extend, pathsOf}
 use Rattle.paths.specs.Ends.{places, allPoints}
 use Rattle.paths.specs.Spans.{lesserOf}

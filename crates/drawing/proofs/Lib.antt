@@ -4,3 +4,4 @@ pub mod Adding
 pub mod Digits
 pub mod Texts
 pub mod Ends
+pub mod Determined

@@ -3,8 +3,6 @@ use mathlib.Core.Path.{_≡_, refl, sym, subst}
 use mathlib.Core.Bool.{Bool, true, false, not}
 use lib.Dec.{T}
 use lib.Ieee.{Float, nan, isNan, eq, toBits}
-use Prim.Native.Nat.{ℕ}
-use native.Mathlib.Omega.{arith}
 use Rattle.floats.proofs.Extremes.{is-nan}
 use Rattle.drawing.specs.Numbers.{bitsOf}
 

@@ -1,22 +1,21 @@
 -- A number, a point, a path and a drawing, written part by part. Assumes nothing.
-use Prim.Native.Nat.{ℕ, zero, suc, _+_, _-_, _*_, _≤_, _<_}
-use mathlib.Core.Path.{_≡_, refl, sym, ap, ap₂, _∙_}
+use Prim.Native.Nat.{ℕ, suc, _+_, _-_, _*_, _≤_, _<_}
+use mathlib.Core.Path.{_≡_, refl, sym, ap, _∙_}
 use mathlib.Core.List.{List, [], _∷_, _++_}
 use native.Mathlib.Numerals.{add-one}
 use native.Mathlib.Omega.{arith}
-use lib.ListN.{length, take, drop, getD, drop-of-length-le}
+use lib.ListN.{length, drop, getD, drop-of-length-le}
 use lib.Seq.{slice, slice-empty, drop-cons}
 use lib.Ieee.{Float}
 use Rattle.geometry.specs.declared.vector.Vector.{Vector}
 use Rattle.rows.specs.Rows.{row, flat}
 use Rattle.rows.specs.Points.{pointOf}
-use Rattle.rows.specs.Starts.{nextStart, endOf}
+use Rattle.rows.specs.Starts.{endOf}
 use Rattle.paths.specs.Paths.{pathsOf}
 use Rattle.paths.specs.Ends.{places, allPoints}
 use Rattle.paths.specs.Spans.{spanOf}
 use Rattle.paths.specs.declared.Span.{Span}
 use Rattle.paths.specs.declared.Count.{Count}
-use Rattle.paths.specs.declared.Count.the-variants.{At}
 use Rattle.paths.proofs.Parts.{part-cons, span-slice}
 use Rattle.drawing.specs.Numbers.{bitsOf, hexWord, decimalWord, decimalText}
 use Rattle.drawing.specs.Drawings.{drawingWord, refusedWord, pathWord, endWord, numberText, pointText, pathText, drawingText, refusedText}

@@ -2,3 +2,4 @@
 pub mod Numbers
 pub mod Drawings
 pub mod Writing
+pub mod Determined

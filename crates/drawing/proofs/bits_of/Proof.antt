@@ -1,4 +1,3 @@
-use borrow.Author.Needs.{needs}
 use mathlib.Core.Path.{sym, ap, _∙_}
 use Rattle.drawing.proofs.Numbers.{nan-bits, nan-of, not-so}
 use Rattle.floats.proofs.Tests.{ne-self}

@@ -1,4 +1,3 @@
-use native.Mathlib.Omega.{arith}
 use Rattle.rows.proofs.RowLaws.{Filled, filled-start, filled-turn, filled-end}
 use lib.ListN.{length}
 use Prim.Native.Nat.{_-_}

@@ -5,9 +5,8 @@ use Rattle.paths.proofs.Parts.{span-fits}
 use Rattle.paths.specs.Ends.{allPoints}
 use Rattle.paths.specs.Paths.{pathsOf}
 use Rattle.rows.specs.Rows.{flat}
-use native.Mathlib.Omega.{arith}
 use lib.ListN.{length, drop}
-use Prim.Native.Nat.{_-_, _≤_}
+use Prim.Native.Nat.{_-_}
 use borrow.Author.Needs.{needs}
 use Rattle.drawing.proofs.put_paths.Statement.{statement}
 use Rattle.drawing.proofs.put_paths.Tie as tie

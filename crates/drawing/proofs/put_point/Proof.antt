@@ -1,6 +1,5 @@
 use mathlib.Core.Path.{_∙_}
 use Rattle.drawing.proofs.Texts.{point-put}
-use borrow.Author.Needs.{needs}
 use Rattle.drawing.proofs.put_point.Statement.{statement}
 use Rattle.drawing.proofs.put_point.Tie as tie
 use Rattle.drawing.proofs.put_point.Reads as reads

@@ -1,8 +1,6 @@
 use Rattle.drawing.proofs.Adding.{Writing, writing-start, word-turn, word-end}
-use native.Mathlib.Omega.{arith}
-use mathlib.Core.Path.{_∙_}
 use lib.ListN.{length, drop}
-use Prim.Native.Nat.{_-_, _≤_}
+use Prim.Native.Nat.{_-_}
 use borrow.Author.Needs.{needs}
 use Rattle.drawing.proofs.put_word.Statement.{statement}
 use Rattle.drawing.proofs.put_word.Tie as tie
