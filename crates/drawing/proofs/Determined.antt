@@ -164,7 +164,7 @@ points-cut [] (w ∷ q) h k s t e = absurd (starts-so w (flat pointText q ++ (41
 points-cut (v ∷ p) [] h k s t e = absurd (starts-so v (flat pointText p ++ (41 ∷ s)) (sym e ∙ append-assoc (pointText v) (flat pointText p) (41 ∷ s)))
 points-cut (v ∷ p) (w ∷ q) h k s t e =
     let a = point-cut v w (h .0) (k .0) (flat pointText p ++ (41 ∷ s)) (flat pointText q ++ (41 ∷ t))
-      (sym (append-assoc (pointText v) (flat pointText p) (41 ∷ s)) ∙ e ∙ append-assoc (pointText w) (flat pointText q) (41 ∷ t)) in
+    (sym (append-assoc (pointText v) (flat pointText p) (41 ∷ s)) ∙ e ∙ append-assoc (pointText w) (flat pointText q) (41 ∷ t)) in
     let b = points-cut p q (h .1) (k .1) s t (a .1) in
     (ap₂ (λ (x : Vector) (l : List Vector). x ∷ l) (a .0) (b .0), b .1)
 
