@@ -123,7 +123,7 @@ plain-is x h = by (eq x zeroF)
     by true = refl
     by false = sym (ofBits-toBits binary64 x h)
 
-number-length : (x : Float) → length (numberText x) ≡ 17
+pub number-length : (x : Float) → length (numberText x) ≡ 17
 unfolding numberText
 number-length x = ap suc (hex-length 16 (bitsOf x))
 

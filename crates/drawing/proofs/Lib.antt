@@ -5,3 +5,4 @@ pub mod Digits
 pub mod Texts
 pub mod Ends
 pub mod Determined
+pub mod Sizes

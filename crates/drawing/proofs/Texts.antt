@@ -89,7 +89,7 @@ module _ {w xs : List ℕ} {c : Count} {ys : List ℕ} {d : Count} (path : List 
   paths-end l h = writing-end (writing-as (ap (λ (ss : List ℕ). flat pathText (pathsOf (allPoints path) ss)) (drop-of-length-le starts {i = i} l)) h)
 
 -- ---- the whole
-length-paths : (vs : List Vector) (ss : List ℕ) → length (pathsOf vs ss) ≡ length ss
+pub length-paths : (vs : List Vector) (ss : List ℕ) → length (pathsOf vs ss) ≡ length ss
 unfolding pathsOf
 length-paths vs [] = refl
 length-paths vs (s ∷ ss) = ap suc (length-paths vs ss)
