@@ -213,7 +213,7 @@ fn scene_and_view(rng: &mut Rng) -> (Scene, View) {
             (case.scene, case.view)
         }
         30..66 => {
-            let scale = rng.pick(&[1.0, 1.0, 1.0, 1.0, 0.002, 0.004, 100.0, 1e4]);
+            let scale = rng.pick(&[1.0, 1.0, 1.0, 1.0, 1.0, 0.0003, 0.0006, 0.004, 100.0, 1e4]);
             let pieces = rng.pick(&[1, 1, 2, 2, 3, 4, 5, 8, 25]);
             let scene = yard(rng, scale, pieces);
             let view = view(rng, &scene);
