@@ -206,7 +206,7 @@ fn any_lengths(rng: &mut Rng, used: &Room) -> Lengths {
     }
 }
 
-fn scene_and_view(rng: &mut Rng) -> (Scene, View) {
+pub fn scene_and_view(rng: &mut Rng) -> (Scene, View) {
     let (mut scene, mut view) = match rng.below(100) {
         0..30 => {
             let case = generate::case(rng.next());
