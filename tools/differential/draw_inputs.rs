@@ -168,7 +168,8 @@ pub fn rooms(rng: &mut Rng) -> Rooms {
     }
 }
 
-fn ample(scene: &Scene) -> Room {
+/// Room for most draws of a scene.
+pub fn ample(scene: &Scene) -> Room {
     if scene.entries() > 60 {
         return Room { nodes: 2047, order: 1024, ..Room::of(5 * AMPLE) };
     }

@@ -1,5 +1,6 @@
 //! The draw: a scene and a view to a drawing, in lent slices.
 
+use crate::calls;
 use crate::draw_inputs::{self, Draw, Lengths, Rooms};
 use crate::harness::{Part, Run, Share, time_rounds};
 use crate::host::{self, raw};
@@ -151,6 +152,24 @@ fn host_draw(s: &Scene, view: &[f64; 22], lent: &mut Lent) -> u32 {
     let result = host::draw(scene, view, &mut lent.out, &mut lent.begins, work);
     (lent.points, lent.paths) = result.unwrap_or_default();
     result.err().unwrap_or(0)
+}
+
+/// What the core draws, given all the room that a short draw needs.
+pub fn amply(scene: &Scene, view: &View) -> Option<Lines> {
+    let mut lent = Lent::new(&draw_inputs::exactly(&draw_inputs::ample(scene)));
+    match core_draw(scene, &view_numbers(view), &mut lent) {
+        0 => {
+            let points = lent.out[..3 * lent.points].to_vec();
+            Some(Lines { points, starts: lent.begins[..lent.paths].to_vec() })
+        }
+        _ => None,
+    }
+}
+
+/// The same drawing, zeros and NaNs alike.
+pub fn alike(a: &Lines, b: &Lines) -> bool {
+    let bits = |lines: &Lines| lines.points.iter().map(|x| calls::alike(*x)).collect::<Vec<u64>>();
+    a.starts == b.starts && bits(a) == bits(b)
 }
 
 /// How often each number was met, 0 for an answer; and how long the core took.

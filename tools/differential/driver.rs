@@ -3,7 +3,7 @@
 //!
 //!     driver compare SEED COUNT [LAYER..]   COUNT cases a function; ends with 1 if anything differs
 //!     driver speed [LAYER..]
-//!     driver demand SEED COUNT              COUNT questions of demand 3 on hiding; 1 if one is not met
+//!     driver demand SEED COUNT              COUNT questions of demand 3 on hiding, and COUNT / 1000 draws
 //!     driver stack
 
 mod calls;
@@ -72,7 +72,11 @@ fn command(words: &[&str]) -> Option<bool> {
             Some(compare(seed.parse().ok()?, count, &layers(named)?))
         }
         ["speed", named @ ..] => Some(speed(&layers(named)?)),
-        ["demand", seed, count] => Some(demand::run(seed.parse().ok()?, count.parse().ok()?)),
+        ["demand", seed, count] => {
+            let (seed, count): (u64, u64) = (seed.parse().ok()?, count.parse().ok()?);
+            let asked = demand::run(seed, count);
+            Some(demand::draws(seed, count.div_ceil(1000)) && asked)
+        }
         ["stack"] => {
             stack::run();
             Some(true)
