@@ -1,16 +1,24 @@
 //! Demand 3 on hiding, by brute force through the compiled library: for each eye and point, every
-//! solid's own box and own returned distance, against the eye test.
+//! solid's own box and own returned distance, against the eye test; the same for the points of draws.
 
 use crate::core::CORE_SCENES;
+use crate::draw_inputs;
+use crate::draws;
 use crate::harness::{Shown, name_hash};
 use crate::host::raw::larnt_box_test;
 use crate::scene_calls::{Found, unfilled};
 use crate::tree_calls::{CORE, Rows};
 use crate::tree_inputs::{self, Rays};
 use crate::trees::length;
-use oracle::Scene;
 use oracle::check::parts;
 use oracle::generate::Rng;
+use oracle::larnt_plain::filter::ClipFilter;
+use oracle::larnt_plain::matrix::Matrix;
+use oracle::larnt_plain::path::Paths;
+use oracle::larnt_plain::shape::Shape;
+use oracle::larnt_plain::vector::Vector;
+use oracle::{Lines, Scene, View, plain};
+use std::cell::RefCell;
 
 /// What is so of an eye and a point.
 #[derive(Clone, Copy, Default)]
@@ -76,6 +84,87 @@ pub fn run(seed: u64, count: u64) -> bool {
     tally.lost == 0 && tally.unfounded == 0 && tally.brought_back == 0 && found
 }
 
+/// The same for draws: larnt's `render`, which puts its points to the compiled eye test, must give the
+/// compiled draw, and each point that is put is looked at by brute force.
+pub fn draws(seed: u64, count: u64) -> bool {
+    let mut rng = Rng::new(seed ^ name_hash("demand.draws"));
+    let (mut tally, mut drawn, mut refused, mut differ) = (Tally::default(), 0, 0, 0);
+    while drawn < count {
+        let (scene, view) = draw_inputs::scene_and_view(&mut rng);
+        if scene.entries() > 60 {
+            continue;
+        }
+        let Some(lines) = draws::amply(&scene, &view) else {
+            refused += 1;
+            continue;
+        };
+        drawn += 1;
+        let again = rendered(&mut tally, &scene, &view);
+        differ += u64::from(!draws::alike(&lines, &again));
+    }
+    println!("draws                              {drawn:>9}");
+    println!("  others, refused                  {refused:>9}");
+    println!("  differ from their points' answers {differ:>8}");
+    println!("points put to the eye test         {:>9}", tally.questions);
+    println!("  passed                           {:>9}", tally.seen);
+    println!("  dropped as hidden                {:>9}", tally.hidden);
+    println!("  covered, and the premise holds   {:>9}", tally.covered);
+    println!("  refused                          {:>9}", tally.refused);
+    println!("covered and premise, yet passed    {:>9}", tally.lost);
+    println!("dropped, yet nothing falls short   {:>9}", tally.unfounded);
+    differ == 0 && tally.refused == 0 && tally.lost == 0 && tally.unfounded == 0
+}
+
+/// `render` with the compiled eye test.
+fn rendered(tally: &mut Tally, scene: &Scene, view: &View) -> Lines {
+    let (mut found, mut rows) = (unfilled(), Rows::ample());
+    (CORE_SCENES.check)(scene, &mut found);
+    (CORE.build)(scene, &mut rows);
+    let (entries, args) = (plain::entries(scene), plain::render_args(view));
+    let mut paths = Paths::new();
+    for solid in &entries.solids {
+        paths.extend(solid.paths(&args));
+    }
+    if view.step > 0.0 {
+        paths = paths.chop_adaptive(&args);
+    }
+    let tally = RefCell::new(tally);
+    let visible = |eye: Vector, point: Vector| {
+        let asked = [eye.x, eye.y, eye.z, point.x, point.y, point.z];
+        let truth = truth(scene, &found, &rows, &asked);
+        tally.borrow_mut().count(&truth);
+        !truth.hidden
+    };
+    let matrix = plain::matrix(&view.matrix);
+    paths = paths.filter(&ClipFilter::new(matrix, plain::vector(view.eye), visible));
+    if view.step > 0.0 {
+        paths = paths.simplify(1e-6);
+    }
+    let size = Vector::new(view.width / 2.0, view.height / 2.0, 1.0);
+    let viewport = Matrix::translate(Vector::new(1.0, 1.0, 0.0)).scaled(size);
+    plain::of_paths(paths.transform(&viewport))
+}
+
+impl Tally {
+    /// One question more; whether the point is covered and the premise holds.
+    fn count(&mut self, truth: &Truth) -> bool {
+        self.questions += 1;
+        if !truth.answered {
+            self.refused += 1;
+            return false;
+        }
+        let premise = truth.apart && !truth.minus_zero;
+        let covered = truth.covered && premise;
+        self.premise += u64::from(premise);
+        self.hidden += u64::from(truth.hidden);
+        self.seen += u64::from(!truth.hidden);
+        self.covered += u64::from(covered);
+        self.lost += u64::from(covered && !truth.hidden);
+        self.unfounded += u64::from(truth.hidden && !truth.short);
+        covered
+    }
+}
+
 /// A box flat at x = 0 and one beside it; the eye at x = -0 above the point.
 fn known() -> Rays {
     let mut scene = Scene::default();
@@ -86,24 +175,12 @@ fn known() -> Rays {
 
 fn put(tally: &mut Tally, case: &Rays) {
     for (k, truth) in truths(case).into_iter().enumerate() {
-        tally.questions += 1;
-        if !truth.answered {
-            tally.refused += 1;
-            continue;
-        }
-        let premise = truth.apart && !truth.minus_zero;
-        tally.premise += u64::from(premise);
-        tally.hidden += u64::from(truth.hidden);
-        tally.seen += u64::from(!truth.hidden);
-        tally.covered += u64::from(truth.covered && premise);
-        tally.lost += u64::from(truth.covered && premise && !truth.hidden);
-        tally.unfounded += u64::from(truth.hidden && !truth.short);
-        if truth.covered && premise {
+        if tally.count(&truth) {
             let scene = alone(&case.scene, truth.by);
             let again = truths(&Rays { scene, asked: vec![case.asked[k]] })[0];
             tally.brought_back += u64::from(!again.covered || !again.hidden);
         }
-        if truth.covered && truth.apart && !premise && !truth.hidden {
+        if truth.covered && truth.apart && truth.minus_zero && !truth.hidden {
             tally.excluded += 1;
             let one = case.one(k);
             if tally.smallest.as_ref().is_none_or(|(least, _)| one.size() < *least) {

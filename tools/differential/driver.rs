@@ -3,12 +3,14 @@
 //!
 //!     driver compare SEED COUNT [LAYER..]   COUNT cases a function; ends with 1 if anything differs
 //!     driver speed [LAYER..]
-//!     driver demand SEED COUNT              COUNT questions of demand 3 on hiding; 1 if one is not met
+//!     driver demand SEED COUNT              COUNT questions of demand 3 on hiding, and COUNT / 1000 draws
 //!     driver stack
 
 mod calls;
 mod core;
 mod demand;
+mod draw_inputs;
+mod draws;
 mod harness;
 #[path = "../host/larnt.rs"]
 mod host;
@@ -30,11 +32,12 @@ use std::process::ExitCode;
 /// Its name, what it compares, and what it times.
 type Layer = (&'static str, fn(&mut Run), fn());
 
-const LAYERS: [Layer; 4] = [
+const LAYERS: [Layer; 5] = [
     ("leaves", leaves::compare, leaves::speed),
     ("scenes", scenes::compare, scenes::speed),
     ("trees", trees::compare, trees::speed),
     ("stages", stages::compare, stages::speed),
+    ("draws", draws::compare, draws::speed),
 ];
 
 fn layers(named: &[&str]) -> Option<Vec<Layer>> {
@@ -69,7 +72,11 @@ fn command(words: &[&str]) -> Option<bool> {
             Some(compare(seed.parse().ok()?, count, &layers(named)?))
         }
         ["speed", named @ ..] => Some(speed(&layers(named)?)),
-        ["demand", seed, count] => Some(demand::run(seed.parse().ok()?, count.parse().ok()?)),
+        ["demand", seed, count] => {
+            let (seed, count): (u64, u64) = (seed.parse().ok()?, count.parse().ok()?);
+            let asked = demand::run(seed, count);
+            Some(demand::draws(seed, count.div_ceil(1000)) && asked)
+        }
         ["stack"] => {
             stack::run();
             Some(true)

@@ -160,8 +160,12 @@ pub fn times_header() {
 
 /// Times rounds of `calls` calls, the two sides in turn, and prints the best round of each.
 pub fn time(name: &str, calls: usize, rust: impl Fn(), core: impl Fn()) {
+    time_rounds(name, calls, ROUNDS, rust, core);
+}
+
+pub fn time_rounds(name: &str, calls: usize, rounds: usize, rust: impl Fn(), core: impl Fn()) {
     let mut best = [f64::INFINITY; 2];
-    for _ in 0..ROUNDS {
+    for _ in 0..rounds {
         for (best, side) in best.iter_mut().zip([&rust as &dyn Fn(), &core]) {
             let start = Instant::now();
             side();

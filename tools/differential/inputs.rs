@@ -532,7 +532,7 @@ fn spoil(rng: &mut Rng, xs: &mut [f64]) {
 
 // Arithmetic on points and matrices.
 
-fn minus(a: Point, b: Point) -> Point {
+pub fn minus(a: Point, b: Point) -> Point {
     [a[0] - b[0], a[1] - b[1], a[2] - b[2]]
 }
 
@@ -544,11 +544,11 @@ fn middle(a: Point, b: Point) -> Point {
     along(a, minus(b, a), 0.5)
 }
 
-fn dot(a: Point, b: Point) -> f64 {
+pub fn dot(a: Point, b: Point) -> f64 {
     a[0] * b[0] + a[1] * b[1] + a[2] * b[2]
 }
 
-fn cross(a: Point, b: Point) -> Point {
+pub fn cross(a: Point, b: Point) -> Point {
     [a[1] * b[2] - a[2] * b[1], a[2] * b[0] - a[0] * b[2], a[0] * b[1] - a[1] * b[0]]
 }
 
@@ -557,6 +557,6 @@ pub fn unit(v: Point) -> Point {
     if length == 0.0 { [0.0, 0.0, 1.0] } else { v.map(|x| x / length) }
 }
 
-fn product(a: &Numbers, b: &Numbers) -> Numbers {
+pub fn product(a: &Numbers, b: &Numbers) -> Numbers {
     std::array::from_fn(|k| (0..4).map(|i| a[k / 4 * 4 + i] * b[4 * i + k % 4]).sum())
 }

@@ -27,12 +27,16 @@ impl Shown for Case {
 
     /// As the oracle's program reads a scene, then the entry and the numbers.
     fn text(&self) -> String {
-        let s = &self.scene;
-        let mut text = floats(&s.numbers) + &list(&s.marks) + &floats(&s.points);
-        text += &(list(&s.starts) + &list(&s.owners));
+        let mut text = scene_text(&self.scene);
         write!(text, "{}", self.i).unwrap();
         self.asked.iter().fold(text, |text, x| text + &format!(" {:016X}", x.to_bits()))
     }
+}
+
+/// As the oracle's program reads a scene.
+pub fn scene_text(s: &Scene) -> String {
+    let numbers = floats(&s.numbers) + &list(&s.marks) + &floats(&s.points);
+    numbers + &list(&s.starts) + &list(&s.owners)
 }
 
 fn floats(xs: &[f64]) -> String {

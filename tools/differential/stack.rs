@@ -1,8 +1,9 @@
 //! The stack that the recursive calls take: it is painted, and what a call leaves unpainted is counted.
 
+use crate::draws;
 use crate::host;
 use crate::tree_calls::{CORE, Rows};
-use oracle::Scene;
+use oracle::{Scene, View};
 
 const MUCH: usize = 64 << 20;
 const PAINTED: usize = 48 << 20;
@@ -42,6 +43,43 @@ pub fn run() {
         assert_eq!(host::chop(&view, &corners, &[0], &mut out, &mut begins), Err(13));
     });
     println!("chop of a longest segment: {bytes} bytes");
+    draw();
+}
+
+/// A draw of many equal boxes, whose tree is deepest; of a line to and fro, which is simplified deepest;
+/// and of cuts in cuts.
+fn draw() {
+    let mut same = Scene::default();
+    for _ in 0..800 {
+        same.push([4, 1, 0, 0], &[0.0, 0.0, 0.0, 1.0, 1.0, 1.0]);
+    }
+    let mut line = Scene::default();
+    let ball = line.push([1, 0, 0, 0], &[0.0, 0.0, -3000.0, 1.0]);
+    let to_and_fro = (0..2048).map(|k| [if k % 2 == 0 { k as f64 } else { -(k as f64) }, 0.0, 0.0]);
+    line.push_line(ball, &to_and_fro.collect::<Vec<_>>());
+    let mut cuts = Scene::default();
+    let mut so_far = cuts.push([4, 1, 0, 0], &[-500.0, -500.0, -500.0, 500.0, 500.0, 500.0]);
+    for k in 0..7 {
+        let at = 100.0 * f64::from(k) - 400.0;
+        let b = cuts.push([4, 1, 0, 0], &[at, at, at, at + 50.0, at + 50.0, 600.0]);
+        so_far = cuts.push([7, 1, so_far, b], &[]);
+    }
+    let mut matrix = [0.0; 16];
+    (matrix[0], matrix[5], matrix[10], matrix[15]) =
+        (1.0 / 4096.0, 1.0 / 4096.0, 1.0 / 4096.0, 1.0);
+    let eye = [1000.0, 2000.0, 9000.0];
+    for (name, scene, step) in [
+        ("800 equal boxes", same, 0.0),
+        ("2,048 points to and fro", line, 1000.0),
+        ("7 cuts", cuts, 100.0),
+    ] {
+        let view = View { matrix, eye, width: 1000.0, height: 1000.0, step };
+        let mut points = 0;
+        let bytes = taken(|| {
+            points = draws::amply(&scene, &view).map_or(0, |lines| lines.points.len() / 3);
+        });
+        println!("draw of {name}: {bytes} bytes, {points} points drawn");
+    }
 }
 
 fn depth(rows: &Rows, node: usize) -> usize {

@@ -21,15 +21,18 @@ impl Stage {
         Places { points: self.lengths[0] / 3, starts: self.lengths[1] }
     }
 
-    /// As the calls take it.
     pub fn view_numbers(&self) -> [f64; 22] {
-        let v = &self.view;
-        let mut n = [0.0; 22];
-        n[..16].copy_from_slice(&v.matrix);
-        n[16..19].copy_from_slice(&v.eye);
-        (n[19], n[20], n[21]) = (v.width, v.height, v.step);
-        n
+        view_numbers(&self.view)
     }
+}
+
+/// A view as the calls take it.
+pub fn view_numbers(v: &View) -> [f64; 22] {
+    let mut n = [0.0; 22];
+    n[..16].copy_from_slice(&v.matrix);
+    n[16..19].copy_from_slice(&v.eye);
+    (n[19], n[20], n[21]) = (v.width, v.height, v.step);
+    n
 }
 
 impl Shown for Stage {
@@ -311,7 +314,7 @@ fn view(rng: &mut Rng, scale: f64) -> View {
 }
 
 /// Does damage that may meet 8.
-fn damage_view(rng: &mut Rng, view: &mut View) {
+pub fn damage_view(rng: &mut Rng, view: &mut View) {
     let bad = inputs::extreme(rng);
     match rng.below(5) {
         0 => view.matrix[rng.below(16)] = bad,
@@ -349,7 +352,7 @@ pub fn ordinary(rng: &mut Rng) -> Stage {
 }
 
 /// Once around the unit square's rim, bent to a circle.
-fn ring_point(t: f64) -> (f64, f64) {
+pub fn ring_point(t: f64) -> (f64, f64) {
     let quarter = (4.0 * t).floor();
     let u = 4.0 * t - quarter;
     let d = 1.0 + u * u;

@@ -90,6 +90,17 @@ uint32_t larnt_chop(const double view[22], const double *points, size_t points_c
 uint32_t larnt_simplify(const double *points, size_t points_count, const size_t *starts, size_t starts_count,
                         double threshold, LARNT_PATHS);
 
+/* The drawing of a scene by a view. It works in the slices after `begins`, which are zeros throughout
+   afterwards: `work` and `work_starts` are eight equal slices end to end, one for the collected lines and
+   one for each cut within a cut; then the result of a chop, and the tree as above. Answers 0, or the number
+   of the refusal: 2 to 7 for the scene, 8 for the view, then 9 to 13 for the first trouble met. */
+uint32_t larnt_draw(LARNT_SCENE, const double view[22], double *out, size_t out_count, size_t *begins,
+                    size_t begins_count, double *work, size_t work_count, size_t *work_starts,
+                    size_t work_starts_count, double *chopped, size_t chopped_count, size_t *chopped_starts,
+                    size_t chopped_starts_count, double *hulls, size_t hulls_count, uint32_t *records,
+                    size_t records_count, uint32_t *order, size_t order_count, size_t *points_out,
+                    size_t *paths_out);
+
 #ifdef __cplusplus
 }
 #endif

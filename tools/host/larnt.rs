@@ -148,6 +148,39 @@ pub mod raw {
             points_out: &mut usize,
             paths_out: &mut usize,
         ) -> u32;
+        pub fn larnt_draw(
+            numbers: *const f64,
+            numbers_count: usize,
+            marks: *const u32,
+            marks_count: usize,
+            points: *const f64,
+            points_count: usize,
+            starts: *const usize,
+            starts_count: usize,
+            owners: *const u32,
+            owners_count: usize,
+            view: &[f64; 22],
+            out: *mut f64,
+            out_count: usize,
+            begins: *mut usize,
+            begins_count: usize,
+            work: *mut f64,
+            work_count: usize,
+            work_starts: *mut usize,
+            work_starts_count: usize,
+            chopped: *mut f64,
+            chopped_count: usize,
+            chopped_starts: *mut usize,
+            chopped_starts_count: usize,
+            hulls: *mut f64,
+            hulls_count: usize,
+            records: *mut u32,
+            records_count: usize,
+            order: *mut u32,
+            order_count: usize,
+            points_out: &mut usize,
+            paths_out: &mut usize,
+        ) -> u32;
     }
 }
 
@@ -383,5 +416,54 @@ pub fn simplify(
             &mut m,
         )
     };
+    if number == 0 { Ok((n, m)) } else { Err(number) }
+}
+
+/// What a draw works in; zeros throughout afterwards. `work` and `work_starts` are eight equal slices end
+/// to end.
+pub struct Work<'a> {
+    pub work: &'a mut [f64],
+    pub work_starts: &'a mut [usize],
+    pub chopped: &'a mut [f64],
+    pub chopped_starts: &'a mut [usize],
+    pub hulls: &'a mut [f64],
+    pub records: &'a mut [u32],
+    pub order: &'a mut [u32],
+}
+
+/// Fills the drawing of a scene and answers how many points and paths it has.
+pub fn draw(
+    s: Scene,
+    view: &[f64; 22],
+    out: &mut [f64],
+    begins: &mut [usize],
+    work: Work,
+) -> Result<(usize, usize), u32> {
+    let (mut n, mut m) = (0, 0);
+    let number = on_scene!(
+        larnt_draw,
+        s,
+        view,
+        out.as_mut_ptr(),
+        out.len(),
+        begins.as_mut_ptr(),
+        begins.len(),
+        work.work.as_mut_ptr(),
+        work.work.len(),
+        work.work_starts.as_mut_ptr(),
+        work.work_starts.len(),
+        work.chopped.as_mut_ptr(),
+        work.chopped.len(),
+        work.chopped_starts.as_mut_ptr(),
+        work.chopped_starts.len(),
+        work.hulls.as_mut_ptr(),
+        work.hulls.len(),
+        work.records.as_mut_ptr(),
+        work.records.len(),
+        work.order.as_mut_ptr(),
+        work.order.len(),
+        &mut n,
+        &mut m
+    );
     if number == 0 { Ok((n, m)) } else { Err(number) }
 }

@@ -1,0 +1,301 @@
+//! The draw: a scene and a view to a drawing, in lent slices.
+
+use crate::calls;
+use crate::draw_inputs::{self, Draw, Lengths, Rooms};
+use crate::harness::{Part, Run, Share, time_rounds};
+use crate::host::{self, raw};
+use crate::scene_calls::{Words, copy, number, put, put_floats};
+use crate::stage_inputs::view_numbers;
+use oracle::generate::Rng;
+use oracle::{Answer, Lines, Scene, View, draw_measured, plain};
+use std::cell::{Cell, RefCell};
+use std::hint::black_box;
+use std::time::{Duration, Instant};
+
+/// The slices that a draw is lent, in the order of the call, and the counts.
+struct Lent {
+    out: Vec<f64>,
+    begins: Vec<usize>,
+    work: Vec<f64>,
+    work_starts: Vec<usize>,
+    chopped: Vec<f64>,
+    chopped_starts: Vec<usize>,
+    hulls: Vec<f64>,
+    records: Vec<u32>,
+    order: Vec<u32>,
+    points: usize,
+    paths: usize,
+}
+
+impl Lent {
+    /// Slices of these lengths, with something in each place.
+    fn new(lengths: &Lengths) -> Lent {
+        let floats = |k: usize| -> Vec<f64> {
+            let some = [7.0, f64::NAN, -0.0, 1e300, f64::NEG_INFINITY];
+            (0..lengths[k]).map(|i| some[i % 5]).collect()
+        };
+        let counts = |k: usize| -> Vec<usize> {
+            (0..lengths[k]).map(|i| [7, usize::MAX, 1][i % 3]).collect()
+        };
+        let marks = |k: usize| -> Vec<u32> {
+            (0..lengths[k]).map(|i| [7, u32::MAX, 1, 4][i % 4]).collect()
+        };
+        Lent {
+            out: floats(0),
+            begins: counts(1),
+            work: floats(2),
+            work_starts: counts(3),
+            chopped: floats(4),
+            chopped_starts: counts(5),
+            hulls: floats(6),
+            records: marks(7),
+            order: marks(8),
+            points: 7,
+            paths: 7,
+        }
+    }
+
+    /// The answer, the counts, then each slice: how much of it there is before zeros alone follow, and
+    /// that. Zeros and NaNs are written alike among the results, and only there.
+    fn words(&self, number: u32) -> Words {
+        let mut words = vec![u64::from(number), self.points as u64, self.paths as u64];
+        let results = if number == 0 { 3 * self.points } else { 0 };
+        put_floats(&mut words, &self.out, results);
+        put(&mut words, self.begins.len(), |k| self.begins[k] as u64);
+        put_floats(&mut words, &self.work, 0);
+        put(&mut words, self.work_starts.len(), |k| self.work_starts[k] as u64);
+        put_floats(&mut words, &self.chopped, 0);
+        put(&mut words, self.chopped_starts.len(), |k| self.chopped_starts[k] as u64);
+        put_floats(&mut words, &self.hulls, 0);
+        put(&mut words, self.records.len(), |k| u64::from(self.records[k]));
+        put(&mut words, self.order.len(), |k| u64::from(self.order[k]));
+        Words(words)
+    }
+
+    /// What must be there afterwards: the drawing, then zeros; zeros alone in the work slices.
+    fn told(lengths: &Lengths, answer: &Answer<Lines>) -> Words {
+        let mut lent = Lent::new(lengths);
+        lent.out.fill(0.0);
+        lent.begins.fill(0);
+        lent.work.fill(0.0);
+        lent.work_starts.fill(0);
+        lent.chopped.fill(0.0);
+        lent.chopped_starts.fill(0);
+        lent.hulls.fill(0.0);
+        lent.records.fill(0);
+        lent.order.fill(0);
+        (lent.points, lent.paths) = (0, 0);
+        if let Ok(lines) = answer {
+            copy(&mut lent.out, &lines.points);
+            copy(&mut lent.begins, &lines.starts);
+            (lent.points, lent.paths) = (lines.points.len() / 3, lines.starts.len());
+        }
+        lent.words(number(answer))
+    }
+}
+
+fn core_draw(s: &Scene, view: &[f64; 22], lent: &mut Lent) -> u32 {
+    unsafe {
+        raw::larnt_draw(
+            s.numbers.as_ptr(),
+            s.numbers.len(),
+            s.marks.as_ptr(),
+            s.marks.len(),
+            s.points.as_ptr(),
+            s.points.len(),
+            s.starts.as_ptr(),
+            s.starts.len(),
+            s.owners.as_ptr(),
+            s.owners.len(),
+            view,
+            lent.out.as_mut_ptr(),
+            lent.out.len(),
+            lent.begins.as_mut_ptr(),
+            lent.begins.len(),
+            lent.work.as_mut_ptr(),
+            lent.work.len(),
+            lent.work_starts.as_mut_ptr(),
+            lent.work_starts.len(),
+            lent.chopped.as_mut_ptr(),
+            lent.chopped.len(),
+            lent.chopped_starts.as_mut_ptr(),
+            lent.chopped_starts.len(),
+            lent.hulls.as_mut_ptr(),
+            lent.hulls.len(),
+            lent.records.as_mut_ptr(),
+            lent.records.len(),
+            lent.order.as_mut_ptr(),
+            lent.order.len(),
+            &mut lent.points,
+            &mut lent.paths,
+        )
+    }
+}
+
+fn host_draw(s: &Scene, view: &[f64; 22], lent: &mut Lent) -> u32 {
+    let scene = host::Scene {
+        numbers: &s.numbers,
+        marks: &s.marks,
+        points: &s.points,
+        starts: &s.starts,
+        owners: &s.owners,
+    };
+    let work = host::Work {
+        work: &mut lent.work,
+        work_starts: &mut lent.work_starts,
+        chopped: &mut lent.chopped,
+        chopped_starts: &mut lent.chopped_starts,
+        hulls: &mut lent.hulls,
+        records: &mut lent.records,
+        order: &mut lent.order,
+    };
+    let result = host::draw(scene, view, &mut lent.out, &mut lent.begins, work);
+    (lent.points, lent.paths) = result.unwrap_or_default();
+    result.err().unwrap_or(0)
+}
+
+/// What the core draws, given all the room that a short draw needs.
+pub fn amply(scene: &Scene, view: &View) -> Option<Lines> {
+    let mut lent = Lent::new(&draw_inputs::exactly(&draw_inputs::ample(scene)));
+    match core_draw(scene, &view_numbers(view), &mut lent) {
+        0 => {
+            let points = lent.out[..3 * lent.points].to_vec();
+            Some(Lines { points, starts: lent.begins[..lent.paths].to_vec() })
+        }
+        _ => None,
+    }
+}
+
+/// The same drawing, zeros and NaNs alike.
+pub fn alike(a: &Lines, b: &Lines) -> bool {
+    let bits = |lines: &Lines| lines.points.iter().map(|x| calls::alike(*x)).collect::<Vec<u64>>();
+    a.starts == b.starts && bits(a) == bits(b)
+}
+
+/// How often each number was met, 0 for an answer; and how long the core took.
+#[derive(Default)]
+struct Tally {
+    met: RefCell<[u64; 14]>,
+    calls: Cell<u64>,
+    core: Cell<Duration>,
+}
+
+impl Tally {
+    /// One draw by the core, directly and as a host in Rust makes it, in turn.
+    fn core(&self, scene: &Scene, view: &View, lengths: &Lengths) -> Words {
+        let mut lent = Lent::new(lengths);
+        let view = view_numbers(view);
+        let call = if self.calls.get().is_multiple_of(2) { core_draw } else { host_draw };
+        let start = Instant::now();
+        let number = call(scene, &view, &mut lent);
+        self.core.set(self.core.get() + start.elapsed());
+        self.calls.set(self.calls.get() + 1);
+        lent.words(number)
+    }
+
+    fn rust(&self, lengths: &Lengths, answer: &Answer<Lines>) -> Words {
+        if let Some(met) = self.met.borrow_mut().get_mut(number(answer) as usize) {
+            *met += 1;
+        }
+        Lent::told(lengths, answer)
+    }
+
+    fn print(&self, name: &str, omitted: u64, all: Duration) {
+        let met = self.met.borrow();
+        let refused: Vec<String> = (1..14).map(|n| format!("{n}: {}", met[n])).collect();
+        let a_case = |time: Duration| time.as_secs_f64() * 1e6 / self.calls.get() as f64;
+        println!(
+            "({name}: answered {}; refused {}; omitted {omitted}; {:.0} us a case, the core {:.0})",
+            met[0],
+            refused.join(", "),
+            a_case(all),
+            a_case(self.core.get())
+        );
+    }
+}
+
+fn has(scene: &Scene, kind: u32) -> bool {
+    scene.marks.chunks(4).any(|m| m[0] == kind)
+}
+
+pub fn compare(run: &mut Run) {
+    let shares: &[Share<Draw, Words>] = &[
+        ("drawn", &|_, a| a.0[0] == 0),
+        ("with a path", &|_, a| a.0[0] == 0 && a.0[2] > 0),
+        ("at step 0", &|case, a| a.0[0] == 0 && case.view.step == 0.0),
+        ("with a cut", &|case, a| a.0[0] == 0 && has(&case.scene, 7)),
+        ("with a cut at step 0", &|case, a| {
+            a.0[0] == 0 && case.view.step == 0.0 && has(&case.scene, 7)
+        }),
+        ("with a placing", &|case, a| a.0[0] == 0 && has(&case.scene, 6)),
+        ("with lines handed in", &|case, a| a.0[0] == 0 && !case.scene.starts.is_empty()),
+        ("out exactly full", &|case, a| {
+            a.0[0] == 0 && a.0[1] > 0 && case.lengths[0] / 3 == a.0[1] as usize
+        }),
+    ];
+    let (tally, omitted) = (Tally::default(), Cell::new(0));
+    let make = |rng: &mut Rng| {
+        let mut count = omitted.get();
+        let case = draw_inputs::draw(rng, &mut count);
+        omitted.set(count);
+        case
+    };
+    let start = Instant::now();
+    let rust = |case: &Draw| tally.rust(&case.lengths, &case.answer);
+    let core = |case: &Draw| tally.core(&case.scene, &case.view, &case.lengths);
+    run.compare("draw", run.count, make, rust, &[&core], shares);
+    tally.print("draw", omitted.get(), start.elapsed());
+
+    let shares: &[Part<Rooms, Words>] = &[
+        ("drawn", &|_, _, a| a.0[0] == 0),
+        ("13", &|_, _, a| a.0[0] == 13),
+        ("another trouble first", &|_, k, a| k > 0 && ![0, 13].contains(&a.0[0])),
+    ];
+    let tally = Tally::default();
+    let start = Instant::now();
+    let rust = |case: &Rooms| -> Vec<Words> {
+        case.lent.iter().map(|(lengths, answer)| tally.rust(lengths, answer)).collect()
+    };
+    let core = |case: &Rooms| -> Vec<Words> {
+        let lent = case.lent.iter();
+        lent.map(|(lengths, _)| tally.core(&case.scene, &case.view, lengths)).collect()
+    };
+    let (count, make) = (run.count.div_ceil(2), draw_inputs::rooms);
+    run.compare_many("draw.rooms", count, make, Rooms::one, rust, &[&core], shares);
+    tally.print("draw.rooms", 0, start.elapsed());
+}
+
+/// The Rust draws shapes that stand already, then makes them too; the core checks the scene first, and
+/// forms inverses and boxes. Its slices are exactly full.
+pub fn speed() {
+    for n in [100, 500, 1000] {
+        for step in [0.0, 4.0, 1.0] {
+            let (scene, view) = draw_inputs::ordinary(&mut Rng::new(1), n, step);
+            let (drawn, used) = draw_measured(&scene, &view, oracle::Room::ENDLESS);
+            let drawn = drawn.unwrap_or_else(|trouble| panic!("{trouble:?}"));
+            let entries = plain::entries(&scene);
+            let lengths = draw_inputs::exactly(&used);
+            let lent = RefCell::new(Lent::new(&lengths));
+            let numbers = view_numbers(&view);
+            let standing = || {
+                black_box(plain::draw(black_box(&entries), black_box(&view)));
+            };
+            let made = || {
+                black_box(plain::draw(&plain::entries(black_box(&scene)), black_box(&view)));
+            };
+            let core = || {
+                let number = core_draw(black_box(&scene), &numbers, &mut lent.borrow_mut());
+                assert_eq!(black_box(number), 0);
+            };
+            let rounds = if step == 0.0 { 100 } else { 12 };
+            time_rounds(&format!("draw ({n}, {step})"), 1, rounds, standing, core);
+            time_rounds("..and shapes", 1, rounds, made, core);
+            println!(
+                "({} points chopped, {} drawn in {} paths)",
+                used.chopped.points,
+                drawn.points.len() / 3,
+                drawn.starts.len()
+            );
+        }
+    }
+}

@@ -1,0 +1,363 @@
+//! The program `yard` against the oracle's: seeded texts, good ones and spoilt ones, put to both.
+//!
+//!     texts SEED COUNT PROGRAM..   ends with 1 if any output differs by a byte
+//!
+//! The shortest text that differs is left in target/differential/differing.yard.
+
+#[allow(dead_code)]
+mod calls;
+#[allow(dead_code)]
+mod draw_inputs;
+#[allow(dead_code)]
+mod harness;
+#[allow(dead_code)]
+mod inputs;
+#[allow(dead_code)]
+mod scene_calls;
+#[allow(dead_code)]
+mod scene_inputs;
+#[allow(dead_code)]
+mod stage_inputs;
+#[allow(dead_code)]
+mod tree_inputs;
+
+use oracle::check::used_numbers;
+use oracle::generate::Rng;
+use oracle::{Scene, View};
+use std::collections::BTreeMap;
+use std::io::Write;
+use std::process::{Command, ExitCode, Stdio};
+
+const DIFFERING: &str = "target/differential/differing.yard";
+
+fn main() -> ExitCode {
+    let arguments: Vec<String> = std::env::args().skip(1).collect();
+    let [seed, count, program @ ..] = &arguments[..] else {
+        eprintln!("usage: texts SEED COUNT PROGRAM..");
+        return ExitCode::from(2);
+    };
+    let (seed, count) = (seed.parse().expect("a seed"), count.parse().expect("a count"));
+    match oracle::with_stack(|| compare(seed, count, program)) {
+        0 => ExitCode::SUCCESS,
+        _ => ExitCode::FAILURE,
+    }
+}
+
+fn compare(seed: u64, count: u64, program: &[String]) -> u64 {
+    let mut rng = Rng::new(seed ^ harness::name_hash("texts"));
+    let (mut answers, mut differ) = (BTreeMap::<String, u64>::new(), 0);
+    let (mut omitted, mut longest, mut shortest) = (0, 0, usize::MAX);
+    for _ in 0..count {
+        let text = text(&mut rng);
+        let expected = oracle::yard::run(&text);
+        if expected == "omitted\n" {
+            omitted += 1;
+            continue;
+        }
+        let first = expected.lines().next().unwrap_or("");
+        let answer = if first.starts_with("(drawing 0") {
+            "empty drawings".to_string()
+        } else if first.starts_with("(drawing") {
+            "drawings".to_string()
+        } else {
+            first.to_string()
+        };
+        *answers.entry(answer).or_default() += 1;
+        longest = longest.max(expected.len());
+        if run(program, &text) != expected.as_bytes() {
+            differ += 1;
+            if text.len() < shortest {
+                shortest = text.len();
+                std::fs::write(DIFFERING, &text).expect("a place for the text");
+            }
+        }
+    }
+    println!("texts {count}, omitted {omitted}, longest output {longest} bytes");
+    for (answer, count) in answers {
+        println!("  {answer}: {count}");
+    }
+    println!("differences: {differ}");
+    if differ > 0 {
+        println!("the shortest text that differs, of {shortest} bytes: {DIFFERING}");
+    }
+    differ
+}
+
+/// What the program prints; nothing if it ends badly.
+fn run(program: &[String], text: &[u8]) -> Vec<u8> {
+    let mut child = Command::new(&program[0])
+        .args(&program[1..])
+        .stdin(Stdio::piped())
+        .stdout(Stdio::piped())
+        .spawn()
+        .expect("the program");
+    let mut stdin = child.stdin.take().expect("its input");
+    // a program may end before it has read everything
+    let _ = stdin.write_all(text);
+    drop(stdin);
+    let done = child.wait_with_output().expect("its output");
+    if done.status.success() { done.stdout } else { Vec::new() }
+}
+
+// Texts.
+
+fn text(rng: &mut Rng) -> Vec<u8> {
+    let mut text = match rng.below(100) {
+        0..70 => {
+            let (scene, view) = readable(rng);
+            written(rng, &scene, &view)
+        }
+        70..80 => limits(rng),
+        _ => small(rng),
+    };
+    if rng.chance(35) {
+        for _ in 0..rng.pick(&[1, 1, 1, 2, 4]) {
+            spoil(rng, &mut text);
+        }
+    }
+    if rng.chance(3) {
+        // as long as it may be, or just too long
+        let most = oracle::yard::MOST_BYTES;
+        let length = rng.pick(&[most - 1, most, most, most + 1, most + 1, most + 4096]);
+        let byte = rng.pick(b" \n\n");
+        text.push(b'\n');
+        text.resize(length.max(text.len()), byte);
+    }
+    text
+}
+
+/// A scene whose slices agree, so that it can be written as forms, mostly not a large one.
+fn readable(rng: &mut Rng) -> (Scene, View) {
+    loop {
+        let (scene, mut view) = draw_inputs::scene_and_view(rng);
+        let sound = oracle::check::scene(&scene);
+        if sound.is_err() || scene.entries() > 520 {
+            continue;
+        }
+        if rng.chance(50) {
+            view.step = rng.pick(&[0.0, 40.0, 100.0, 200.0]);
+        }
+        return (scene, view);
+    }
+}
+
+/// A few words of the language, nearly right.
+fn small(rng: &mut Rng) -> Vec<u8> {
+    let mut text = b"(view 2 2 0 0 0 5 1 0 0 0 0 1 0 0 0 0 1 0 0 0 0 1)\n".to_vec();
+    for _ in 0..rng.below(4) {
+        let form: &[u8] = rng.pick(&[
+            &b"(triangle 0 0 0 #3FE0000000000000 0 0 0 #3fe0000000000000 0)"[..],
+            b"(cube 1 0 0 0 1 1 1)",
+            b"(cube 1000 -1 -1 -1 1 1 1)",
+            b"(sphere 0 0 0 1 (line 1 0 0 0 1 0) (line))",
+            b"(cylinder 1 -1 1(line 1 0 0 1 0 1))",
+            b"(cone 1 2 (line 0 0 2))",
+            b"(place 1 0 0 0 0 1 0 0 0 0 1 0 0 0 0 1 (cube 1 0 0 0 1 1 1))",
+            b"(cut 1 (cube 1 -1 -1 -1 1 1 1) (cube 1 0 0 0 2 2 2))",
+            b"(cut 0 (sphere 0 0 0 1) (cone 1 1))",
+            b"(cube 1001 0 0 0 1 1 1)",
+            b"(cut 2 (cone 1 1) (cone 1 1))",
+            b"(sphere 1000000 0 0 -0)",
+            b"(sphere 0 0 0 -1)",
+            b"(cone 1 0)",
+            b"(cylinder 1 1 -1)",
+            b"(cube 1 1 0 0 0 1 1)",
+            b"(cone #7FF0000000000000 1)",
+            b"(place 1 0 0 0 0 1 0 0 0 0 0 0 0 0 0 1 (cone 1 1))",
+            b"(sphere 1000000 0 0 1)",
+            b"(sphere 0001000000 -000 0 00)",
+            b"   ",
+            b"",
+        ]);
+        text.extend(form);
+        text.extend(rng.pick(&[&b"\n"[..], b"\n", b"\n", b" \n", b"\n\n", b""]));
+    }
+    text
+}
+
+/// As many entries, points, lines or nested forms as there may be, or one more or less.
+fn limits(rng: &mut Rng) -> Vec<u8> {
+    let mut text = b"(view 10 10 0 0 0 5 1 0 0 0 0 1 0 0 0 0 1 0 0 0 0 1)\n".to_vec();
+    let near = |rng: &mut Rng, most: usize| most + 1 - rng.below(3);
+    match rng.below(5) {
+        0 => {
+            for _ in 0..near(rng, 512) {
+                text.extend(b"(cone 0 1)\n");
+            }
+        }
+        1 => {
+            text.extend(b"(sphere 9 9 9 0");
+            for _ in 0..near(rng, 2048) {
+                text.extend(b"(line)");
+            }
+            text.extend(b")");
+        }
+        2 => {
+            let points = near(rng, 2048);
+            text.extend(b"(sphere 9 9 9 0(line");
+            for k in 0..points {
+                if k == 1000 && rng.chance(50) {
+                    text.extend(b")(line");
+                }
+                text.extend(format!(" {} 0 0", k % 2).bytes());
+            }
+            text.extend(b"))");
+        }
+        3 => {
+            let deep = rng.pick(&[7, 8, 9, 100, 510, 511, 512]);
+            for _ in 1..deep {
+                text.extend(b"(place 1 0 0 0 0 1 0 0 0 0 1 0 0 0 0 1 ");
+            }
+            text.extend(b"(cone 1 1)");
+            text.extend(std::iter::repeat_n(b')', deep - 1));
+        }
+        _ => {
+            // half of them parts
+            let cuts = near(rng, 170);
+            for _ in 0..cuts {
+                text.extend(b"(cut 1(cone 1 1)(cone 1 1))\n");
+            }
+            text.extend(b"(cone 1 1)\n");
+        }
+    }
+    text
+}
+
+fn written(rng: &mut Rng, scene: &Scene, view: &View) -> Vec<u8> {
+    let mut out = Writer { rng, text: Vec::new() };
+    out.word("(");
+    out.word("view");
+    for x in [view.width, view.height, view.step].into_iter().chain(view.eye).chain(view.matrix) {
+        out.number(x);
+    }
+    out.word(")");
+    out.end();
+    let mut named = vec![false; scene.entries()];
+    for i in 0..scene.entries() {
+        oracle::check::parts(scene.marks_of(i))
+            .iter()
+            .for_each(|part| named[*part as usize] = true);
+    }
+    for i in (0..scene.entries()).filter(|i| !named[*i]) {
+        out.form(scene, i);
+        out.end();
+    }
+    out.text
+}
+
+struct Writer<'a> {
+    rng: &'a mut Rng,
+    text: Vec<u8>,
+}
+
+impl Writer<'_> {
+    /// A bracket or a word, with spaces where they are needed, or where they are not.
+    fn word(&mut self, word: &str) {
+        let bracket = |b: u8| b == b'(' || b == b')';
+        let last = self.text.last().copied().unwrap_or(b'\n');
+        let apart = last == b'\n' || last == b' ' || bracket(last) || bracket(word.as_bytes()[0]);
+        if !apart || self.rng.chance(5) {
+            let spaces = self.rng.pick(&[1, 1, 1, 1, 2, 5]);
+            self.text.extend(std::iter::repeat_n(b' ', spaces));
+        }
+        self.text.extend(word.bytes());
+    }
+
+    fn number(&mut self, x: f64) {
+        let whole = x == x.trunc() && x.abs() <= 1e6 && !(x == 0.0 && x.is_sign_negative());
+        let word = match self.rng.below(20) {
+            0 if x == 0.0 => self.rng.pick(&["-0", "00", "-000"]).to_string(),
+            1 if whole && x >= 0.0 => format!("0{x}"),
+            0..16 if whole => format!("{x}"),
+            16 => format!("#{:016x}", x.to_bits()),
+            _ => format!("#{:016X}", x.to_bits()),
+        };
+        self.word(&word);
+    }
+
+    fn end(&mut self) {
+        self.text.extend(self.rng.pick(&[&b"\n"[..], b"\n", b"\n", b"\n", b" \n", b"\n\n"]));
+    }
+
+    fn form(&mut self, scene: &Scene, i: usize) {
+        let (marks, numbers) = (scene.marks_of(i), scene.numbers_of(i));
+        let heads = ["sphere", "cylinder", "cone", "cube", "triangle", "place", "cut"];
+        self.word("(");
+        self.word(heads[marks[0] as usize - 1]);
+        if marks[0] == 4 || marks[0] == 7 {
+            self.word(&marks[1].to_string());
+        }
+        for x in &numbers[..used_numbers(marks[0])] {
+            self.number(*x);
+        }
+        for part in oracle::check::parts(marks) {
+            self.form(scene, *part as usize);
+        }
+        for k in (0..scene.owners.len()).filter(|k| scene.owners[*k] as usize == i) {
+            let end = scene.starts.get(k + 1).copied().unwrap_or(scene.points.len() / 3);
+            self.word("(");
+            self.word("line");
+            for x in &scene.points[3 * scene.starts[k]..3 * end] {
+                self.number(*x);
+            }
+            self.word(")");
+        }
+        self.word(")");
+    }
+}
+
+/// One place of a text changed.
+fn spoil(rng: &mut Rng, text: &mut Vec<u8>) {
+    if text.is_empty() {
+        return;
+    }
+    let k = rng.below(text.len());
+    match rng.below(12) {
+        0 => drop(text.remove(k)),
+        1 => text.insert(k, rng.pick(b" ()#-0123456789aAfFgG\t\r\n.+e\x00\xff")),
+        2 => text[k] = rng.pick(b" ()#-0123456789aAfFgG\t\r\n.+e\x00\xff"),
+        3 => text.truncate(k),
+        4 => drop(text.drain(..k)),
+        5 => {
+            let end = (k + 1 + rng.below(30)).min(text.len());
+            let part = text[k..end].to_vec();
+            text.splice(k..k, part);
+        }
+        6 => {
+            let end = (k + 1 + rng.below(30)).min(text.len());
+            text.drain(k..end);
+        }
+        7 => {
+            let word: &[u8] = rng.pick(&[
+                &b" 1000000 "[..],
+                b" 1000001 ",
+                b" -1000000 ",
+                b" -1000001 ",
+                b" 99999999999999999999 ",
+                b" #7FF0000000000000 ",
+                b" #7ff8000000000001 ",
+                b" #8000000000000000 ",
+                b" #123456789ABCDEF ",
+                b" #123456789ABCDEF01 ",
+                b" - ",
+                b" # ",
+                b" -#0000000000000000 ",
+                b" +1 ",
+                b" 1.5 ",
+                b" 1e3 ",
+                b" () ",
+                b" (line 1 2) ",
+                b" (line 0 0 0) ",
+                b" (sphere 0 0 0 1) ",
+            ]);
+            text.splice(k..k, word.iter().copied());
+        }
+        // two forms on a line, or one on two
+        8 => text.iter_mut().filter(|b| **b == b'\n').take(1).for_each(|b| *b = b' '),
+        9 => text.iter_mut().skip(k).filter(|b| **b == b' ').take(1).for_each(|b| *b = b'\n'),
+        10 => text.extend(rng.pick(&[&b")"[..], b"(", b"x", b"\n\n \n", b"(cone 1 1)", b"\r\n"])),
+        _ => text
+            .splice(0..0, rng.pick(&[&b"\n"[..], b"  \n", b"(cone 1 1)\n", b"x\n"]).to_vec())
+            .for_each(drop),
+    }
+}
