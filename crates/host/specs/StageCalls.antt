@@ -1,13 +1,18 @@
 -- A view as the array that holds it, and document 01's number and values for each case of an answer on paths.
-use Prim.Native.Nat.{ℕ}
+use Prim.Native.Nat.{ℕ, _*_, _/_}
 use mathlib.Core.List.{List}
-use lib.ListN.{getD}
+use lib.ListN.{length, getD}
 use lib.Ieee.{Float, nan}
 use Rattle.geometry.specs.Vectors.{vec}
 use Rattle.scene.specs.Refusals.{numberOf}
+use Rattle.accept.specs.Checks.{sceneOf}
+use Rattle.paths.specs.Answers.{Answer}
+use Rattle.paths.specs.Paths.{Paths}
 use Rattle.paths.specs.declared.Counts.{Counts}
 use Rattle.paths.specs.declared.Counts.the-variants.{Both, Refused as NotBoth}
 use Rattle.view.specs.declared.View.{View}
+use Rattle.render.specs.Slices.{placesIn}
+use Rattle.draw.specs.Draw.{drawOf}
 
 -- the matrix by rows, the eye, width, height and step
 abbrev pub viewOfRow : List Float → View
@@ -50,3 +55,8 @@ pointCount (NotBoth k) = 0
 unfoldable pub pathCount : Counts → ℕ
 pathCount (Both n m) = m
 pathCount (NotBoth k) = 0
+
+-- a draw of the slices that are handed in, in the places of those that are lent
+abbrev pub drawCall : List Float → List ℕ → List Float → List ℕ → List ℕ → List Float → List Float → List ℕ → List Float → List ℕ → List Float → List ℕ → List Float → List ℕ → List ℕ → Answer Paths
+drawCall numbers marks points starts owners view out begins work workStarts chopped cuts hulls records order =
+    drawOf (sceneOf numbers marks points starts owners) (viewOfRow view) (placesIn (length work / 24 * 3) (length workStarts / 8) chopped cuts hulls records order out begins)

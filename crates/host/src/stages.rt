@@ -1,6 +1,7 @@
-// The calls on paths: the adaptive chop and the simplification.
+// The calls on paths: the adaptive chop, the simplification and the draw.
 ghost use mathlib.Core.Path.{_≡_};
-ghost use lib.ListN.{length};
+ghost use lib.ListN.{length, replicate};
+ghost use Rattle.floats.specs.Arith.{zeroF};
 ghost use Rattle.paths.specs.Ends.{places, counted, laidPoints, laidStarts};
 ghost use Rattle.chop.specs.Chop.{chopCall};
 ghost use Rattle.simplify.specs.Simplify.{simplifyCall};
@@ -113,6 +114,63 @@ pub extern "C" fn larnt_simplify(
     ensures several { λ _. ⌜ now («paths_out» .exit) ≡ StageCalls.pathCount (counted (simplifyCall (now (points .entry)) (now (starts .entry)) threshold (places (now (out .entry))) (length (now (begins .entry))))) ⌝ }
 {
     let c = simplify::simplify(points, starts, threshold, out, begins);
+    *points_out = point_count(c);
+    *paths_out = path_count(c);
+    counts_number(c)
+}
+
+// The scene drawn for a view: numbers 2 to 8, then the first of 9 to 13 that the work meets. What is filled
+// is as above; the work slices are zeros afterwards. `work` and `work_starts` are eight equal vectors.
+#[no_mangle]
+pub extern "C" fn larnt_draw(
+    numbers: &[f64],
+    marks: &[u32],
+    points: &[f64],
+    starts: &[usize],
+    owners: &[u32],
+    view: &[f64; 22],
+    out: &mut [f64],
+    begins: &mut [usize],
+    work: &mut [f64],
+    work_starts: &mut [usize],
+    chopped: &mut [f64],
+    chopped_starts: &mut [usize],
+    hulls: &mut [f64],
+    records: &mut [u32],
+    order: &mut [u32],
+    points_out: &mut usize,
+    paths_out: &mut usize,
+) -> u32
+    ensures answer { λ r. ⌜ r ≡ StageCalls.countsNumber (counted (StageCalls.drawCall (now (numbers .entry)) (now (marks .entry)) (now (points .entry)) (now (starts .entry)) (now (owners .entry)) (now (view .entry)) (now (out .entry)) (now (begins .entry)) (now (work .entry)) (now («work_starts» .entry)) (now (chopped .entry)) (now («chopped_starts» .entry)) (now (hulls .entry)) (now (records .entry)) (now (order .entry)))) ⌝ }
+    ensures laid { λ _. ⌜ now (out .exit) ≡ laidPoints (StageCalls.drawCall (now (numbers .entry)) (now (marks .entry)) (now (points .entry)) (now (starts .entry)) (now (owners .entry)) (now (view .entry)) (now (out .entry)) (now (begins .entry)) (now (work .entry)) (now («work_starts» .entry)) (now (chopped .entry)) (now («chopped_starts» .entry)) (now (hulls .entry)) (now (records .entry)) (now (order .entry))) (length (now (out .entry))) ⌝ }
+    ensures begun { λ _. ⌜ now (begins .exit) ≡ laidStarts (StageCalls.drawCall (now (numbers .entry)) (now (marks .entry)) (now (points .entry)) (now (starts .entry)) (now (owners .entry)) (now (view .entry)) (now (out .entry)) (now (begins .entry)) (now (work .entry)) (now («work_starts» .entry)) (now (chopped .entry)) (now («chopped_starts» .entry)) (now (hulls .entry)) (now (records .entry)) (now (order .entry))) (length (now (begins .entry))) ⌝ }
+    ensures many { λ _. ⌜ now («points_out» .exit) ≡ StageCalls.pointCount (counted (StageCalls.drawCall (now (numbers .entry)) (now (marks .entry)) (now (points .entry)) (now (starts .entry)) (now (owners .entry)) (now (view .entry)) (now (out .entry)) (now (begins .entry)) (now (work .entry)) (now («work_starts» .entry)) (now (chopped .entry)) (now («chopped_starts» .entry)) (now (hulls .entry)) (now (records .entry)) (now (order .entry)))) ⌝ }
+    ensures several { λ _. ⌜ now («paths_out» .exit) ≡ StageCalls.pathCount (counted (StageCalls.drawCall (now (numbers .entry)) (now (marks .entry)) (now (points .entry)) (now (starts .entry)) (now (owners .entry)) (now (view .entry)) (now (out .entry)) (now (begins .entry)) (now (work .entry)) (now («work_starts» .entry)) (now (chopped .entry)) (now («chopped_starts» .entry)) (now (hulls .entry)) (now (records .entry)) (now (order .entry)))) ⌝ }
+    ensures lines { λ _. ⌜ now (work .exit) ≡ replicate (length (now (work .entry))) zeroF ⌝ }
+    ensures lineStarts { λ _. ⌜ now («work_starts» .exit) ≡ replicate (length (now («work_starts» .entry))) 0 ⌝ }
+    ensures pieces { λ _. ⌜ now (chopped .exit) ≡ replicate (length (now (chopped .entry))) zeroF ⌝ }
+    ensures pieceStarts { λ _. ⌜ now («chopped_starts» .exit) ≡ replicate (length (now («chopped_starts» .entry))) 0 ⌝ }
+    ensures boxes { λ _. ⌜ now (hulls .exit) ≡ replicate (length (now (hulls .entry))) zeroF ⌝ }
+    ensures nodes { λ _. ⌜ now (records .exit) ≡ replicate (length (now (records .entry))) 0 ⌝ }
+    ensures leaves { λ _. ⌜ now (order .exit) ≡ replicate (length (now (order .entry))) 0 ⌝ }
+{
+    let c = draw::draw(
+        numbers,
+        marks,
+        points,
+        starts,
+        owners,
+        view_from(view),
+        out,
+        begins,
+        work,
+        work_starts,
+        chopped,
+        chopped_starts,
+        hulls,
+        records,
+        order,
+    );
     *points_out = point_count(c);
     *paths_out = path_count(c);
     counts_number(c)
