@@ -1,0 +1,360 @@
+// The text of `yard` to a view and a scene in lent slices.
+ghost use mathlib.Core.Path.{_≡_};
+ghost use mathlib.Core.Bool.{true};
+ghost use mathlib.Core.List.{List, [], _∷_, _++_};
+ghost use Prim.Native.Nat.{ℕ, _+_, _-_, _*_, _≤_, _<_};
+ghost use lib.ListN.{length, take};
+ghost use lib.Ieee.{Float};
+ghost use Rattle.floats.specs.Arith.{zeroF};
+ghost use Rattle.rows.specs.Rows.{padded, setRow};
+ghost use Rattle.rows.specs.Entries.{numbersRow};
+ghost use Rattle.tokens.specs.Tokens.{left, part};
+ghost use Rattle.openings.specs.Held.{held, nextAs, Within, WithinNext, Sized};
+ghost use Rattle.forms.specs.Forms as Forms;
+ghost use Rattle.forms.specs.Texts as Texts;
+ghost use Rattle.forms.specs.Answers.{readOf, answerOf, sceneRead, roomy};
+use openings::Cursor;
+use openings::Head;
+use openings::Next;
+use openings::Opening;
+use openings::Viewed;
+use tokens::Step;
+use view::View;
+
+// A view with how many entries, points and lines were read, or document 01's number 1.
+pub enum Reading {
+    Scene(View, usize, usize, usize),
+    Refused,
+}
+
+fn put_marks(marks: &mut [u32], i: usize, kind: u32, detail: u32, first: u32, second: u32)
+    requires { ⌜ i * 4 + 4 ≤ length (now marks) ⌝ }
+    ensures { λ _. ⌜ now (marks .exit) ≡ setRow 4 i (kind ∷ detail ∷ first ∷ second ∷ []) (now (marks .entry)) ⌝ }
+{
+    let at = i * 4;
+    marks[at] = kind;
+    marks[at + 1] = detail;
+    marks[at + 2] = first;
+    marks[at + 3] = second;
+}
+
+// An entry at the end of those that are held.
+fn push(c: Cursor, h: Head, p: u32, q: u32, numbers: &mut [f64], marks: &mut [u32])
+    requires { ⌜ (c .entries < 512) × ((8192 ≤ length (now numbers)) × (2048 ≤ length (now marks))) ⌝ }
+    ensures { λ _. ⌜ take ((c .entries + 1) * 16) (now (numbers .exit)) ≡ take (c .entries * 16) (now (numbers .entry)) ++ numbersRow (h .row) ⌝ }
+    ensures { λ _. ⌜ take ((c .entries + 1) * 4) (now (marks .exit)) ≡ take (c .entries * 4) (now (marks .entry)) ++ (h .kind ∷ h .detail ∷ p ∷ q ∷ []) ⌝ }
+{
+    let row = h.row;
+    rows::write_numbers(numbers, c.entries, row);
+    put_marks(marks, c.entries, h.kind, h.detail, p, q);
+}
+
+// A closing bracket, and then the entry that it closes.
+fn enclose(
+    text: &[u8],
+    c: Cursor,
+    h: Head,
+    p: u32,
+    q: u32,
+    numbers: &mut [f64],
+    marks: &mut [u32],
+) -> Next
+    requires { ⌜ Within c × ((8192 ≤ length (now numbers)) × (2048 ≤ length (now marks))) ⌝ }
+    ensures { λ r. ⌜ ((ps : List Float) (ss : List ℕ) (os : List ℕ) → nextAs (now (text .entry)) r (now (numbers .exit)) (now (marks .exit)) ps ss os ≡ Forms.enclosed h p q (held c (now (numbers .entry)) (now (marks .entry)) ps ss os) (left (now (text .entry)) (c .at))) ⌝ }
+    ensures { λ r. ⌜ WithinNext r ⌝ }
+{
+    let s = tokens::close_at(text, c.at);
+    let Step::To(at) = s else {
+        return Next::No;
+    };
+    if c.entries >= 512 {
+        return Next::No;
+    }
+    push(c, h, p, q, numbers, marks);
+    Next::To(Cursor {
+        at,
+        entries: c.entries + 1,
+        points: c.points,
+        lines: c.lines,
+    })
+}
+
+fn small(n: usize) -> u32
+    requires { ⌜ n ≤ 512 ⌝ }
+    ensures { λ r. ⌜ r ≡ n ⌝ }
+{
+    n as u32
+}
+
+// A sphere, cylinder or cone: its entry, then its lines.
+fn round(
+    text: &[u8],
+    c: Cursor,
+    h: Head,
+    numbers: &mut [f64],
+    marks: &mut [u32],
+    points: &mut [f64],
+    starts: &mut [usize],
+    owners: &mut [u32],
+) -> Next
+    requires { ⌜ Within c × Sized (now numbers) (now marks) (now points) (now starts) (now owners) ⌝ }
+    ensures { λ r. ⌜ nextAs (now (text .entry)) r (now (numbers .exit)) (now (marks .exit)) (now (points .exit)) (now (starts .exit)) (now (owners .exit)) ≡ Forms.round h (held c (now (numbers .entry)) (now (marks .entry)) (now (points .entry)) (now (starts .entry)) (now (owners .entry))) (left (now (text .entry)) (c .at)) ⌝ }
+    ensures { λ r. ⌜ WithinNext r ⌝ }
+{
+    if c.entries >= 512 {
+        return Next::No;
+    }
+    push(c, h, 0, 0, numbers, marks);
+    let d = Cursor {
+        at: c.at,
+        entries: c.entries + 1,
+        points: c.points,
+        lines: c.lines,
+    };
+    openings::lines_of(text, d, small(c.entries), points, starts, owners)
+}
+
+// The entry that was held last.
+fn last_of(c: Cursor) -> u32
+    requires { ⌜ Within c ⌝ }
+    ensures { λ r. ⌜ r ≡ c .entries - 1 ⌝ }
+{
+    if c.entries == 0 {
+        return 0;
+    }
+    small(c.entries - 1)
+}
+
+// A form, with its inner forms before it, at most `depth` deep.
+fn form(
+    text: &[u8],
+    c: Cursor,
+    depth: usize,
+    numbers: &mut [f64],
+    marks: &mut [u32],
+    points: &mut [f64],
+    starts: &mut [usize],
+    owners: &mut [u32],
+) -> Next
+    requires { ⌜ Within c × Sized (now numbers) (now marks) (now points) (now starts) (now owners) ⌝ }
+    ensures { λ r. ⌜ nextAs (now (text .entry)) r (now (numbers .exit)) (now (marks .exit)) (now (points .exit)) (now (starts .exit)) (now (owners .exit)) ≡ Forms.form depth (held c (now (numbers .entry)) (now (marks .entry)) (now (points .entry)) (now (starts .entry)) (now (owners .entry))) (left (now (text .entry)) (c .at)) ⌝ }
+    ensures { λ r. ⌜ WithinNext r ⌝ }
+{
+    if depth == 0 {
+        return Next::No;
+    }
+    let o = openings::opening_at(text, c.at);
+    let Opening::Of(h, at) = o else {
+        return Next::No;
+    };
+    let d = Cursor {
+        at,
+        entries: c.entries,
+        points: c.points,
+        lines: c.lines,
+    };
+    if h.kind <= 3 {
+        return round(text, d, h, numbers, marks, points, starts, owners);
+    }
+    if h.kind <= 5 {
+        return enclose(text, d, h, 0, 0, numbers, marks);
+    }
+    let f = form(text, d, depth - 1, numbers, marks, points, starts, owners);
+    let Next::To(e) = f else {
+        return Next::No;
+    };
+    let p = last_of(e);
+    if h.kind == 6 {
+        return enclose(text, e, h, p, 0, numbers, marks);
+    }
+    let g = form(text, e, depth - 1, numbers, marks, points, starts, owners);
+    let Next::To(k) = g else {
+        return Next::No;
+    };
+    enclose(text, k, h, p, last_of(k), numbers, marks)
+}
+
+// The end of the line that begins at `at`.
+fn line_end(text: &[u8], at: usize) -> usize
+    requires { ⌜ at ≤ length (now text) ⌝ }
+    ensures { λ r. ⌜ (at ≤ r) × ((r ≤ length (now (text .entry))) × (Texts.linesLeft (now (text .entry)) at ≡ Texts.unlessEmpty (left (part at r (now (text .entry))) 0) (Texts.linesLeft (now (text .entry)) (r + 1)))) ⌝ }
+{
+    let mut i = at;
+    while i < text.len() {
+        if text[i] == 10 {
+            return i;
+        }
+        i += 1;
+    }
+    i
+}
+
+// Where a line begins and ends, or that none is left.
+pub enum Line {
+    At(usize, usize),
+    Over,
+}
+
+// The first line from `at` on that has tokens.
+fn next_line(text: &[u8], at: usize) -> Line
+    requires { ⌜ length (now text) ≤ 65536 ⌝ }
+    ensures { λ r. ⌜ Texts.linesLeft (now (text .entry)) at ≡ Texts.lineAs (now (text .entry)) r ⌝ }
+    ensures { λ r. ⌜ Texts.Lies (length (now (text .entry))) at r ⌝ }
+{
+    let mut a = at;
+    while a <= text.len() {
+        let e = line_end(text, a);
+        if !tokens::is_over(&text[a..e], 0) {
+            return Line::At(a, e);
+        }
+        a = e + 1;
+    }
+    Line::Over
+}
+
+// The forms of the lines from `at` on.
+fn forms(
+    text: &[u8],
+    at: usize,
+    numbers: &mut [f64],
+    marks: &mut [u32],
+    points: &mut [f64],
+    starts: &mut [usize],
+    owners: &mut [u32],
+) -> Next
+    requires { ⌜ (length (now text) ≤ 65536) × Sized (now numbers) (now marks) (now points) (now starts) (now owners) ⌝ }
+{
+    let mut i = at;
+    let mut c = Cursor {
+        at: 0,
+        entries: 0,
+        points: 0,
+        lines: 0,
+    };
+    loop {
+        let l = next_line(text, i);
+        let Line::At(a, e) = l else {
+            return Next::To(c);
+        };
+        let line = &text[a..e];
+        let d = Cursor {
+            at: 0,
+            entries: c.entries,
+            points: c.points,
+            lines: c.lines,
+        };
+        let f = form(line, d, 512, numbers, marks, points, starts, owners);
+        let Next::To(g) = f else {
+            return Next::No;
+        };
+        if !tokens::is_over(line, g.at) {
+            return Next::No;
+        }
+        c = g;
+        i = e + 1;
+    }
+}
+
+// The view and the forms after it.
+fn yard(
+    text: &[u8],
+    numbers: &mut [f64],
+    marks: &mut [u32],
+    points: &mut [f64],
+    starts: &mut [usize],
+    owners: &mut [u32],
+) -> Reading
+    requires { ⌜ Sized (now numbers) (now marks) (now points) (now starts) (now owners) ⌝ }
+{
+    if text.len() > 65536 {
+        return Reading::Refused;
+    }
+    let l = next_line(text, 0);
+    let Line::At(a, e) = l else {
+        return Reading::Refused;
+    };
+    let line = &text[a..e];
+    let v = openings::view_at(line, 0);
+    let Viewed::Seen(view, k) = v else {
+        return Reading::Refused;
+    };
+    if !tokens::is_over(line, k) {
+        return Reading::Refused;
+    }
+    let f = forms(text, e + 1, numbers, marks, points, starts, owners);
+    let Next::To(c) = f else {
+        return Reading::Refused;
+    };
+    Reading::Scene(view, c.entries, c.points, c.lines)
+}
+
+// Whether the slices have the places of `yard`.
+fn has_room(
+    numbers: &[f64],
+    marks: &[u32],
+    points: &[f64],
+    starts: &[usize],
+    owners: &[u32],
+) -> bool
+    ensures { λ r. ⌜ r ≡ roomy (now (numbers .entry)) (now (marks .entry)) (now (points .entry)) (now (starts .entry)) (now (owners .entry)) ⌝ }
+{
+    if numbers.len() < 8192 {
+        return false;
+    }
+    if marks.len() < 2048 {
+        return false;
+    }
+    if points.len() < 6144 {
+        return false;
+    }
+    if starts.len() < 2048 {
+        return false;
+    }
+    owners.len() >= 2048
+}
+
+// What was read stands in the slices when the text is forms.
+fn fill(
+    text: &[u8],
+    numbers: &mut [f64],
+    marks: &mut [u32],
+    points: &mut [f64],
+    starts: &mut [usize],
+    owners: &mut [u32],
+) -> Reading {
+    if !has_room(numbers, marks, points, starts, owners) {
+        return Reading::Refused;
+    }
+    yard(text, numbers, marks, points, starts, owners)
+}
+
+// Reads a text: its view, and its scene into the slices, then zeros. Zeros throughout where it is refused.
+pub fn read(
+    text: &[u8],
+    numbers: &mut [f64],
+    marks: &mut [u32],
+    points: &mut [f64],
+    starts: &mut [usize],
+    owners: &mut [u32],
+) -> Reading
+{
+    let r = fill(text, numbers, marks, points, starts, owners);
+    match r {
+        Reading::Scene(view, e, p, l) => {
+            rows::clear(numbers, e * 16);
+            rows::clear_marks(marks, e * 4);
+            rows::clear(points, p * 3);
+            rows::clear_starts(starts, l);
+            rows::clear_marks(owners, l);
+            Reading::Scene(view, e, p, l)
+        }
+        Reading::Refused => {
+            rows::clear(numbers, 0);
+            rows::clear_marks(marks, 0);
+            rows::clear(points, 0);
+            rows::clear_starts(starts, 0);
+            rows::clear_marks(owners, 0);
+            Reading::Refused
+        }
+    }
+}
