@@ -6,7 +6,7 @@ use lib.Ieee.{Float}
 use Rattle.geometry.specs.declared.vector.Vector.{Vector}
 use Rattle.view.specs.declared.View.{View}
 use Rattle.accept.specs.Checks.{Scene, sceneOf}
-use Rattle.tokens.specs.Tokens.{left, part, Got, no, got}
+use Rattle.tokens.specs.Tokens.{left, Got, no, got}
 use Rattle.tokens.specs.declared.Step.{Step}
 use Rattle.tokens.specs.declared.Step.the-variants.{To as Goes, Off}
 use Rattle.openings.specs.declared.Cursor.{Cursor}
@@ -15,6 +15,8 @@ use Rattle.openings.specs.declared.Next.{Next}
 use Rattle.openings.specs.declared.Next.the-variants.{To, No}
 use Rattle.openings.specs.declared.Opening.{Opening}
 use Rattle.openings.specs.declared.Opening.the-variants.{Of, NoOpening}
+use Rattle.openings.specs.declared.Run.{Run}
+use Rattle.openings.specs.declared.Run.the-variants.{Upto, Broken}
 use Rattle.openings.specs.declared.Spot.{Spot}
 use Rattle.openings.specs.declared.Spot.the-variants.{Point, NoPoint}
 use Rattle.openings.specs.declared.Viewed.{Viewed}
@@ -36,6 +38,15 @@ viewedAs s Unseen = no
 unfoldable pub numbersAs : List ℕ → ℕ → List Float → Step → Got (List Float)
 numbersAs s n xs (Goes e) = got (take n xs) (left s e)
 numbersAs s n xs Off = no
+
+-- k points are held
+unfoldable pub runAs : List ℕ → Run → List Float → List ℕ → List Float → List ℕ → List ℕ → Got Scene
+runAs s (Upto n k) ns ms ps ss os = got (sceneOf ns ms (take (k * 3) ps) ss os) (left s n)
+runAs s Broken ns ms ps ss os = no
+
+unfoldable pub WithinRun : Run → Type 0
+WithinRun (Upto n k) = k ≤ 2048
+WithinRun Broken = Unit {0}
 
 -- the scene that the slices hold up to a cursor
 unfoldable pub held : Cursor → List Float → List ℕ → List Float → List ℕ → List ℕ → Scene

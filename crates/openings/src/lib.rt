@@ -2,14 +2,15 @@
 // the line and how much is held, and gives both anew.
 ghost use mathlib.Core.Path.{_≡_};
 ghost use mathlib.Core.List.{List, []};
-ghost use Prim.Native.Nat.{ℕ, _-_, _≤_};
-ghost use lib.ListN.{length, drop};
+ghost use Prim.Native.Nat.{ℕ, _-_, _*_, _≤_};
+ghost use lib.ListN.{length, take, drop};
 ghost use lib.Ieee.{Float};
-ghost use Rattle.tokens.specs.Tokens.{left, wordIn};
+ghost use Rattle.accept.specs.Checks.{sceneOf};
+ghost use Rattle.tokens.specs.Tokens.{left};
 ghost use Rattle.tokens.specs.Seen.{stepAs, countedAs, spanAs, Lies};
 ghost use Rattle.openings.specs.Heads as Heads;
 ghost use Rattle.openings.specs.Lines.{pointsIn, linesIn};
-ghost use Rattle.openings.specs.Held.{openedAs, spotAs, viewedAs, numbersAs, held, nextAs, Within, WithinNext};
+ghost use Rattle.openings.specs.Held.{openedAs, spotAs, viewedAs, numbersAs, runAs, held, nextAs, Within, WithinRun, WithinNext};
 use geometry::vector::Vector;
 use rows::Numbers;
 use tokens::Counted;
@@ -36,6 +37,12 @@ pub struct Head {
     pub kind: u32,
     pub detail: u32,
     pub row: Numbers,
+}
+
+// The place after a line, and how many points are held then.
+pub enum Run {
+    Upto(usize, usize),
+    Broken,
 }
 
 pub enum Opening {
@@ -273,30 +280,26 @@ pub fn view_at(text: &[u8], at: usize) -> Viewed
     Viewed::Seen(view_of(&xs), k)
 }
 
-// The points of a line up to its closing bracket.
-fn line_points(text: &[u8], c: Cursor, points: &mut [f64]) -> Next
-    requires { ⌜ Within c × (6144 ≤ length (now points)) ⌝ }
-    ensures { λ r. ⌜ ((ns : List Float) (ms : List ℕ) (ss : List ℕ) (os : List ℕ) → nextAs (now (text .entry)) r ns ms (now (points .exit)) ss os ≡ pointsIn (2048 - c .points) (held c ns ms (now (points .entry)) ss os) (left (now (text .entry)) (c .at))) ⌝ }
-    ensures { λ r. ⌜ WithinNext r ⌝ }
+// The points of a line up to its closing bracket, after the `first` that are held: the place after it, and how many
+// there are then.
+fn line_points(text: &[u8], from: usize, first: usize, points: &mut [f64]) -> Run
+    requires { ⌜ (first ≤ 2048) × (6144 ≤ length (now points)) ⌝ }
+    ensures { λ r. ⌜ ((ns : List Float) (ms : List ℕ) (ss : List ℕ) (os : List ℕ) → runAs (now (text .entry)) r ns ms (now (points .exit)) ss os ≡ pointsIn (2048 - first) (sceneOf ns ms (take (first * 3) (now (points .entry))) ss os) (left (now (text .entry)) from)) ⌝ }
+    ensures { λ r. ⌜ WithinRun r ⌝ }
 {
-    let mut at = c.at;
-    let mut k = c.points;
+    let mut at = from;
+    let mut k = first;
     loop {
         let s = tokens::close_at(text, at);
         if let Step::To(n) = s {
-            return Next::To(Cursor {
-                at: n,
-                entries: c.entries,
-                points: k,
-                lines: c.lines,
-            });
+            return Run::Upto(n, k);
         }
         if k >= 2048 {
-            return Next::No;
+            return Run::Broken;
         }
         let p = point_at(text, at);
         let Spot::Point(q, n) = p else {
-            return Next::No;
+            return Run::Broken;
         };
         rows::write_point(points, k, q);
         at = n;
@@ -317,40 +320,34 @@ pub fn lines_of(
     ensures { λ r. ⌜ ((ns : List Float) (ms : List ℕ) → nextAs (now (text .entry)) r ns ms (now (points .exit)) (now (starts .exit)) (now (owners .exit)) ≡ linesIn owner (2048 - c .lines) (held c ns ms (now (points .entry)) (now (starts .entry)) (now (owners .entry))) (left (now (text .entry)) (c .at))) ⌝ }
     ensures { λ r. ⌜ WithinNext r ⌝ }
 {
-    let mut d = c;
+    let mut at = c.at;
+    let mut p = c.points;
+    let mut k = c.lines;
     loop {
-        let s = tokens::close_at(text, d.at);
+        let s = tokens::close_at(text, at);
         if let Step::To(n) = s {
             return Next::To(Cursor {
                 at: n,
-                entries: d.entries,
-                points: d.points,
-                lines: d.lines,
+                entries: c.entries,
+                points: p,
+                lines: k,
             });
         }
-        let k = d.lines;
         if k >= 2048 {
             return Next::No;
         }
-        let h = named_at(text, d.at, b"line");
+        let h = named_at(text, at, b"line");
         let Step::To(n) = h else {
             return Next::No;
         };
-        starts[k] = d.points;
+        starts[k] = p;
         owners[k] = owner;
-        let e = line_points(
-            text,
-            Cursor {
-                at: n,
-                entries: d.entries,
-                points: d.points,
-                lines: k + 1,
-            },
-            points,
-        );
-        let Next::To(f) = e else {
+        let r = line_points(text, n, p, points);
+        let Run::Upto(m, q) = r else {
             return Next::No;
         };
-        d = f;
+        at = m;
+        p = q;
+        k += 1;
     }
 }
