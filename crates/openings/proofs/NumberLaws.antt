@@ -11,13 +11,21 @@ use lib.Seq.{take-suc-set, drop-set-lt, take-all, length-take-le}
 use Rattle.rows.proofs.RowLaws.{padded-of}
 use Rattle.floats.specs.Arith.{zeroF}
 use Rattle.rows.specs.Rows.{padded, row}
-use Rattle.tokens.specs.Tokens.{left, no, got, andThen, numberIn}
-use Rattle.tokens.specs.Seen.{foundAs}
+use Rattle.rows.specs.Entries.{numbersOf}
+use Rattle.rows.specs.declared.Numbers.{Numbers}
+use Rattle.view.specs.declared.View.{View}
+use Rattle.tokens.specs.Tokens.{left, andThen, numberIn, closeIn}
+use Rattle.tokens.specs.Seen.{foundAs, countedAs, stepAs}
 use Rattle.tokens.specs.declared.Found.{Found}
 use Rattle.tokens.specs.declared.Found.the-variants.{Real, Absent}
 use Rattle.tokens.specs.declared.Step.the-variants.{To as Goes, Off}
-use Rattle.openings.specs.Heads.{numbersIn}
-use Rattle.openings.specs.Held.{numbersAs}
+use Rattle.tokens.specs.declared.Step.{Step}
+use Rattle.tokens.specs.declared.Counted.{Counted}
+use Rattle.tokens.specs.declared.Counted.the-variants.{Count, Uncounted}
+use Rattle.openings.specs.Heads.{numbersIn, kindIn, detailIn, measures, openingIn, namedIn, viewWord, viewOf, viewIn}
+use Rattle.openings.specs.Held.{numbersAs, openedAs, viewedAs}
+use Rattle.openings.specs.declared.Opening.the-variants.{Of, NoOpening}
+use Rattle.openings.specs.declared.Viewed.the-variants.{Seen, Unseen}
 
 -- i numbers are read, up to place a; the row held row₀
 pub record Gathered (s : List ℕ) (at n : ℕ) (row₀ row : List Float) (a i : ℕ) : Type 0 where
@@ -68,3 +76,34 @@ rest-row xs e =
     let n : length xs - 6 ≡ 16 = omega (arith, e) in
     let l : length (drop 6 xs) ≡ 16 = length-drop 6 xs ∙ n in
     rw n (ap (take 16) (take-all 16 (drop 6 xs) (omega (arith, l))) ∙ take-all 16 (drop 6 xs) (omega (arith, l)))
+
+-- a form's beginning: its kind, its detail and its numbers
+module _ (s : List ℕ) (at : ℕ) {h : Counted} (head : countedAs s h ≡ kindIn (left s at)) {k i : ℕ} (kind : h ≡ Count k i) {d : Counted} (detail : countedAs s d ≡ detailIn k (left s i)) where
+  pub opening-undetailed : d ≡ Uncounted → openedAs s NoOpening ≡ openingIn (left s at)
+  unfolding openedAs openingIn andThen countedAs
+  opening-undetailed p = rw (← head, kind, ← detail, p)
+
+  module _ {v j : ℕ} (p : d ≡ Count v j) {n : ℕ} (count : n ≡ measures k) (xs : List Float) {b : Step} (numbers : numbersAs s n xs b ≡ numbersIn [] n (left s j)) where
+    pub opening-short : b ≡ Off → openedAs s NoOpening ≡ openingIn (left s at)
+    unfolding openedAs openingIn andThen countedAs numbersAs
+    opening-short q = rw (← head, kind, ← detail, p, ← count, ← numbers, q)
+
+    pub opening-of : n ≤ 16 → length xs ≡ 16 → drop n xs ≡ drop n (replicate 16 zeroF) → {e : ℕ} → b ≡ Goes e → {r : Numbers} → r ≡ numbersOf (row 16 0 xs)
+        → openedAs s (Of (record { kind = k; detail = v; row = r }) e) ≡ openingIn (left s at)
+    unfolding openedAs openingIn andThen countedAs numbersAs
+    opening-of l long rest q w = rw (← head, kind, ← detail, p, ← count, ← numbers, q, w, padded-row n xs l long rest)
+
+-- the view
+module _ (s : List ℕ) (at : ℕ) {h : Step} (head : stepAs s h ≡ namedIn viewWord (left s at)) {i : ℕ} (goes : h ≡ Goes i) (xs : List Float) {b : Step} (numbers : numbersAs s 22 xs b ≡ numbersIn [] 22 (left s i)) where
+  pub view-short : b ≡ Off → viewedAs s Unseen ≡ viewIn (left s at)
+  unfolding viewedAs viewIn andThen stepAs numbersAs
+  view-short q = rw (← head, goes, ← numbers, q)
+
+  module _ {j : ℕ} (q : b ≡ Goes j) {c : Step} (close : stepAs s c ≡ closeIn (left s j)) where
+    pub view-open : c ≡ Off → viewedAs s Unseen ≡ viewIn (left s at)
+    unfolding viewedAs viewIn andThen stepAs numbersAs
+    view-open p = rw (← head, goes, ← numbers, q, ← close, p)
+
+    pub view-seen : length xs ≡ 22 → {k : ℕ} → c ≡ Goes k → {v : View} → v ≡ viewOf xs → viewedAs s (Seen v k) ≡ viewIn (left s at)
+    unfolding viewedAs viewIn andThen stepAs numbersAs
+    view-seen l p w = rw (← head, goes, ← numbers, q, ← close, p, w, take-all 22 xs (omega (arith, l)))
