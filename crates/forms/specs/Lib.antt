@@ -2,3 +2,4 @@
 pub mod Forms
 pub mod Texts
 pub mod Answers
+pub mod Held

@@ -1,16 +1,14 @@
 -- The whole text: forms, one a line, the view first.
-use Prim.Native.Nat.{ℕ, _+_, _≤_}
+use Prim.Native.Nat.{ℕ}
 use mathlib.Core.Bool.{cond}
 use mathlib.Core.List.{List, [], _∷_, _++_}
 use lib.Dec.{eqb, leb}
 use lib.ListN.{length, drop}
 use Rattle.view.specs.declared.View.{View}
 use Rattle.accept.specs.Checks.{Scene, sceneOf}
-use Rattle.tokens.specs.Tokens.{Token, Got, no, got, andThen, left, part}
+use Rattle.tokens.specs.Tokens.{Token, Got, no, got, andThen, left}
 use Rattle.openings.specs.Heads.{viewIn}
 use Rattle.forms.specs.Forms.{form}
-use Rattle.forms.specs.declared.Line.{Line}
-use Rattle.forms.specs.declared.Line.the-variants.{At, Over}
 
 -- The lines of s, what stands between its line feeds, after the bytes w of a line that is being read.
 unfoldable pub linesFrom : List ℕ → List ℕ → List (List ℕ)
@@ -57,13 +55,3 @@ yardIn (l ∷ ls) = andThen (whole (viewIn l)) (λ v _. andThen (formsIn nothing
 -- what a text of at most 65,536 bytes stands for
 unfoldable pub yardOf : List ℕ → Got Yard
 yardOf text = cond (leb (length text) 65536) (yardIn (linesLeft text 0)) no
-
--- ---- what the code's answers stand for: a line's place stands for its tokens and the lines after it
-unfoldable pub lineAs : List ℕ → Line → List (List Token)
-lineAs s (At a e) = left (part a e s) 0 ∷ linesLeft s (e + 1)
-lineAs s Over = []
-
--- the line lies from `at` on in a text of n bytes
-unfoldable pub Lies : ℕ → ℕ → Line → Type 0
-Lies n at (At a e) = (at ≤ a) × ((a ≤ e) × (e ≤ n))
-Lies n at Over = Unit {0}

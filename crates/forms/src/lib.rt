@@ -1,6 +1,5 @@
 // The text of `yard` to a view and a scene in lent slices.
 ghost use mathlib.Core.Path.{_≡_};
-ghost use mathlib.Core.Bool.{true};
 ghost use mathlib.Core.List.{List, [], _∷_, _++_};
 ghost use Prim.Native.Nat.{ℕ, _+_, _-_, _*_, _≤_, _<_};
 ghost use lib.ListN.{length, take};
@@ -13,6 +12,7 @@ ghost use Rattle.openings.specs.Held.{held, nextAs, Within, WithinNext, Sized};
 ghost use Rattle.forms.specs.Forms as Forms;
 ghost use Rattle.forms.specs.Texts as Texts;
 ghost use Rattle.forms.specs.Answers.{readOf, answerOf, sceneRead, roomy};
+ghost use Rattle.forms.specs.Held.{lineAs, Lies, sceneAs, readingAs, WithinReading, Fits};
 use openings::Cursor;
 use openings::Head;
 use openings::Next;
@@ -198,8 +198,8 @@ pub enum Line {
 // The first line from `at` on that has tokens.
 fn next_line(text: &[u8], at: usize) -> Line
     requires { ⌜ length (now text) ≤ 65536 ⌝ }
-    ensures { λ r. ⌜ Texts.linesLeft (now (text .entry)) at ≡ Texts.lineAs (now (text .entry)) r ⌝ }
-    ensures { λ r. ⌜ Texts.Lies (length (now (text .entry))) at r ⌝ }
+    ensures { λ r. ⌜ Texts.linesLeft (now (text .entry)) at ≡ lineAs (now (text .entry)) r ⌝ }
+    ensures { λ r. ⌜ Lies (length (now (text .entry))) at r ⌝ }
 {
     let mut a = at;
     while a <= text.len() {
@@ -223,6 +223,8 @@ fn forms(
     owners: &mut [u32],
 ) -> Next
     requires { ⌜ (length (now text) ≤ 65536) × Sized (now numbers) (now marks) (now points) (now starts) (now owners) ⌝ }
+    ensures { λ r. ⌜ sceneAs r (now (numbers .exit)) (now (marks .exit)) (now (points .exit)) (now (starts .exit)) (now (owners .exit)) ≡ Texts.formsIn Texts.nothing (Texts.linesLeft (now (text .entry)) at) ⌝ }
+    ensures { λ r. ⌜ WithinNext r ⌝ }
 {
     let mut i = at;
     let mut c = Cursor {
@@ -236,18 +238,17 @@ fn forms(
         let Line::At(a, e) = l else {
             return Next::To(c);
         };
-        let line = &text[a..e];
         let d = Cursor {
             at: 0,
             entries: c.entries,
             points: c.points,
             lines: c.lines,
         };
-        let f = form(line, d, 512, numbers, marks, points, starts, owners);
+        let f = form(&text[a..e], d, 512, numbers, marks, points, starts, owners);
         let Next::To(g) = f else {
             return Next::No;
         };
-        if !tokens::is_over(line, g.at) {
+        if !tokens::is_over(&text[a..e], g.at) {
             return Next::No;
         }
         c = g;
@@ -265,6 +266,8 @@ fn yard(
     owners: &mut [u32],
 ) -> Reading
     requires { ⌜ Sized (now numbers) (now marks) (now points) (now starts) (now owners) ⌝ }
+    ensures { λ r. ⌜ readingAs r (now (numbers .exit)) (now (marks .exit)) (now (points .exit)) (now (starts .exit)) (now (owners .exit)) ≡ Texts.yardOf (now (text .entry)) ⌝ }
+    ensures { λ r. ⌜ WithinReading r ⌝ }
 {
     if text.len() > 65536 {
         return Reading::Refused;
@@ -273,12 +276,11 @@ fn yard(
     let Line::At(a, e) = l else {
         return Reading::Refused;
     };
-    let line = &text[a..e];
-    let v = openings::view_at(line, 0);
+    let v = openings::view_at(&text[a..e], 0);
     let Viewed::Seen(view, k) = v else {
         return Reading::Refused;
     };
-    if !tokens::is_over(line, k) {
+    if !tokens::is_over(&text[a..e], k) {
         return Reading::Refused;
     }
     let f = forms(text, e + 1, numbers, marks, points, starts, owners);
@@ -313,7 +315,7 @@ fn has_room(
     owners.len() >= 2048
 }
 
-// What was read stands in the slices when the text is forms.
+// Reads a text into the first places of the slices.
 fn fill(
     text: &[u8],
     numbers: &mut [f64],
@@ -321,14 +323,17 @@ fn fill(
     points: &mut [f64],
     starts: &mut [usize],
     owners: &mut [u32],
-) -> Reading {
+) -> Reading
+    ensures { λ r. ⌜ readingAs r (now (numbers .exit)) (now (marks .exit)) (now (points .exit)) (now (starts .exit)) (now (owners .exit)) ≡ readOf (now (text .entry)) (now (numbers .entry)) (now (marks .entry)) (now (points .entry)) (now (starts .entry)) (now (owners .entry)) ⌝ }
+    ensures { λ r. ⌜ Fits r (now (numbers .exit)) (now (marks .exit)) (now (points .exit)) (now (starts .exit)) (now (owners .exit)) ⌝ }
+{
     if !has_room(numbers, marks, points, starts, owners) {
         return Reading::Refused;
     }
     yard(text, numbers, marks, points, starts, owners)
 }
 
-// Reads a text: its view, and its scene into the slices, then zeros. Zeros throughout where it is refused.
+// Reads a text: its view, and its scene into the slices, then zeros. Where it is refused, zeros throughout.
 pub fn read(
     text: &[u8],
     numbers: &mut [f64],
@@ -337,6 +342,12 @@ pub fn read(
     starts: &mut [usize],
     owners: &mut [u32],
 ) -> Reading
+    ensures { λ r. ⌜ r ≡ answerOf (readOf (now (text .entry)) (now (numbers .entry)) (now (marks .entry)) (now (points .entry)) (now (starts .entry)) (now (owners .entry))) ⌝ }
+    ensures { λ r. ⌜ now (numbers .exit) ≡ padded zeroF (length (now (numbers .entry))) (sceneRead (readOf (now (text .entry)) (now (numbers .entry)) (now (marks .entry)) (now (points .entry)) (now (starts .entry)) (now (owners .entry))) .numbers) ⌝ }
+    ensures { λ r. ⌜ now (marks .exit) ≡ padded 0 (length (now (marks .entry))) (sceneRead (readOf (now (text .entry)) (now (numbers .entry)) (now (marks .entry)) (now (points .entry)) (now (starts .entry)) (now (owners .entry))) .marks) ⌝ }
+    ensures { λ r. ⌜ now (points .exit) ≡ padded zeroF (length (now (points .entry))) (sceneRead (readOf (now (text .entry)) (now (numbers .entry)) (now (marks .entry)) (now (points .entry)) (now (starts .entry)) (now (owners .entry))) .points) ⌝ }
+    ensures { λ r. ⌜ now (starts .exit) ≡ padded 0 (length (now (starts .entry))) (sceneRead (readOf (now (text .entry)) (now (numbers .entry)) (now (marks .entry)) (now (points .entry)) (now (starts .entry)) (now (owners .entry))) .starts) ⌝ }
+    ensures { λ r. ⌜ now (owners .exit) ≡ padded 0 (length (now (owners .entry))) (sceneRead (readOf (now (text .entry)) (now (numbers .entry)) (now (marks .entry)) (now (points .entry)) (now (starts .entry)) (now (owners .entry))) .owners) ⌝ }
 {
     let r = fill(text, numbers, marks, points, starts, owners);
     match r {

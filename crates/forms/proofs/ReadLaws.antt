@@ -1,0 +1,148 @@
+-- What the public call answers and leaves. Assumes nothing.
+use Prim.Native.Nat.{ℕ, _+_, _-_, _*_, _/_, _≤_, _<_}
+use mathlib.Core.Path.{_≡_, refl, sym, ap, _∙_}
+use mathlib.Core.Bool.{Bool, true, false}
+use mathlib.Core.List.{List, [], _++_}
+use native.Mathlib.Omega.{arith}
+use lib.Ieee.{Float}
+use lib.ListN.{length, take, replicate}
+use lib.Seq.{length-take-le}
+use borrow.Author.Tests.{lt-leb, le-leb, leb-true}
+use Rattle.floats.specs.Arith.{zeroF}
+use Rattle.rows.specs.Rows.{padded}
+use Rattle.rows.proofs.RowLaws.{padded-take}
+use Rattle.view.specs.declared.View.{View}
+use Rattle.accept.specs.Checks.{sceneOf}
+use Rattle.tokens.specs.Tokens.{Token, Got, no, got, andThen, left, part, isOver}
+use Rattle.openings.specs.Heads.{viewIn}
+use Rattle.openings.specs.Held.{held, viewedAs, Sized, Within}
+use Rattle.openings.specs.declared.Cursor.{Cursor}
+use Rattle.openings.specs.declared.Next.{Next}
+use Rattle.openings.specs.declared.Next.the-variants.{To, No}
+use Rattle.openings.specs.declared.Viewed.{Viewed}
+use Rattle.openings.specs.declared.Viewed.the-variants.{Seen, Unseen}
+use Rattle.forms.specs.Texts.{Yard, linesLeft, whole, formsIn, nothing, yardIn, yardOf}
+use Rattle.forms.specs.Answers.{roomy, readOf, answerOf, sceneRead}
+use Rattle.forms.specs.Held.{lineAs, sceneAs, readingAs, WithinReading, Fits}
+use Rattle.forms.specs.declared.Line.{Line}
+use Rattle.forms.specs.declared.Line.the-variants.{At, Over}
+use Rattle.forms.specs.declared.Reading.{Reading}
+use Rattle.forms.specs.declared.Reading.the-variants.{Scene as SceneRead, Refused}
+use Rattle.forms.proofs.TextLaws.{whole-over, whole-more}
+
+-- ---- the view and the forms after it
+module _ (s : List ℕ) where
+  pub yard-long : 65536 < length s → no ≡ yardOf s
+  unfolding yardOf
+  yard-long h = rw (lt-leb (length s) 65536 h)
+
+  module _ (short : length s ≤ 65536) {l : Line} (line : linesLeft s 0 ≡ lineAs s l) where
+    pub yard-empty : l ≡ Over → no ≡ yardOf s
+    unfolding yardOf yardIn lineAs
+    yard-empty f = rw (le-leb (length s) 65536 short, line, f)
+
+    module _ {a e : ℕ} (f : l ≡ At a e) (v : Viewed) (viewed : viewedAs (part a e s) v ≡ viewIn (left (part a e s) 0)) where
+      next : yardOf s ≡ andThen (whole (viewedAs (part a e s) v)) (λ x _. andThen (formsIn nothing (linesLeft s (e + 1))) (λ y ts. got (record { view = x; scene = y }) ts))
+      unfolding yardOf yardIn lineAs
+      next = rw (le-leb (length s) 65536 short, line, f, viewed)
+
+      pub yard-unseen : v ≡ Unseen → no ≡ yardOf s
+      unfolding viewedAs whole andThen
+      yard-unseen p = sym (next ∙ rw p)
+
+      module _ {x : View} {k : ℕ} (p : v ≡ Seen x k) {b : Bool} (over : b ≡ isOver (left (part a e s) k)) where
+        pub yard-more : b ≡ false → no ≡ yardOf s
+        unfolding viewedAs andThen
+        yard-more q = sym (next ∙ rw (p, whole-more x (left (part a e s) k) (sym over ∙ q)))
+
+        module _ (q : b ≡ true) (ns : List Float) (ms : List ℕ) (ps : List Float) (ss os : List ℕ) (r : Next) (forms : sceneAs r ns ms ps ss os ≡ formsIn nothing (linesLeft s (e + 1))) where
+          seen : yardOf s ≡ andThen (sceneAs r ns ms ps ss os) (λ y ts. got (record { view = x; scene = y }) ts)
+          unfolding viewedAs andThen
+          seen = next ∙ rw (p, whole-over x (left (part a e s) k) (sym over ∙ q), forms)
+
+          pub yard-no : r ≡ No → no ≡ yardOf s
+          unfolding sceneAs andThen
+          yard-no t = sym (seen ∙ rw t)
+
+          pub yard-read : {c : Cursor} → r ≡ To c → readingAs (SceneRead x (c .entries) (c .points) (c .lines)) ns ms ps ss os ≡ yardOf s
+          unfolding sceneAs andThen readingAs held
+          yard-read t = sym (seen ∙ rw t)
+
+-- ---- the slices
+pub fits-within : (r : Reading) {ns : List Float} {ms : List ℕ} {ps : List Float} {ss os : List ℕ} → WithinReading r → Sized ns ms ps ss os → Fits r ns ms ps ss os
+unfolding WithinReading Fits
+fits-within (SceneRead v e p l) w z = (omega (arith, w .0, z .numbers), (omega (arith, w .0, z .marks), (omega (arith, w .1 .0, z .points), (omega (arith, w .1 .1, z .starts), omega (arith, w .1 .1, z .owners)))))
+fits-within Refused w z = tt
+
+-- the slices after a clear from n on
+pub cleared : {A : Type 0} (z : A) (m n : ℕ) (xs : List A) {ys : List A} → n ≤ length xs → length xs ≡ m → ys ≡ take n xs ++ replicate (length xs - n) z → ys ≡ padded z m (take n xs)
+cleared z m n xs l e w = w ∙ padded-take z xs n l ∙ rw e
+
+module _ (x : Got Yard) (v : View) (e p l : ℕ) (ns : List Float) (ms : List ℕ) (ps : List Float) (ss os : List ℕ) {r : Reading} (is : readingAs r ns ms ps ss os ≡ x) (f : r ≡ SceneRead v e p l) (fits : Fits r ns ms ps ss os) where
+  all : (e * 16 ≤ length ns) × ((e * 4 ≤ length ms) × ((p * 3 ≤ length ps) × ((l ≤ length ss) × (l ≤ length os))))
+  unfolding Fits
+  all = rw f at fits
+
+  scene : x ≡ got (record { view = v; scene = sceneOf (take (e * 16) ns) (take (e * 4) ms) (take (p * 3) ps) (take l ss) (take l os) }) []
+  unfolding readingAs
+  scene = sym is ∙ rw f
+
+  pub read-answer : SceneRead v e p l ≡ answerOf x
+  unfolding answerOf
+  read-answer =
+      let a : length (take (e * 4) ms) / 4 ≡ e = (let t : length (take (e * 4) ms) ≡ e * 4 = length-take-le (e * 4) ms (all .1 .0) in rw t (omega arith)) in
+      let b : length (take (p * 3) ps) / 3 ≡ p = (let t : length (take (p * 3) ps) ≡ p * 3 = length-take-le (p * 3) ps (all .1 .1 .0) in rw t (omega arith)) in
+      sym (rw (scene, a, b, length-take-le l ss (all .1 .1 .1 .0)))
+
+  pub read-numbers : (m : ℕ) {ys : List Float} → length ns ≡ m → ys ≡ take (e * 16) ns ++ replicate (length ns - e * 16) zeroF → ys ≡ padded zeroF m (sceneRead x .numbers)
+  unfolding sceneRead
+  read-numbers m k w = rw scene (cleared zeroF m (e * 16) ns (all .0) k w)
+
+  pub read-marks : (m : ℕ) {ys : List ℕ} → length ms ≡ m → ys ≡ take (e * 4) ms ++ replicate (length ms - e * 4) 0 → ys ≡ padded 0 m (sceneRead x .marks)
+  unfolding sceneRead
+  read-marks m k w = rw scene (cleared 0 m (e * 4) ms (all .1 .0) k w)
+
+  pub read-points : (m : ℕ) {ys : List Float} → length ps ≡ m → ys ≡ take (p * 3) ps ++ replicate (length ps - p * 3) zeroF → ys ≡ padded zeroF m (sceneRead x .points)
+  unfolding sceneRead
+  read-points m k w = rw scene (cleared zeroF m (p * 3) ps (all .1 .1 .0) k w)
+
+  pub read-starts : (m : ℕ) {ys : List ℕ} → length ss ≡ m → ys ≡ take l ss ++ replicate (length ss - l) 0 → ys ≡ padded 0 m (sceneRead x .starts)
+  unfolding sceneRead
+  read-starts m k w = rw scene (cleared 0 m l ss (all .1 .1 .1 .0) k w)
+
+  pub read-owners : (m : ℕ) {ys : List ℕ} → length os ≡ m → ys ≡ take l os ++ replicate (length os - l) 0 → ys ≡ padded 0 m (sceneRead x .owners)
+  unfolding sceneRead
+  read-owners m k w = rw scene (cleared 0 m l os (all .1 .1 .1 .1) k w)
+
+module _ (x : Got Yard) (ns : List Float) (ms : List ℕ) (ps : List Float) (ss os : List ℕ) {r : Reading} (is : readingAs r ns ms ps ss os ≡ x) (f : r ≡ Refused) where
+  none : x ≡ no
+  unfolding readingAs
+  none = sym is ∙ rw f
+
+  pub refused-answer : Refused ≡ answerOf x
+  unfolding answerOf
+  refused-answer = rw none
+
+  module _ {A : Type 0} (z : A) (m : ℕ) (xs : List A) {ys : List A} (k : length xs ≡ m) (w : ys ≡ take 0 xs ++ replicate (length xs - 0) z) where
+    zeros : ys ≡ padded z m []
+    zeros = cleared z m 0 xs (omega arith) k w
+
+  pub refused-numbers : (m : ℕ) (xs : List Float) {ys : List Float} → length xs ≡ m → ys ≡ take 0 xs ++ replicate (length xs - 0) zeroF → ys ≡ padded zeroF m (sceneRead x .numbers)
+  unfolding sceneRead
+  refused-numbers m xs k w = rw none (zeros zeroF m xs k w)
+
+  pub refused-marks : (m : ℕ) (xs : List ℕ) {ys : List ℕ} → length xs ≡ m → ys ≡ take 0 xs ++ replicate (length xs - 0) 0 → ys ≡ padded 0 m (sceneRead x .marks)
+  unfolding sceneRead
+  refused-marks m xs k w = rw none (zeros 0 m xs k w)
+
+  pub refused-points : (m : ℕ) (xs : List Float) {ys : List Float} → length xs ≡ m → ys ≡ take 0 xs ++ replicate (length xs - 0) zeroF → ys ≡ padded zeroF m (sceneRead x .points)
+  unfolding sceneRead
+  refused-points m xs k w = rw none (zeros zeroF m xs k w)
+
+  pub refused-starts : (m : ℕ) (xs : List ℕ) {ys : List ℕ} → length xs ≡ m → ys ≡ take 0 xs ++ replicate (length xs - 0) 0 → ys ≡ padded 0 m (sceneRead x .starts)
+  unfolding sceneRead
+  refused-starts m xs k w = rw none (zeros 0 m xs k w)
+
+  pub refused-owners : (m : ℕ) (xs : List ℕ) {ys : List ℕ} → length xs ≡ m → ys ≡ take 0 xs ++ replicate (length xs - 0) 0 → ys ≡ padded 0 m (sceneRead x .owners)
+  unfolding sceneRead
+  refused-owners m xs k w = rw none (zeros 0 m xs k w)
