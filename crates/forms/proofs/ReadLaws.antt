@@ -1,14 +1,16 @@
 -- What the public call answers and leaves. Assumes nothing.
 use Prim.Native.Nat.{ℕ, _+_, _-_, _*_, _/_, _≤_, _<_}
 use mathlib.Core.Path.{_≡_, refl, sym, ap, _∙_}
-use mathlib.Core.Bool.{Bool, true, false}
+use mathlib.Core.Bool.{Bool, true, false, _&&_}
 use mathlib.Core.List.{List, [], _++_}
 use native.Mathlib.Omega.{arith}
+use lib.Dec.{leb}
 use lib.Ieee.{Float}
 use lib.ListN.{length, take, replicate}
 use lib.Seq.{length-take-le}
 use borrow.Author.Tests.{lt-leb, le-leb, leb-true}
 use Rattle.floats.specs.Arith.{zeroF}
+use Rattle.floats.proofs.Tests.{clash}
 use Rattle.rows.specs.Rows.{padded}
 use Rattle.rows.proofs.RowLaws.{padded-take}
 use Rattle.view.specs.declared.View.{View}
@@ -146,3 +148,66 @@ module _ (x : Got Yard) (ns : List Float) (ms : List ℕ) (ps : List Float) (ss 
   pub refused-owners : (m : ℕ) (xs : List ℕ) {ys : List ℕ} → length xs ≡ m → ys ≡ take 0 xs ++ replicate (length xs - 0) 0 → ys ≡ padded 0 m (sceneRead x .owners)
   unfolding sceneRead
   refused-owners m xs k w = rw none (zeros 0 m xs k w)
+
+-- ---- the places of the slices
+and-first : (a b : Bool) → (a && b) ≡ true → a ≡ true
+and-first true b e = refl
+and-first false b e = e
+
+and-second : (a b : Bool) → (a && b) ≡ true → b ≡ true
+and-second true b e = e
+and-second false b e = clash e
+
+module _ (ns : List Float) (ms : List ℕ) (ps : List Float) (ss os : List ℕ) where
+  pub roomy-sized : {b : Bool} → b ≡ roomy ns ms ps ss os → b ≡ true → Sized ns ms ps ss os
+  unfolding roomy
+  roomy-sized e t =
+      let a : roomy ns ms ps ss os ≡ true = sym e ∙ t in
+      let b = and-second (leb 8192 (length ns)) _ a in
+      let c = and-second (leb 2048 (length ms)) _ b in
+      let d = and-second (leb 6144 (length ps)) _ c in
+      record {
+        numbers = leb-true 8192 (length ns) (and-first (leb 8192 (length ns)) _ a);
+        marks = leb-true 2048 (length ms) (and-first (leb 2048 (length ms)) _ b);
+        points = leb-true 6144 (length ps) (and-first (leb 6144 (length ps)) _ c);
+        starts = leb-true 2048 (length ss) (and-first (leb 2048 (length ss)) (leb 2048 (length os)) d);
+        owners = leb-true 2048 (length os) (and-second (leb 2048 (length ss)) (leb 2048 (length os)) d);
+      }
+
+  module _ (a : 8192 ≤ length ns) where
+    module _ (b : 2048 ≤ length ms) where
+      module _ (c : 6144 ≤ length ps) where
+        module _ (d : 2048 ≤ length ss) where
+          pub roomy-all : 2048 ≤ length os → true ≡ roomy ns ms ps ss os
+          unfolding roomy
+          roomy-all e = rw (le-leb 8192 (length ns) a, le-leb 2048 (length ms) b, le-leb 6144 (length ps) c, le-leb 2048 (length ss) d, le-leb 2048 (length os) e)
+
+          pub few-owners : length os < 2048 → false ≡ roomy ns ms ps ss os
+          unfolding roomy
+          few-owners e = rw (le-leb 8192 (length ns) a, le-leb 2048 (length ms) b, le-leb 6144 (length ps) c, le-leb 2048 (length ss) d, lt-leb 2048 (length os) e)
+
+        pub few-starts : length ss < 2048 → false ≡ roomy ns ms ps ss os
+        unfolding roomy
+        few-starts e = rw (le-leb 8192 (length ns) a, le-leb 2048 (length ms) b, le-leb 6144 (length ps) c, lt-leb 2048 (length ss) e)
+
+      pub few-points : length ps < 6144 → false ≡ roomy ns ms ps ss os
+      unfolding roomy
+      few-points e = rw (le-leb 8192 (length ns) a, le-leb 2048 (length ms) b, lt-leb 6144 (length ps) e)
+
+    pub few-marks : length ms < 2048 → false ≡ roomy ns ms ps ss os
+    unfolding roomy
+    few-marks e = rw (le-leb 8192 (length ns) a, lt-leb 2048 (length ms) e)
+
+  pub few-numbers : length ns < 8192 → false ≡ roomy ns ms ps ss os
+  unfolding roomy
+  few-numbers e = rw (lt-leb 8192 (length ns) e)
+
+  -- a text is read where there is room
+  module _ (s : List ℕ) {b : Bool} (e : b ≡ roomy ns ms ps ss os) where
+    pub read-roomless : b ≡ false → no ≡ readOf s ns ms ps ss os
+    unfolding readOf
+    read-roomless f = rw (← e, f)
+
+    pub read-roomy : b ≡ true → yardOf s ≡ readOf s ns ms ps ss os
+    unfolding readOf
+    read-roomy f = rw (← e, f)

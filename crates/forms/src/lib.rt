@@ -312,7 +312,10 @@ fn has_room(
     if starts.len() < 2048 {
         return false;
     }
-    owners.len() >= 2048
+    if owners.len() < 2048 {
+        return false;
+    }
+    true
 }
 
 // Reads a text into the first places of the slices.

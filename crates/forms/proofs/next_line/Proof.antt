@@ -1,3 +1,9 @@
+use Rattle.forms.proofs.TextLaws.{Skipped, skipped-start, skipped-turn, skipped-line, skipped-over}
+use Rattle.forms.specs.Held.{Lies}
+use borrow.Author.Tests.{not-true, not-false}
+use lib.ListN.{length}
+use native.Mathlib.Omega.{arith}
+use Prim.Native.Nat.{_+_, _-_}
 use borrow.Author.Needs.{needs}
 use Rattle.forms.proofs.next_line.Statement.{statement}
 use Rattle.forms.proofs.next_line.Tie as tie
@@ -7,30 +13,30 @@ use Rattle.forms.proofs.line_end.Reads as line-end-reads
 use Rattle.tokens.proofs.is_over.Reads as is-over-reads
 
 abbrev Inv-loop : tie.InvT-loop
-Inv-loop text at a₀ a = ?
+Inv-loop text at a₀ a = Skipped text at a
 
 abbrev μ-loop : tie.MeasureT-loop
-μ-loop text at a₀ a = ?
+μ-loop text at a₀ a = length text + 1 - a
 
 -- src/lib.rt:205:5
 loop-holds : tie.Need-loop-holds Inv-loop μ-loop
-loop-holds c = search needs
+loop-holds c = skipped-start _ _
 
 -- src/lib.rt:206:13
 line-end-requires : tie.Need-line-end-requires Inv-loop μ-loop
-line-end-requires c κs = search needs
+line-end-requires c κs = c .loop-test .taken
 
 -- src/lib.rt:207:29
 sub-is-over : tie.Need-sub-is-over Inv-loop μ-loop
-sub-is-over c = search needs
+sub-is-over c = omega (arith, c .line-end .ensures .0, c .line-end .ensures .1 .0)
 
 -- src/lib.rt:207:29
 part-is-over-start : tie.Need-part-is-over-start Inv-loop μ-loop
-part-is-over-start c = search needs
+part-is-over-start c = omega (arith, c .line-end .ensures .0, c .line-end .ensures .1 .0)
 
 -- src/lib.rt:207:29
 part-is-over-end : tie.Need-part-is-over-end Inv-loop μ-loop
-part-is-over-end c = search needs
+part-is-over-end c = omega (arith, c .line-end .ensures .0, c .line-end .ensures .1 .0)
 
 -- src/lib.rt:207:13
 is-over-requires : tie.Need-is-over-requires Inv-loop μ-loop
@@ -38,23 +44,25 @@ is-over-requires c κs = search needs
 
 -- src/lib.rt:208:13
 returns : tie.Need-returns Inv-loop μ-loop
-returns c = search needs
+unfolding Lies
+returns c = (skipped-line _ _ _ (c .before .before .before .before .before .loop .inv) _ (c .before .before .before .line-end .ensures .1 .1) (c .before .is-over .ensures) (not-true _ (c .if1 .taken)), (c .before .before .before .before .before .loop .inv .from, (c .before .before .before .line-end .ensures .0, c .before .before .before .line-end .ensures .1 .0)))
 
 -- src/lib.rt:210:13
 add-a : tie.Need-add-a Inv-loop μ-loop
-add-a c = search needs
+add-a c = omega (arith, c .before .before .before .before .before .before .before .pre, c .before .before .before .line-end .ensures .1 .0)
 
 -- src/lib.rt:205:5
 loop-less : tie.Need-loop-less Inv-loop μ-loop
-loop-less c = search needs
+loop-less c = omega (arith, c .before .before .before .before .loop-test .taken, c .before .before .before .line-end .ensures .0)
 
 -- src/lib.rt:205:5
 loop-again : tie.Need-loop-again Inv-loop μ-loop
-loop-again c = search needs
+loop-again c = skipped-turn _ _ _ (c .before .before .before .before .before .loop .inv) _ (c .before .before .before .line-end .ensures .1 .1) (c .before .is-over .ensures) (c .before .before .before .line-end .ensures .0) (not-false _ (c .if1 .left))
 
 -- src/lib.rt:199:1
 returns-2 : tie.Need-returns-2 Inv-loop μ-loop
-returns-2 c = search needs
+unfolding Lies
+returns-2 c = (skipped-over _ _ _ (c .before .loop .inv) (c .loop-test .left), tt)
 
 pub next-line-spec : {M : Type 1} → statement M
 next-line-spec =

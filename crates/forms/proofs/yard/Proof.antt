@@ -1,0 +1,179 @@
+use borrow.Author.Needs.{needs}
+use Rattle.forms.proofs.yard.Statement.{statement}
+use Rattle.forms.proofs.yard.Tie as tie
+use Rattle.forms.proofs.yard.Reads as reads
+use Rattle.forms.proofs.yard.Lts as lts
+use Rattle.forms.proofs.forms.Reads as forms-reads
+use Rattle.forms.proofs.next_line.Reads as next-line-reads
+use Rattle.openings.proofs.view_at.Reads as view-at-reads
+use Rattle.tokens.proofs.is_over.Reads as is-over-reads
+
+-- src/lib.rt:273:9
+returns : tie.Need-returns
+returns c = search needs
+
+-- src/lib.rt:275:9
+next-line-requires : tie.Need-next-line-requires
+next-line-requires c κs = search needs
+
+-- src/lib.rt:276:18
+enum-known-l : tie.Need-enum-known-l
+enum-known-l c = search needs
+
+-- src/lib.rt:277:9
+enum-told : tie.Need-enum-told
+enum-told c = search needs
+
+-- src/lib.rt:277:9
+returns-2 : tie.Need-returns-2
+returns-2 c = search needs
+
+-- src/lib.rt:279:31
+sub-view-at : tie.Need-sub-view-at
+sub-view-at c = search needs
+
+-- src/lib.rt:279:31
+part-view-at-start : tie.Need-part-view-at-start
+part-view-at-start c = search needs
+
+-- src/lib.rt:279:31
+part-view-at-end : tie.Need-part-view-at-end
+part-view-at-end c = search needs
+
+-- src/lib.rt:279:9
+view-at-requires : tie.Need-view-at-requires
+view-at-requires c κs = search needs
+
+-- src/lib.rt:280:22
+enum-known-v : tie.Need-enum-known-v
+enum-known-v c = search needs
+
+-- src/lib.rt:281:9
+enum-told-2 : tie.Need-enum-told-2
+enum-told-2 c = search needs
+
+-- src/lib.rt:281:9
+returns-3 : tie.Need-returns-3
+returns-3 c = search needs
+
+-- src/lib.rt:283:25
+sub-is-over : tie.Need-sub-is-over
+sub-is-over c = search needs
+
+-- src/lib.rt:283:25
+part-is-over-start : tie.Need-part-is-over-start
+part-is-over-start c = search needs
+
+-- src/lib.rt:283:25
+part-is-over-end : tie.Need-part-is-over-end
+part-is-over-end c = search needs
+
+-- src/lib.rt:283:9
+is-over-requires : tie.Need-is-over-requires
+is-over-requires c κs = search needs
+
+-- src/lib.rt:284:9
+returns-4 : tie.Need-returns-4
+returns-4 c = search needs
+
+-- src/lib.rt:286:25
+add-forms : tie.Need-add-forms
+add-forms c = search needs
+
+-- src/lib.rt:286:9
+forms-requires : tie.Need-forms-requires
+forms-requires c κs = search needs
+
+-- src/lib.rt:287:18
+enum-known-f : tie.Need-enum-known-f
+enum-known-f c = search needs
+
+-- src/lib.rt:288:9
+enum-told-3 : tie.Need-enum-told-3
+enum-told-3 c = search needs
+
+-- src/lib.rt:288:9
+same-length : tie.Need-same-length
+same-length c = search needs
+
+-- src/lib.rt:288:9
+same-length-2 : tie.Need-same-length-2
+same-length-2 c = search needs
+
+-- src/lib.rt:288:9
+same-length-3 : tie.Need-same-length-3
+same-length-3 c = search needs
+
+-- src/lib.rt:288:9
+same-length-4 : tie.Need-same-length-4
+same-length-4 c = search needs
+
+-- src/lib.rt:288:9
+same-length-5 : tie.Need-same-length-5
+same-length-5 c = search needs
+
+-- src/lib.rt:288:9
+returns-5 : tie.Need-returns-5
+returns-5 c = search needs
+
+-- src/lib.rt:260:1
+same-length-6 : tie.Need-same-length-6
+same-length-6 c = search needs
+
+-- src/lib.rt:260:1
+same-length-7 : tie.Need-same-length-7
+same-length-7 c = search needs
+
+-- src/lib.rt:260:1
+same-length-8 : tie.Need-same-length-8
+same-length-8 c = search needs
+
+-- src/lib.rt:260:1
+same-length-9 : tie.Need-same-length-9
+same-length-9 c = search needs
+
+-- src/lib.rt:260:1
+same-length-10 : tie.Need-same-length-10
+same-length-10 c = search needs
+
+-- src/lib.rt:260:1
+returns-6 : tie.Need-returns-6
+returns-6 c = search needs
+
+pub yard-spec : {M : Type 1} → statement M
+yard-spec =
+    tie.close
+    (tie.spec
+    returns
+    next-line-requires
+    enum-known-l
+    enum-told
+    returns-2
+    sub-view-at
+    part-view-at-start
+    part-view-at-end
+    view-at-requires
+    enum-known-v
+    enum-told-2
+    returns-3
+    sub-is-over
+    part-is-over-start
+    part-is-over-end
+    is-over-requires
+    returns-4
+    add-forms
+    forms-requires
+    enum-known-f
+    enum-told-3
+    same-length
+    same-length-2
+    same-length-3
+    same-length-4
+    same-length-5
+    returns-5
+    same-length-6
+    same-length-7
+    same-length-8
+    same-length-9
+    same-length-10
+    returns-6)
