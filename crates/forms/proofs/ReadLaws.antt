@@ -76,14 +76,22 @@ unfolding WithinReading Fits
 fits-within (SceneRead v e p l) w z = (omega (arith, w .0, z .numbers), (omega (arith, w .0, z .marks), (omega (arith, w .1 .0, z .points), (omega (arith, w .1 .1, z .starts), omega (arith, w .1 .1, z .owners)))))
 fits-within Refused w z = tt
 
+pub read-fits : {r : Reading} {v : View} {e p l : ℕ} (ns : List Float) (ms : List ℕ) (ps : List Float) (ss os : List ℕ) → Fits r ns ms ps ss os → r ≡ SceneRead v e p l
+    → (e * 16 ≤ length ns) × ((e * 4 ≤ length ms) × ((p * 3 ≤ length ps) × ((l ≤ length ss) × (l ≤ length os))))
+unfolding Fits
+read-fits ns ms ps ss os w f = rw f at w
+
+pub read-within : {r : Reading} {v : View} {e p l : ℕ} → WithinReading r → r ≡ SceneRead v e p l → (e ≤ 512) × ((p ≤ 2048) × (l ≤ 2048))
+unfolding WithinReading
+read-within w f = rw f at w
+
 -- the slices after a clear from n on
 pub cleared : {A : Type 0} (z : A) (m n : ℕ) (xs : List A) {ys : List A} → n ≤ length xs → length xs ≡ m → ys ≡ take n xs ++ replicate (length xs - n) z → ys ≡ padded z m (take n xs)
 cleared z m n xs l e w = w ∙ padded-take z xs n l ∙ rw e
 
 module _ (x : Got Yard) (v : View) (e p l : ℕ) (ns : List Float) (ms : List ℕ) (ps : List Float) (ss os : List ℕ) {r : Reading} (is : readingAs r ns ms ps ss os ≡ x) (f : r ≡ SceneRead v e p l) (fits : Fits r ns ms ps ss os) where
   all : (e * 16 ≤ length ns) × ((e * 4 ≤ length ms) × ((p * 3 ≤ length ps) × ((l ≤ length ss) × (l ≤ length os))))
-  unfolding Fits
-  all = rw f at fits
+  all = read-fits ns ms ps ss os fits f
 
   scene : x ≡ got (record { view = v; scene = sceneOf (take (e * 16) ns) (take (e * 4) ms) (take (p * 3) ps) (take l ss) (take l os) }) []
   unfolding readingAs

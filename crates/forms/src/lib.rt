@@ -329,6 +329,7 @@ fn fill(
 ) -> Reading
     ensures { λ r. ⌜ readingAs r (now (numbers .exit)) (now (marks .exit)) (now (points .exit)) (now (starts .exit)) (now (owners .exit)) ≡ readOf (now (text .entry)) (now (numbers .entry)) (now (marks .entry)) (now (points .entry)) (now (starts .entry)) (now (owners .entry)) ⌝ }
     ensures { λ r. ⌜ Fits r (now (numbers .exit)) (now (marks .exit)) (now (points .exit)) (now (starts .exit)) (now (owners .exit)) ⌝ }
+    ensures { λ r. ⌜ WithinReading r ⌝ }
 {
     if !has_room(numbers, marks, points, starts, owners) {
         return Reading::Refused;

@@ -1,3 +1,9 @@
+use Rattle.forms.specs.Held.{readingAs, Fits, WithinReading}
+use Rattle.forms.proofs.ReadLaws.{roomy-sized, read-roomless, read-roomy, fits-within}
+use Rattle.forms.proofs.FormLaws.{sized-kept}
+use Rattle.forms.specs.Held.{readingAs, Fits}
+use borrow.Author.Tests.{not-true, not-false}
+use mathlib.Core.Path.{_∙_}
 use borrow.Author.Needs.{needs}
 use Rattle.forms.proofs.fill.Statement.{statement}
 use Rattle.forms.proofs.fill.Tie as tie
@@ -32,35 +38,36 @@ same-length-5 c = search needs
 
 -- src/lib.rt:334:9
 returns : tie.Need-returns
-returns c = search needs
+unfolding readingAs Fits WithinReading
+returns c = (read-roomless _ _ _ _ _ _ (c .before .has-room .ensures) (not-true _ (c .if1 .taken)), (tt, tt))
 
 -- src/lib.rt:336:5
 yard-requires : tie.Need-yard-requires
-yard-requires c κs = search needs
+yard-requires c κs = roomy-sized _ _ _ _ _ (c .before .before .before .before .before .before .has-room .ensures) (not-false _ (c .before .before .before .before .before .if1 .left))
 
 -- src/lib.rt:322:1
 same-length-6 : tie.Need-same-length-6
-same-length-6 c = search needs
+same-length-6 c = c .before .before .before .before .before .before .before .before .before .before .yard .kept .1 .0
 
 -- src/lib.rt:322:1
 same-length-7 : tie.Need-same-length-7
-same-length-7 c = search needs
+same-length-7 c = c .before .before .before .before .before .before .before .before .before .before .yard .kept .1 .1 .0
 
 -- src/lib.rt:322:1
 same-length-8 : tie.Need-same-length-8
-same-length-8 c = search needs
+same-length-8 c = c .before .before .before .before .before .before .before .before .before .before .yard .kept .1 .1 .1 .0
 
 -- src/lib.rt:322:1
 same-length-9 : tie.Need-same-length-9
-same-length-9 c = search needs
+same-length-9 c = c .before .before .before .before .before .before .before .before .before .before .yard .kept .1 .1 .1 .1 .0
 
 -- src/lib.rt:322:1
 same-length-10 : tie.Need-same-length-10
-same-length-10 c = search needs
+same-length-10 c = c .before .before .before .before .before .before .before .before .before .before .yard .kept .1 .1 .1 .1 .1 .0
 
 -- src/lib.rt:322:1
 returns-2 : tie.Need-returns-2
-returns-2 c = search needs
+returns-2 c = (c .before .before .before .before .before .before .before .before .before .before .yard .ensures .0 ∙ read-roomy _ _ _ _ _ _ (c .before .before .before .before .before .before .before .before .before .before .before .before .before .before .before .before .before .has-room .ensures) (not-false _ (c .before .before .before .before .before .before .before .before .before .before .before .before .before .before .before .before .if1 .left)), (fits-within (c .before .before .before .before .before .before .before .before .before .before .yard .result) (c .before .before .before .before .before .before .before .before .before .before .yard .ensures .1) (sized-kept (roomy-sized _ _ _ _ _ (c .before .before .before .before .before .before .before .before .before .before .before .before .before .before .before .before .before .has-room .ensures) (not-false _ (c .before .before .before .before .before .before .before .before .before .before .before .before .before .before .before .before .if1 .left))) (c .before .before .before .before .before .before .before .before .before .before .yard .kept .1 .0) (c .before .before .before .before .before .before .before .before .before .before .yard .kept .1 .1 .0) (c .before .before .before .before .before .before .before .before .before .before .yard .kept .1 .1 .1 .0) (c .before .before .before .before .before .before .before .before .before .before .yard .kept .1 .1 .1 .1 .0) (c .before .before .before .before .before .before .before .before .before .before .yard .kept .1 .1 .1 .1 .1 .0)), c .before .before .before .before .before .before .before .before .before .before .yard .ensures .1))
 
 pub fill-spec : {M : Type 1} → statement M
 fill-spec =
