@@ -137,25 +137,25 @@ module _ (x : Got Yard) (ns : List Float) (ms : List ℕ) (ps : List Float) (ss 
     zeros : ys ≡ padded z m []
     zeros = cleared z m 0 xs (omega arith) k w
 
-  pub refused-numbers : (m : ℕ) (xs : List Float) {ys : List Float} → length xs ≡ m → ys ≡ take 0 xs ++ replicate (length xs - 0) zeroF → ys ≡ padded zeroF m (sceneRead x .numbers)
+  pub refused-numbers : (m : ℕ) {ys : List Float} → length ns ≡ m → ys ≡ take 0 ns ++ replicate (length ns - 0) zeroF → ys ≡ padded zeroF m (sceneRead x .numbers)
   unfolding sceneRead
-  refused-numbers m xs k w = rw none (zeros zeroF m xs k w)
+  refused-numbers m k w = rw none (zeros zeroF m ns k w)
 
-  pub refused-marks : (m : ℕ) (xs : List ℕ) {ys : List ℕ} → length xs ≡ m → ys ≡ take 0 xs ++ replicate (length xs - 0) 0 → ys ≡ padded 0 m (sceneRead x .marks)
+  pub refused-marks : (m : ℕ) {ys : List ℕ} → length ms ≡ m → ys ≡ take 0 ms ++ replicate (length ms - 0) 0 → ys ≡ padded 0 m (sceneRead x .marks)
   unfolding sceneRead
-  refused-marks m xs k w = rw none (zeros 0 m xs k w)
+  refused-marks m k w = rw none (zeros 0 m ms k w)
 
-  pub refused-points : (m : ℕ) (xs : List Float) {ys : List Float} → length xs ≡ m → ys ≡ take 0 xs ++ replicate (length xs - 0) zeroF → ys ≡ padded zeroF m (sceneRead x .points)
+  pub refused-points : (m : ℕ) {ys : List Float} → length ps ≡ m → ys ≡ take 0 ps ++ replicate (length ps - 0) zeroF → ys ≡ padded zeroF m (sceneRead x .points)
   unfolding sceneRead
-  refused-points m xs k w = rw none (zeros zeroF m xs k w)
+  refused-points m k w = rw none (zeros zeroF m ps k w)
 
-  pub refused-starts : (m : ℕ) (xs : List ℕ) {ys : List ℕ} → length xs ≡ m → ys ≡ take 0 xs ++ replicate (length xs - 0) 0 → ys ≡ padded 0 m (sceneRead x .starts)
+  pub refused-starts : (m : ℕ) {ys : List ℕ} → length ss ≡ m → ys ≡ take 0 ss ++ replicate (length ss - 0) 0 → ys ≡ padded 0 m (sceneRead x .starts)
   unfolding sceneRead
-  refused-starts m xs k w = rw none (zeros 0 m xs k w)
+  refused-starts m k w = rw none (zeros 0 m ss k w)
 
-  pub refused-owners : (m : ℕ) (xs : List ℕ) {ys : List ℕ} → length xs ≡ m → ys ≡ take 0 xs ++ replicate (length xs - 0) 0 → ys ≡ padded 0 m (sceneRead x .owners)
+  pub refused-owners : (m : ℕ) {ys : List ℕ} → length os ≡ m → ys ≡ take 0 os ++ replicate (length os - 0) 0 → ys ≡ padded 0 m (sceneRead x .owners)
   unfolding sceneRead
-  refused-owners m xs k w = rw none (zeros 0 m xs k w)
+  refused-owners m k w = rw none (zeros 0 m os k w)
 
 -- ---- the places of the slices
 and-first : (a b : Bool) → (a && b) ≡ true → a ≡ true
