@@ -1,4 +1,2 @@
-pub mod EntryLaws
-pub mod FormLaws
 pub mod TextLaws
 pub mod ReadLaws

@@ -18,7 +18,7 @@ use Rattle.openings.specs.Held.{held, nextAs, Within}
 use Rattle.openings.specs.declared.Cursor.{Cursor}
 use Rattle.openings.specs.declared.Next.{Next}
 use Rattle.openings.specs.declared.Next.the-variants.{To, No}
-use Rattle.forms.specs.Forms.{form}
+use Rattle.nested.specs.Forms.{form}
 use Rattle.forms.specs.Texts.{linesFrom, unlessEmpty, filled, linesLeft, whole, formsIn, nothing}
 use Rattle.forms.specs.Held.{lineAs, Lies, sceneAs}
 use Rattle.forms.specs.declared.Line.{Line}

@@ -1,5 +1,4 @@
 -- The text of `yard` as a view and a scene.
-pub mod Forms
 pub mod Texts
 pub mod Answers
 pub mod Held

@@ -8,7 +8,7 @@ use Rattle.view.specs.declared.View.{View}
 use Rattle.accept.specs.Checks.{Scene, sceneOf}
 use Rattle.tokens.specs.Tokens.{Token, Got, no, got, andThen, left}
 use Rattle.openings.specs.Heads.{viewIn}
-use Rattle.forms.specs.Forms.{form}
+use Rattle.nested.specs.Forms.{form}
 
 -- The lines of s, what stands between its line feeds, after the bytes w of a line that is being read.
 unfoldable pub linesFrom : List ℕ → List ℕ → List (List ℕ)

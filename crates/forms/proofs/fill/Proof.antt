@@ -1,6 +1,6 @@
 use Rattle.forms.specs.Held.{readingAs, Fits, WithinReading}
 use Rattle.forms.proofs.ReadLaws.{roomy-sized, read-roomless, read-roomy, fits-within}
-use Rattle.forms.proofs.FormLaws.{sized-kept}
+use Rattle.nested.proofs.FormLaws.{sized-kept}
 use Rattle.forms.specs.Held.{readingAs, Fits}
 use borrow.Author.Tests.{not-true, not-false}
 use mathlib.Core.Path.{_∙_}

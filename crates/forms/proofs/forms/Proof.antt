@@ -1,5 +1,5 @@
 use Rattle.forms.proofs.TextLaws.{Formed, formed-start, formed-end, formed-no, formed-more, formed-turn, line-lies}
-use Rattle.forms.proofs.FormLaws.{within-next, sized-kept}
+use Rattle.nested.proofs.FormLaws.{within-next, sized-kept}
 use Rattle.openings.specs.Held.{WithinNext}
 use borrow.Author.Tests.{not-true, not-false}
 use lib.ListN.{length}
@@ -11,7 +11,7 @@ use Rattle.forms.proofs.forms.Statement.{statement}
 use Rattle.forms.proofs.forms.Tie as tie
 use Rattle.forms.proofs.forms.Reads as reads
 use Rattle.forms.proofs.forms.Lts as lts
-use Rattle.forms.proofs.form.Reads as form-reads
+use Rattle.nested.proofs.form.Reads as form-reads
 use Rattle.forms.proofs.next_line.Reads as next-line-reads
 use Rattle.tokens.proofs.is_over.Reads as is-over-reads
 

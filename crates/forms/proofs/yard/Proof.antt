@@ -1,6 +1,6 @@
 use Rattle.forms.proofs.ReadLaws.{yard-long, yard-empty, yard-unseen, yard-more, yard-no, yard-read}
 use Rattle.forms.proofs.TextLaws.{line-lies}
-use Rattle.forms.proofs.FormLaws.{within-next}
+use Rattle.nested.proofs.FormLaws.{within-next}
 use Rattle.forms.specs.Held.{readingAs, WithinReading}
 use borrow.Author.Tests.{not-true, not-false}
 use native.Mathlib.Omega.{arith}

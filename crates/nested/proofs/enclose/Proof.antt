@@ -1,12 +1,12 @@
-use Rattle.forms.proofs.EntryLaws.{enclose-open, enclose-full, enclose-enters}
+use Rattle.nested.proofs.EntryLaws.{enclose-open, enclose-full, enclose-enters}
 use Rattle.openings.specs.Held.{WithinNext}
 use native.Mathlib.Omega.{arith}
 use borrow.Author.Needs.{needs}
-use Rattle.forms.proofs.enclose.Statement.{statement}
-use Rattle.forms.proofs.enclose.Tie as tie
-use Rattle.forms.proofs.enclose.Reads as reads
-use Rattle.forms.proofs.enclose.Lts as lts
-use Rattle.forms.proofs.push.Reads as push-reads
+use Rattle.nested.proofs.enclose.Statement.{statement}
+use Rattle.nested.proofs.enclose.Tie as tie
+use Rattle.nested.proofs.enclose.Reads as reads
+use Rattle.nested.proofs.enclose.Lts as lts
+use Rattle.nested.proofs.push.Reads as push-reads
 use Rattle.tokens.proofs.close_at.Reads as close-at-reads
 
 -- src/lib.rt:66:9

@@ -1,4 +1,4 @@
-use Rattle.forms.proofs.FormLaws.{form-zero, form-none, form-as, body-round, body-plain, body-bare, body-place, body-half, body-cut, within-next, next-to, next-no, last-held, sized-kept, kept-more}
+use Rattle.nested.proofs.FormLaws.{form-zero, form-none, form-as, body-round, body-plain, body-bare, body-place, body-half, body-cut, within-next, next-to, next-no, last-held, sized-kept, kept-more}
 use Rattle.openings.specs.Held.{held, nextAs, WithinNext}
 use native.Mathlib.Omega.{arith}
 use mathlib.Core.Path.{_∙_}
@@ -7,15 +7,15 @@ use borrow.Author.Needs.{needs}
 use Prim.Native.Nat.{ℕ, _<_}
 use borrow.Fn.Kinds.{In}
 use borrow.Fn.PlainCycle.{Measures, is, falls, and}
-use Rattle.forms.proofs.form.Reads as form
-use Rattle.forms.proofs.form.Kinds as form-kinds
-use Rattle.forms.proofs.+form.Lts-form as form-lts
-use Rattle.forms.proofs.enclose.Reads as enclose-reads
-use Rattle.forms.proofs.last_of.Reads as last-of-reads
-use Rattle.forms.proofs.round.Reads as round-reads
+use Rattle.nested.proofs.form.Reads as form
+use Rattle.nested.proofs.form.Kinds as form-kinds
+use Rattle.nested.proofs.+form.Lts-form as form-lts
+use Rattle.nested.proofs.enclose.Reads as enclose-reads
+use Rattle.nested.proofs.last_of.Reads as last-of-reads
+use Rattle.nested.proofs.round.Reads as round-reads
 use Rattle.openings.proofs.opening_at.Reads as opening-at-reads
-use Rattle.forms.proofs.+form.{statement}
-use Rattle.forms.proofs.+form.Tie.{close}
+use Rattle.nested.proofs.+form.{statement}
+use Rattle.nested.proofs.+form.Tie.{close}
 
 abbrev μ-form : Measures 6 form-kinds.ps ℕ
 μ-form κs a = a .1 .1 .0

@@ -1,11 +1,11 @@
-use Rattle.forms.proofs.EntryLaws.{numbers-more, marks-more}
+use Rattle.nested.proofs.EntryLaws.{numbers-more, marks-more}
 use native.Mathlib.Omega.{arith}
 use borrow.Author.Needs.{needs}
-use Rattle.forms.proofs.push.Statement.{statement}
-use Rattle.forms.proofs.push.Tie as tie
-use Rattle.forms.proofs.push.Reads as reads
-use Rattle.forms.proofs.push.Lts as lts
-use Rattle.forms.proofs.put_marks.Reads as put-marks-reads
+use Rattle.nested.proofs.push.Statement.{statement}
+use Rattle.nested.proofs.push.Tie as tie
+use Rattle.nested.proofs.push.Reads as reads
+use Rattle.nested.proofs.push.Lts as lts
+use Rattle.nested.proofs.put_marks.Reads as put-marks-reads
 use Rattle.rows.proofs.write_numbers.Reads as write-numbers-reads
 
 -- src/lib.rt:48:5

@@ -17,8 +17,8 @@ use Rattle.openings.specs.declared.Next.{Next}
 use Rattle.openings.specs.declared.Next.the-variants.{To, No}
 use Rattle.openings.specs.declared.Opening.{Opening}
 use Rattle.openings.specs.declared.Opening.the-variants.{Of, NoOpening}
-use Rattle.forms.specs.Forms.{last, enclosed, round, body, form}
-use Rattle.forms.proofs.EntryLaws.{entries-held}
+use Rattle.nested.specs.Forms.{last, enclosed, round, body, form}
+use Rattle.nested.proofs.EntryLaws.{entries-held}
 
 pub form-zero : (d : ℕ) (a : Scene) (ts : List Token) → d ≡ 0 → no ≡ form d a ts
 unfolding form

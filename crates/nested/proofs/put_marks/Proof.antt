@@ -4,10 +4,10 @@ use native.Mathlib.Omega.{arith}
 use mathlib.Core.List.{[], _∷_}
 use Prim.Native.Nat.{_*_}
 use borrow.Author.Needs.{needs}
-use Rattle.forms.proofs.put_marks.Statement.{statement}
-use Rattle.forms.proofs.put_marks.Tie as tie
-use Rattle.forms.proofs.put_marks.Reads as reads
-use Rattle.forms.proofs.put_marks.Lts as lts
+use Rattle.nested.proofs.put_marks.Statement.{statement}
+use Rattle.nested.proofs.put_marks.Tie as tie
+use Rattle.nested.proofs.put_marks.Reads as reads
+use Rattle.nested.proofs.put_marks.Lts as lts
 
 -- src/lib.rt:34:14
 mul-at : tie.Need-mul-at

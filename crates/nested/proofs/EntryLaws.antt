@@ -22,7 +22,7 @@ use Rattle.openings.specs.declared.Head.{Head}
 use Rattle.openings.specs.declared.Next.{Next}
 use Rattle.openings.specs.declared.Next.the-variants.{To, No}
 use Rattle.openings.proofs.LineLaws.{take-sets}
-use Rattle.forms.specs.Forms.{entered, enter, enclosed, round}
+use Rattle.nested.specs.Forms.{entered, enter, enclosed, round}
 
 pub numbers-more : (e : ℕ) (ns : List Float) (m : Numbers) {ns' : List Float} → e < 512 → 8192 ≤ length ns → ns' ≡ setRow 16 e (numbersRow m) ns → take ((e + 1) * 16) ns' ≡ take (e * 16) ns ++ numbersRow m
 numbers-more e ns m l h w = let n : (e + 1) * 16 ≡ e * 16 + 16 = omega arith in rw (w, n) (take-sets ns (e * 16) (numbersRow m) (omega (arith, l, h)))

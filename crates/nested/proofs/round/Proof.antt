@@ -1,13 +1,13 @@
-use Rattle.forms.proofs.EntryLaws.{round-full, round-enters}
+use Rattle.nested.proofs.EntryLaws.{round-full, round-enters}
 use Rattle.openings.specs.Held.{WithinNext}
 use native.Mathlib.Omega.{arith}
 use borrow.Author.Needs.{needs}
-use Rattle.forms.proofs.round.Statement.{statement}
-use Rattle.forms.proofs.round.Tie as tie
-use Rattle.forms.proofs.round.Reads as reads
-use Rattle.forms.proofs.round.Lts as lts
-use Rattle.forms.proofs.push.Reads as push-reads
-use Rattle.forms.proofs.small.Reads as small-reads
+use Rattle.nested.proofs.round.Statement.{statement}
+use Rattle.nested.proofs.round.Tie as tie
+use Rattle.nested.proofs.round.Reads as reads
+use Rattle.nested.proofs.round.Lts as lts
+use Rattle.nested.proofs.push.Reads as push-reads
+use Rattle.nested.proofs.small.Reads as small-reads
 use Rattle.openings.proofs.lines_of.Reads as lines-of-reads
 
 -- src/lib.rt:105:9
