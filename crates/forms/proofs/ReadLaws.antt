@@ -1,6 +1,6 @@
 -- What the public call answers and leaves. Assumes nothing.
 use Prim.Native.Nat.{ℕ, _+_, _-_, _*_, _/_, _≤_, _<_}
-use mathlib.Core.Path.{_≡_, refl, sym, ap, _∙_}
+use mathlib.Core.Path.{_≡_, refl, sym, _∙_}
 use mathlib.Core.Bool.{Bool, true, false, _&&_}
 use mathlib.Core.List.{List, [], _++_}
 use native.Mathlib.Omega.{arith}
@@ -15,9 +15,9 @@ use Rattle.rows.specs.Rows.{padded}
 use Rattle.rows.proofs.RowLaws.{padded-take}
 use Rattle.view.specs.declared.View.{View}
 use Rattle.accept.specs.Checks.{sceneOf}
-use Rattle.tokens.specs.Tokens.{Token, Got, no, got, andThen, left, part, isOver}
+use Rattle.tokens.specs.Tokens.{Got, no, got, andThen, left, part, isOver}
 use Rattle.openings.specs.Heads.{viewIn}
-use Rattle.openings.specs.Held.{held, viewedAs, Sized, Within}
+use Rattle.openings.specs.Held.{held, viewedAs, Sized}
 use Rattle.openings.specs.declared.Cursor.{Cursor}
 use Rattle.openings.specs.declared.Next.{Next}
 use Rattle.openings.specs.declared.Next.the-variants.{To, No}

@@ -1,18 +1,16 @@
 -- The text's lines, one after the other. Assumes nothing.
-use Prim.Native.Nat.{ℕ, zero, suc, _+_, _-_, _≤_, _<_}
+use Prim.Native.Nat.{ℕ, _+_, _-_, _≤_, _<_}
 use mathlib.Core.Path.{_≡_, refl, sym, ap, _∙_}
 use mathlib.Core.Bool.{Bool, true, false}
-use mathlib.Core.List.{List, [], _∷_, _++_}
+use mathlib.Core.List.{List, [], _∷_}
 use native.Mathlib.Numerals.{add-one}
 use native.Mathlib.Omega.{arith}
-use lib.Dec.{eqb}
 use lib.Ieee.{Float}
-use lib.ListN.{length, take, drop, getD, drop-of-length-le}
+use lib.ListN.{length, drop, getD, drop-of-length-le}
 use lib.Seq.{drop-cons}
 use borrow.Author.Tests.{eq-eqb, ne-eqb}
 use Rattle.floats.proofs.Tests.{clash}
-use Rattle.accept.specs.Checks.{Scene}
-use Rattle.tokens.specs.Tokens.{Token, Got, no, got, andThen, left, part, tokensFrom, flush, isOver}
+use Rattle.tokens.specs.Tokens.{Token, no, got, andThen, left, part, tokensFrom, flush, isOver}
 use Rattle.tokens.proofs.Laws.{part-more}
 use Rattle.openings.specs.Held.{held, nextAs, Within}
 use Rattle.openings.specs.declared.Cursor.{Cursor}

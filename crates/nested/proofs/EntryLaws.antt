@@ -1,6 +1,6 @@
 -- One more entry: in the slices, closed by its bracket, and with its lines. Assumes nothing.
-use Prim.Native.Nat.{ℕ, _+_, _-_, _*_, _/_, _≤_, _<_}
-use mathlib.Core.Path.{_≡_, refl, sym, ap, _∙_}
+use Prim.Native.Nat.{ℕ, _+_, _-_, _*_, _≤_, _<_}
+use mathlib.Core.Path.{_≡_, sym, ap, _∙_}
 use mathlib.Core.List.{List, [], _∷_, _++_}
 use native.Mathlib.Omega.{arith}
 use lib.Ieee.{Float}
@@ -10,7 +10,7 @@ use borrow.Author.Tests.{lt-ltb, le-ltb}
 use Rattle.rows.specs.Rows.{setRow}
 use Rattle.rows.specs.Entries.{numbersRow}
 use Rattle.rows.specs.declared.Numbers.{Numbers}
-use Rattle.accept.specs.Checks.{Scene, sceneOf, entriesOf}
+use Rattle.accept.specs.Checks.{Scene, entriesOf}
 use Rattle.tokens.specs.Tokens.{Token, left, no, got, andThen, closeIn}
 use Rattle.tokens.specs.Seen.{stepAs}
 use Rattle.tokens.specs.declared.Step.{Step}

@@ -1,12 +1,12 @@
 -- One more digit of a word, and the word's end, for decimals and for hexadecimal patterns; digits written from the last to the first.
 use Prim.Native.Nat.{ℕ, zero, suc, _+_, _-_, _*_, _/_, _%_, _^_, _≤_, _<_}
 use mathlib.Core.Path.{_≡_, refl, ap, sym, _∙_, subst}
-use mathlib.Core.Bool.{Bool, true, false, not, cond, _&&_}
+use mathlib.Core.Bool.{Bool, true, false, not, _&&_}
 use mathlib.Core.List.{List, [], _∷_, _++_}
 use native.Mathlib.Numerals.{add-one, sub-one}
 use native.Mathlib.Nat.{pow-suc, pow-le-pow-right, add-suc, suc-add, add-zero}
 use native.Mathlib.Omega.{arith}
-use lib.Dec.{T, ltb, leb, eqb, eqb-refl}
+use lib.Dec.{T}
 use lib.Ieee.{nan, ofBits, eq, div, toBits}
 use Rattle.floats.specs.Arith.{_⊘_, bits, zeroF}
 use Rattle.sqrt.proofs.Patterns.{nan-above}

@@ -1,11 +1,10 @@
 -- Numbers as words of bytes (document 01, "The program `yard` reads forms").
 use Prim.Native.Nat.{ℕ, zero, suc, _+_, _-_, _*_, _/_, _%_}
-use mathlib.Core.Path.{_≡_}
-use mathlib.Core.Bool.{Bool, true, false, cond, _&&_}
+use mathlib.Core.Bool.{Bool, true, cond, _&&_}
 use mathlib.Core.List.{List, [], _∷_, _++_}
 use lib.Dec.{ltb, leb, eqb}
 use lib.ListN.{length}
-use lib.IntN.{ℤ, pos}
+use lib.IntN.{pos}
 use lib.Ieee.{Float, binary64, toBits, ofInt, neg, eq}
 use Rattle.floats.specs.Arith.{bits, zeroF}
 use Rattle.numerals.specs.declared.Whole.{Whole}

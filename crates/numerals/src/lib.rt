@@ -1,7 +1,7 @@
 // Numbers as `yard` reads and writes them: words of bytes to whole numbers and floats, and floats to words.
 ghost use mathlib.Core.Path.{_≡_};
 ghost use Prim.Native.Nat.{_+_, _≤_, _<_};
-ghost use lib.ListN.{length, drop};
+ghost use lib.ListN.{length};
 ghost use lib.Seq.{sets};
 ghost use Rattle.numerals.specs.Numerals.{digitOf, decimalOf, hexOf, numberOf, bitsOf, digitByte, hexWord};
 ghost use Rattle.floats.specs.Arith.{bits};

@@ -1,7 +1,7 @@
 -- One more point of a line, one more line of an entry. Assumes nothing.
-use Prim.Native.Nat.{ℕ, zero, suc, _+_, _-_, _*_, _/_, _≤_, _<_}
+use Prim.Native.Nat.{ℕ, zero, suc, _+_, _-_, _*_, _≤_, _<_}
 use mathlib.Core.Path.{_≡_, refl, sym, ap, _∙_}
-use mathlib.Core.List.{List, [], _∷_, _++_}
+use mathlib.Core.List.{List, _++_}
 use native.Mathlib.Numerals.{add-one}
 use native.Mathlib.Omega.{arith}
 use lib.Ieee.{Float}
@@ -11,8 +11,8 @@ use Rattle.geometry.specs.declared.vector.Vector.{Vector}
 use Rattle.rows.specs.Rows.{setRow}
 use Rattle.rows.specs.Points.{pointRow}
 use Rattle.rows.proofs.RowLaws.{length-setRow}
-use Rattle.accept.specs.Checks.{Scene, sceneOf}
-use Rattle.tokens.specs.Tokens.{left, Got, no, got, andThen, closeIn}
+use Rattle.accept.specs.Checks.{sceneOf}
+use Rattle.tokens.specs.Tokens.{left, got, andThen, closeIn}
 use Rattle.tokens.specs.Seen.{stepAs}
 use Rattle.tokens.specs.declared.Step.{Step}
 use Rattle.tokens.specs.declared.Step.the-variants.{To as Goes, Off}

@@ -1,15 +1,13 @@
 -- The tokens from a place on, by the byte that stands there.
 use Prim.Native.Nat.{ℕ, zero, suc, _+_, _-_, _≤_, _<_}
 use mathlib.Core.Path.{_≡_, refl, ap, sym, _∙_}
-use mathlib.Core.Bool.{Bool, true, false, cond, not}
+use mathlib.Core.Bool.{Bool, true, false, not}
 use mathlib.Core.List.{List, [], _∷_, _++_}
 use native.Mathlib.Numerals.{add-one}
-use native.Mathlib.Nat.{sub-suc, suc-sub-suc}
 use native.Mathlib.Omega.{arith}
-use lib.Dec.{eqb}
 use lib.ListN.{length, take, drop, getD, drop-of-length-le, length-drop}
-use lib.Seq.{drop-cons, take-suc, getD-drop, take-all}
-use borrow.Author.Tests.{eq-eqb, ne-eqb}
+use lib.Seq.{drop-cons, take-suc, getD-drop}
+use borrow.Author.Tests.{ne-eqb}
 use Rattle.tokens.specs.Seen.{Inside, Lies}
 use Rattle.tokens.specs.declared.Span.{Span}
 use Rattle.tokens.specs.declared.Span.the-variants.{At}
@@ -75,6 +73,7 @@ flush-part s a i ts l h = go (part a i s) (some (i - a) (drop a s) (omega arith)
     some zero x p q = absurd (omega arith)
     some (suc n) [] p q = absurd (omega arith)
     some (suc n) (y ∷ x) p q = omega arith
+
     go : (w : List ℕ) → 0 < length w → flush w ts ≡ word w ∷ ts
     go [] p = absurd (omega arith)
     go (b ∷ w) p = refl

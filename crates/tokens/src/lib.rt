@@ -1,7 +1,7 @@
 // Tokens of a line of `yard`'s text: brackets, and words between spaces; and what one token says.
 ghost use mathlib.Core.Path.{_≡_};
 ghost use Prim.Native.Nat.{_+_, _≤_, _<_};
-ghost use lib.ListN.{length, take, drop, getD};
+ghost use lib.ListN.{length, getD};
 ghost use Rattle.tokens.specs.Tokens.{left, part, wordByte, word, wordIn, openIn, closeIn, isOver, numberIn, countIn};
 ghost use Rattle.tokens.specs.Seen.{seen, Inside, spanAs, Lies, foundAs, stepAs, countedAs};
 ghost use mathlib.Core.Bool.{true};

@@ -1,5 +1,4 @@
 use Rattle.forms.proofs.ReadLaws.{few-numbers, few-marks, few-points, few-starts, few-owners, roomy-all}
-use borrow.Author.Needs.{needs}
 use Rattle.forms.proofs.has_room.Statement.{statement}
 use Rattle.forms.proofs.has_room.Tie as tie
 use Rattle.forms.proofs.has_room.Reads as reads

@@ -1,6 +1,5 @@
 use Rattle.openings.specs.Heads.{detailIn}
 use Rattle.tokens.specs.Seen.{countedAs}
-use mathlib.Core.Path.{_∙_}
 use borrow.Author.Tests.{eq-eqb, ne-eqb}
 use borrow.Author.Needs.{needs}
 use Rattle.openings.proofs.detail_at.Statement.{statement}

@@ -1,6 +1,5 @@
 use Rattle.openings.proofs.LineLaws.{Dotted, dotted-start, dotted-end, dotted-full, dotted-stray, dotted-turn}
 use Rattle.openings.specs.Held.{WithinRun}
-use Rattle.rows.proofs.RowLaws.{length-setRow}
 use native.Mathlib.Omega.{arith}
 use Prim.Native.Nat.{_-_}
 use borrow.Author.Needs.{needs}

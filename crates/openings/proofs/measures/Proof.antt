@@ -1,7 +1,6 @@
 use Rattle.openings.specs.Heads as Heads
 use native.Mathlib.Omega.{arith}
 use borrow.Author.Tests.{eq-eqb, ne-eqb}
-use borrow.Author.Needs.{needs}
 use Rattle.openings.proofs.measures.Statement.{statement}
 use Rattle.openings.proofs.measures.Tie as tie
 use Rattle.openings.proofs.measures.Reads as reads

@@ -3,7 +3,6 @@ use Rattle.openings.specs.Held.{openedAs}
 use Rattle.openings.specs.Heads.{openingIn}
 use Rattle.tokens.specs.Seen.{countedAs}
 use Rattle.tokens.specs.Tokens.{andThen}
-use native.Mathlib.Omega.{arith}
 use borrow.Author.Needs.{needs}
 use Rattle.openings.proofs.opening_at.Statement.{statement}
 use Rattle.openings.proofs.opening_at.Tie as tie

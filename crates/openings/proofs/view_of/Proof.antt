@@ -1,6 +1,5 @@
 use Rattle.openings.proofs.NumberLaws.{rest-row}
 use Rattle.openings.specs.Heads.{viewOf}
-use mathlib.Core.Path.{_∙_}
 use borrow.Author.Needs.{needs}
 use Rattle.openings.proofs.view_of.Statement.{statement}
 use Rattle.openings.proofs.view_of.Tie as tie

@@ -1,5 +1,4 @@
-use borrow.Author.Needs.{needs}
-use borrow.Author.Tests.{eq-eqb, ne-eqb}
+use borrow.Author.Tests.{ne-eqb}
 use Rattle.tokens.specs.Tokens.{wordByte}
 use Rattle.tokens.proofs.in_word.Statement.{statement}
 use Rattle.tokens.proofs.in_word.Tie as tie

@@ -1,6 +1,6 @@
 use Rattle.tokens.proofs.Laws.{inside-word}
 use Rattle.tokens.specs.Tokens.{wordIn}
-use Rattle.tokens.specs.Seen.{seen, Inside, spanAs, Lies}
+use Rattle.tokens.specs.Seen.{seen, spanAs, Lies}
 use borrow.Author.Needs.{needs}
 use Rattle.tokens.proofs.word_at.Statement.{statement}
 use Rattle.tokens.proofs.word_at.Tie as tie
