@@ -2,3 +2,4 @@
 pub mod Texts
 pub mod Answers
 pub mod Held
+pub mod Sample
