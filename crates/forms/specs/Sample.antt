@@ -23,8 +23,8 @@ pub sample-read : yardOf sample
     ≡ got (record {
       view = record { matrix = identityM; eye = vec zeroF zeroF (bits 0x4014_0000_0000_0000); width = twoF; height = twoF; step = zeroF };
       scene = sceneOf
-        (zeroF ∷ zeroF ∷ zeroF ∷ halfF ∷ zeroF ∷ zeroF ∷ zeroF ∷ halfF ∷ zeroF ∷ zeroF ∷ zeroF ∷ zeroF ∷ zeroF ∷ zeroF ∷ zeroF ∷ zeroF ∷ [])
-        (5 ∷ 0 ∷ 0 ∷ 0 ∷ []) [] [] [];
+          (zeroF ∷ zeroF ∷ zeroF ∷ halfF ∷ zeroF ∷ zeroF ∷ zeroF ∷ halfF ∷ zeroF ∷ zeroF ∷ zeroF ∷ zeroF ∷ zeroF ∷ zeroF ∷ zeroF ∷ zeroF ∷ [])
+          (5 ∷ 0 ∷ 0 ∷ 0 ∷ []) [] [] [];
     }) []
 unfolding ofBits ofInt neg digitOf digits value decimalFrom decimalOf hexFrom hexOf patterned positive negative numberOf wordByte marked flush tokensFrom left andThen openIn closeIn wordIn realOf numberIn wholeOf countIn same kindOf headIn namedIn kindIn numbersIn measures detailIn openingIn viewOf viewIn padded entered enter enclosed round body form linesFrom unlessEmpty filled linesLeft whole formsIn yardIn yardOf matrixOf identityM
 sample-read = refl

@@ -45,7 +45,7 @@ body f h s ts =
     cond (eqb (h .kind) 6) (enclosed h (last a) 0 a us)
     (andThen (f a us) (λ b vs. enclosed h (last a) (last b) b vs)))))
 
--- A form, with forms nested at most d deep: each is an entry, so text that nests deeper than there are places has too many entries.
+-- A form, with forms nested at most d deep. Each is an entry, so a limit of 512 refuses only what the 512 places do (the theorem `deeper` of proofs/Depth).
 unfoldable pub form : ℕ → Scene → List Token → Got Scene
 form zero s ts = no
 form (suc d) s ts = andThen (openingIn ts) (λ h us. body (form d) h s us)
