@@ -11,9 +11,10 @@ use Rattle.forms.specs.Texts.{Yard, yardOf, nothing}
 use Rattle.forms.specs.declared.Reading.{Reading}
 use Rattle.forms.specs.declared.Reading.the-variants.{Scene as SceneRead, Refused}
 
--- document 01's number of a refused text
-abbrev pub textRefused : ℕ
-textRefused = 1
+-- document 01's number: 1 where the text is refused, 0 where it is not
+unfoldable pub readingNumber : Reading → ℕ
+readingNumber (SceneRead v e p l) = 0
+readingNumber Refused = 1
 
 -- The slices have the places of `yard`: 512 entries, 2,048 points and 2,048 lines. With fewer a text is refused unread.
 unfoldable pub roomy : List Float → List ℕ → List Float → List ℕ → List ℕ → Bool

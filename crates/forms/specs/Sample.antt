@@ -2,7 +2,7 @@
 use Prim.Native.Nat.{ℕ}
 use mathlib.Core.Path.{_≡_, refl}
 use mathlib.Core.List.{List, [], _∷_}
-use lib.Ieee.{Float, ofBits, ofInt, neg}
+use lib.Ieee.{ofBits, ofInt, neg}
 use Rattle.floats.specs.Arith.{bits, zeroF, halfF, twoF}
 use Rattle.geometry.specs.Vectors.{vec}
 use Rattle.matrix.specs.Matrices.{identityM}

@@ -7,7 +7,7 @@ ghost use Rattle.rows.specs.Rows.{padded};
 ghost use Rattle.tokens.specs.Tokens.{left, part};
 ghost use Rattle.openings.specs.Held.{WithinNext, Sized};
 ghost use Rattle.forms.specs.Texts as Texts;
-ghost use Rattle.forms.specs.Answers.{readOf, answerOf, sceneRead, roomy};
+ghost use Rattle.forms.specs.Answers.{readingNumber, readOf, answerOf, sceneRead, roomy};
 ghost use Rattle.forms.specs.Held.{lineAs, Lies, sceneAs, readingAs, WithinReading, Fits};
 use openings::Cursor;
 use openings::Next;
@@ -18,6 +18,18 @@ use view::View;
 pub enum Reading {
     Scene(View, usize, usize, usize),
     Refused,
+}
+
+impl Reading {
+    // Document 01's number, 0 where the text is read.
+    pub fn number(self) -> u32
+        ensures { λ n. ⌜ n ≡ readingNumber self ⌝ }
+    {
+        match self {
+            Reading::Scene(_, _, _, _) => 0,
+            Reading::Refused => 1,
+        }
+    }
 }
 
 // The end of the line that begins at `at`.

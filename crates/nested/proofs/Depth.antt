@@ -1,5 +1,5 @@
 -- The limit of 512 on nesting refuses nothing that the 512 places do not: with a larger one each form is read alike. Assumes nothing.
-use Prim.Native.Nat.{ℕ, zero, suc, _+_, _/_, _≤_, _<_}
+use Prim.Native.Nat.{ℕ, zero, suc, _+_, _/_, _≤_}
 use mathlib.Core.Path.{_≡_, refl, sym, ap, _∙_, subst}
 use mathlib.Core.Bool.{Bool, true, false, cond}
 use mathlib.Core.List.{List, [], _∷_, _++_}
@@ -9,9 +9,9 @@ use lib.Dec.{ltb, leb, eqb}
 use lib.ListN.{length, length-append}
 use borrow.Author.Tests.{ltb-true}
 use Rattle.accept.specs.Checks.{Scene, entriesOf}
-use Rattle.tokens.specs.Tokens.{Token, Got, no, got, Mark, mark, andThen, closeIn}
+use Rattle.tokens.specs.Tokens.{Token, Got, no, got, Mark, andThen, closeIn}
 use Rattle.openings.specs.Heads.{openingIn, pointIn, namedIn, lineWord}
-use Rattle.openings.specs.Lines.{orElse, dotted, pointsIn, begun, linesIn, pointCount}
+use Rattle.openings.specs.Lines.{orElse, dotted, pointsIn, begun, linesIn}
 use Rattle.openings.specs.declared.Head.{Head}
 use Rattle.nested.specs.Forms.{last, entered, enter, enclosed, round, body, form}
 
