@@ -9,11 +9,6 @@ use Prim.Native.Nat.{_+_, _-_}
 use borrow.Author.Needs.{needs}
 use Rattle.forms.proofs.forms.Statement.{statement}
 use Rattle.forms.proofs.forms.Tie as tie
-use Rattle.forms.proofs.forms.Reads as reads
-use Rattle.forms.proofs.forms.Lts as lts
-use Rattle.nested.proofs.form.Reads as form-reads
-use Rattle.forms.proofs.next_line.Reads as next-line-reads
-use Rattle.tokens.proofs.is_over.Reads as is-over-reads
 
 abbrev Inv-loop : tie.InvT-loop
 Inv-loop text at numbers₀ marks₀ points₀ starts₀ owners₀ i₀ c₀ numbers marks points starts owners i c = Formed text at numbers₀ marks₀ points₀ starts₀ owners₀ numbers marks points starts owners i c
@@ -21,146 +16,111 @@ Inv-loop text at numbers₀ marks₀ points₀ starts₀ owners₀ i₀ c₀ num
 abbrev μ-loop : tie.MeasureT-loop
 μ-loop text at numbers₀ marks₀ points₀ starts₀ owners₀ i₀ c₀ numbers marks points starts owners i c = length text + 1 - i
 
--- src/lib.rt:236:5
 loop-holds : tie.Need-loop-holds Inv-loop μ-loop
 loop-holds c = formed-start _ _ _ _ _ _ _
 
--- src/lib.rt:237:13
 next-line-requires : tie.Need-next-line-requires Inv-loop μ-loop
 next-line-requires c κs = c .before .before .before .before .before .before .before .pre .0
 
--- src/lib.rt:238:22
 enum-known-l : tie.Need-enum-known-l Inv-loop μ-loop
 enum-known-l c = search needs
 
--- src/lib.rt:239:13
 enum-told : tie.Need-enum-told Inv-loop μ-loop
 enum-told c = search needs
 
--- src/lib.rt:239:13
 same-length : tie.Need-same-length Inv-loop μ-loop
 same-length c = c .before .before .before .loop .inv .long-ns
 
--- src/lib.rt:239:13
 same-length-2 : tie.Need-same-length-2 Inv-loop μ-loop
 same-length-2 c = c .before .before .before .loop .inv .long-ms
 
--- src/lib.rt:239:13
 same-length-3 : tie.Need-same-length-3 Inv-loop μ-loop
 same-length-3 c = c .before .before .before .loop .inv .long-ps
 
--- src/lib.rt:239:13
 same-length-4 : tie.Need-same-length-4 Inv-loop μ-loop
 same-length-4 c = c .before .before .before .loop .inv .long-ss
 
--- src/lib.rt:239:13
 same-length-5 : tie.Need-same-length-5 Inv-loop μ-loop
 same-length-5 c = c .before .before .before .loop .inv .long-os
 
--- src/lib.rt:239:13
 returns : tie.Need-returns Inv-loop μ-loop
 unfolding WithinNext
 returns c = (formed-end _ _ _ _ _ _ _ _ _ _ _ _ _ _ (c .before .before .before .loop .inv) (c .before .before .next-line .ensures .0) (c .enum-told .given .1), c .before .before .before .loop .inv .within)
 
--- src/lib.rt:247:22
 sub-form : tie.Need-sub-form Inv-loop μ-loop
 sub-form c = omega (arith, line-lies _ _ (c .before .before .before .next-line .ensures .1) (c .before .l .given .1))
 
--- src/lib.rt:247:22
 part-form-start : tie.Need-part-form-start Inv-loop μ-loop
 part-form-start c = omega (arith, line-lies _ _ (c .before .before .before .next-line .ensures .1) (c .before .l .given .1))
 
--- src/lib.rt:247:22
 part-form-end : tie.Need-part-form-end Inv-loop μ-loop
 part-form-end c = omega (arith, line-lies _ _ (c .before .before .before .next-line .ensures .1) (c .before .l .given .1))
 
--- src/lib.rt:247:13
 form-requires : tie.Need-form-requires Inv-loop μ-loop
 form-requires c κs = (record { entries = c .before .before .before .before .before .before .before .before .before .before .loop .inv .within .entries; points = c .before .before .before .before .before .before .before .before .before .before .loop .inv .within .points; lines = c .before .before .before .before .before .before .before .before .before .before .loop .inv .within .lines }, sized-kept (c .before .before .before .before .before .before .before .before .before .before .before .before .before .before .before .before .before .pre .1) (c .before .before .before .before .before .before .before .before .before .before .loop .inv .long-ns) (c .before .before .before .before .before .before .before .before .before .before .loop .inv .long-ms) (c .before .before .before .before .before .before .before .before .before .before .loop .inv .long-ps) (c .before .before .before .before .before .before .before .before .before .before .loop .inv .long-ss) (c .before .before .before .before .before .before .before .before .before .before .loop .inv .long-os))
 
--- src/lib.rt:248:22
 enum-known-f : tie.Need-enum-known-f Inv-loop μ-loop
 enum-known-f c = search needs
 
--- src/lib.rt:249:13
 enum-told-2 : tie.Need-enum-told-2 Inv-loop μ-loop
 enum-told-2 c = search needs
 
--- src/lib.rt:249:13
 same-length-6 : tie.Need-same-length-6 Inv-loop μ-loop
 same-length-6 c = c .before .before .before .before .before .before .before .before .before .before .before .before .form .kept .1 .1 .1 .0 ∙ c .before .before .before .before .before .before .before .before .before .before .before .before .before .before .before .before .before .before .before .before .before .before .before .loop .inv .long-ns
 
--- src/lib.rt:249:13
 same-length-7 : tie.Need-same-length-7 Inv-loop μ-loop
 same-length-7 c = c .before .before .before .before .before .before .before .before .before .before .before .before .form .kept .1 .1 .1 .1 .0 ∙ c .before .before .before .before .before .before .before .before .before .before .before .before .before .before .before .before .before .before .before .before .before .before .before .loop .inv .long-ms
 
--- src/lib.rt:249:13
 same-length-8 : tie.Need-same-length-8 Inv-loop μ-loop
 same-length-8 c = c .before .before .before .before .before .before .before .before .before .before .before .before .form .kept .1 .1 .1 .1 .1 .0 ∙ c .before .before .before .before .before .before .before .before .before .before .before .before .before .before .before .before .before .before .before .before .before .before .before .loop .inv .long-ps
 
--- src/lib.rt:249:13
 same-length-9 : tie.Need-same-length-9 Inv-loop μ-loop
 same-length-9 c = c .before .before .before .before .before .before .before .before .before .before .before .before .form .kept .1 .1 .1 .1 .1 .1 .0 ∙ c .before .before .before .before .before .before .before .before .before .before .before .before .before .before .before .before .before .before .before .before .before .before .before .loop .inv .long-ss
 
--- src/lib.rt:249:13
 same-length-10 : tie.Need-same-length-10 Inv-loop μ-loop
 same-length-10 c = c .before .before .before .before .before .before .before .before .before .before .before .before .form .kept .1 .1 .1 .1 .1 .1 .1 .0 ∙ c .before .before .before .before .before .before .before .before .before .before .before .before .before .before .before .before .before .before .before .before .before .before .before .loop .inv .long-os
 
--- src/lib.rt:249:13
 returns-2 : tie.Need-returns-2 Inv-loop μ-loop
 unfolding WithinNext
 returns-2 c = (formed-no _ _ _ _ _ _ _ _ _ _ _ _ _ _ (c .before .before .before .before .before .before .before .before .before .before .before .before .before .before .before .before .before .before .before .before .before .before .before .loop .inv) (c .before .before .before .before .before .before .before .before .before .before .before .before .before .before .before .before .before .before .before .before .before .before .next-line .ensures .0) (c .before .before .before .before .before .before .before .before .before .before .before .before .before .before .before .before .before .before .before .before .l .given .1) _ _ _ _ _ (c .before .before .before .before .before .before .before .before .before .before .before .before .form .result) (c .before .before .before .before .before .before .before .before .before .before .before .before .form .ensures .0) (c .enum-told2 .given .1), tt)
 
--- src/lib.rt:251:29
 sub-is-over : tie.Need-sub-is-over Inv-loop μ-loop
 sub-is-over c = omega (arith, line-lies _ _ (c .before .before .before .before .before .before .before .before .before .before .before .before .before .before .before .before .before .before .before .before .before .before .before .next-line .ensures .1) (c .before .before .before .before .before .before .before .before .before .before .before .before .before .before .before .before .before .before .before .before .before .l .given .1))
 
--- src/lib.rt:251:29
 part-is-over-start : tie.Need-part-is-over-start Inv-loop μ-loop
 part-is-over-start c = omega (arith, line-lies _ _ (c .before .before .before .before .before .before .before .before .before .before .before .before .before .before .before .before .before .before .before .before .before .before .before .next-line .ensures .1) (c .before .before .before .before .before .before .before .before .before .before .before .before .before .before .before .before .before .before .before .before .before .l .given .1))
 
--- src/lib.rt:251:29
 part-is-over-end : tie.Need-part-is-over-end Inv-loop μ-loop
 part-is-over-end c = omega (arith, line-lies _ _ (c .before .before .before .before .before .before .before .before .before .before .before .before .before .before .before .before .before .before .before .before .before .before .before .next-line .ensures .1) (c .before .before .before .before .before .before .before .before .before .before .before .before .before .before .before .before .before .before .before .before .before .l .given .1))
 
--- src/lib.rt:251:13
 is-over-requires : tie.Need-is-over-requires Inv-loop μ-loop
 is-over-requires c κs = search needs
 
--- src/lib.rt:252:13
 same-length-11 : tie.Need-same-length-11 Inv-loop μ-loop
 same-length-11 c = c .before .before .before .before .before .before .before .before .before .before .before .before .before .before .before .before .form .kept .1 .1 .1 .0 ∙ c .before .before .before .before .before .before .before .before .before .before .before .before .before .before .before .before .before .before .before .before .before .before .before .before .before .before .before .loop .inv .long-ns
 
--- src/lib.rt:252:13
 same-length-12 : tie.Need-same-length-12 Inv-loop μ-loop
 same-length-12 c = c .before .before .before .before .before .before .before .before .before .before .before .before .before .before .before .before .form .kept .1 .1 .1 .1 .0 ∙ c .before .before .before .before .before .before .before .before .before .before .before .before .before .before .before .before .before .before .before .before .before .before .before .before .before .before .before .loop .inv .long-ms
 
--- src/lib.rt:252:13
 same-length-13 : tie.Need-same-length-13 Inv-loop μ-loop
 same-length-13 c = c .before .before .before .before .before .before .before .before .before .before .before .before .before .before .before .before .form .kept .1 .1 .1 .1 .1 .0 ∙ c .before .before .before .before .before .before .before .before .before .before .before .before .before .before .before .before .before .before .before .before .before .before .before .before .before .before .before .loop .inv .long-ps
 
--- src/lib.rt:252:13
 same-length-14 : tie.Need-same-length-14 Inv-loop μ-loop
 same-length-14 c = c .before .before .before .before .before .before .before .before .before .before .before .before .before .before .before .before .form .kept .1 .1 .1 .1 .1 .1 .0 ∙ c .before .before .before .before .before .before .before .before .before .before .before .before .before .before .before .before .before .before .before .before .before .before .before .before .before .before .before .loop .inv .long-ss
 
--- src/lib.rt:252:13
 same-length-15 : tie.Need-same-length-15 Inv-loop μ-loop
 same-length-15 c = c .before .before .before .before .before .before .before .before .before .before .before .before .before .before .before .before .form .kept .1 .1 .1 .1 .1 .1 .1 .0 ∙ c .before .before .before .before .before .before .before .before .before .before .before .before .before .before .before .before .before .before .before .before .before .before .before .before .before .before .before .loop .inv .long-os
 
--- src/lib.rt:252:13
 returns-3 : tie.Need-returns-3 Inv-loop μ-loop
 unfolding WithinNext
 returns-3 c = (formed-more _ _ _ _ _ _ _ _ _ _ _ _ _ _ (c .before .before .before .before .before .before .before .before .before .before .before .before .before .before .before .before .before .before .before .before .before .before .before .before .before .before .before .loop .inv) (c .before .before .before .before .before .before .before .before .before .before .before .before .before .before .before .before .before .before .before .before .before .before .before .before .before .before .next-line .ensures .0) (c .before .before .before .before .before .before .before .before .before .before .before .before .before .before .before .before .before .before .before .before .before .before .before .before .l .given .1) _ _ _ _ _ (c .before .before .before .before .before .before .before .before .before .before .before .before .before .before .before .before .form .result) (c .before .before .before .before .before .before .before .before .before .before .before .before .before .before .before .before .form .ensures .0) (c .before .before .before .before .f .given .1) (c .before .is-over .ensures) (not-true _ (c .if1 .taken)), tt)
 
--- src/lib.rt:255:13
 add-i : tie.Need-add-i Inv-loop μ-loop
 add-i c = omega (arith, c .before .before .before .before .before .before .before .before .before .before .before .before .before .before .before .before .before .before .before .before .before .before .before .before .before .before .before .before .before .before .before .before .before .before .pre .0, line-lies _ _ (c .before .before .before .before .before .before .before .before .before .before .before .before .before .before .before .before .before .before .before .before .before .before .before .before .before .before .next-line .ensures .1) (c .before .before .before .before .before .before .before .before .before .before .before .before .before .before .before .before .before .before .before .before .before .before .before .before .l .given .1))
 
--- src/lib.rt:236:5
 loop-less : tie.Need-loop-less Inv-loop μ-loop
 loop-less c = omega (arith, line-lies _ _ (c .before .before .before .before .before .before .before .before .before .before .before .before .before .before .before .before .before .before .before .before .before .before .before .before .before .before .next-line .ensures .1) (c .before .before .before .before .before .before .before .before .before .before .before .before .before .before .before .before .before .before .before .before .before .before .before .before .l .given .1))
 
--- src/lib.rt:236:5
 loop-again : tie.Need-loop-again Inv-loop μ-loop
 loop-again c = formed-turn _ _ _ _ _ _ _ _ _ _ _ _ _ _ (c .before .before .before .before .before .before .before .before .before .before .before .before .before .before .before .before .before .before .before .before .before .before .before .before .before .before .before .loop .inv) (c .before .before .before .before .before .before .before .before .before .before .before .before .before .before .before .before .before .before .before .before .before .before .before .before .before .before .next-line .ensures .0) (c .before .before .before .before .before .before .before .before .before .before .before .before .before .before .before .before .before .before .before .before .before .before .before .before .l .given .1) _ _ _ _ _ (c .before .before .before .before .before .before .before .before .before .before .before .before .before .before .before .before .form .result) (c .before .before .before .before .before .before .before .before .before .before .before .before .before .before .before .before .form .ensures .0) (c .before .before .before .before .f .given .1) (c .before .is-over .ensures) (not-false _ (c .if1 .left)) (within-next (c .before .before .before .before .before .before .before .before .before .before .before .before .before .before .before .before .form .ensures .1) (c .before .before .before .before .f .given .1)) (c .before .before .before .before .before .before .before .before .before .before .before .before .before .before .before .before .form .kept .1 .1 .1 .0) (c .before .before .before .before .before .before .before .before .before .before .before .before .before .before .before .before .form .kept .1 .1 .1 .1 .0) (c .before .before .before .before .before .before .before .before .before .before .before .before .before .before .before .before .form .kept .1 .1 .1 .1 .1 .0) (c .before .before .before .before .before .before .before .before .before .before .before .before .before .before .before .before .form .kept .1 .1 .1 .1 .1 .1 .0) (c .before .before .before .before .before .before .before .before .before .before .before .before .before .before .before .before .form .kept .1 .1 .1 .1 .1 .1 .1 .0)
 

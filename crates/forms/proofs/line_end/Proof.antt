@@ -4,8 +4,6 @@ use Prim.Native.Nat.{_-_}
 use borrow.Author.Needs.{needs}
 use Rattle.forms.proofs.line_end.Statement.{statement}
 use Rattle.forms.proofs.line_end.Tie as tie
-use Rattle.forms.proofs.line_end.Reads as reads
-use Rattle.forms.proofs.line_end.Lts as lts
 
 abbrev Inv-loop : tie.InvT-loop
 Inv-loop text at i₀ i = Running text at i
@@ -13,31 +11,24 @@ Inv-loop text at i₀ i = Running text at i
 abbrev μ-loop : tie.MeasureT-loop
 μ-loop text at i₀ i = length text - i
 
--- src/lib.rt:183:5
 loop-holds : tie.Need-loop-holds Inv-loop μ-loop
 loop-holds c = running-start _ _ (c .pre)
 
--- src/lib.rt:184:12
 shared-slice-read-if1 : tie.Need-shared-slice-read-if1 Inv-loop μ-loop
 shared-slice-read-if1 c = search needs
 
--- src/lib.rt:185:13
 returns : tie.Need-returns Inv-loop μ-loop
 returns c = (c .before .before .before .loop .inv .from, (c .before .before .before .loop .inv .upto, running-feed _ _ _ (c .before .before .before .loop .inv) (c .before .before .loop-test .taken) (c .if1 .taken)))
 
--- src/lib.rt:187:9
 add-i : tie.Need-add-i Inv-loop μ-loop
 add-i c = search needs
 
--- src/lib.rt:183:5
 loop-less : tie.Need-loop-less Inv-loop μ-loop
 loop-less c = search needs
 
--- src/lib.rt:183:5
 loop-again : tie.Need-loop-again Inv-loop μ-loop
 loop-again c = running-turn _ _ _ (c .before .before .before .loop .inv) (c .before .before .loop-test .taken) (c .if1 .left)
 
--- src/lib.rt:178:1
 returns-2 : tie.Need-returns-2 Inv-loop μ-loop
 returns-2 c = (c .before .loop .inv .from, (c .before .loop .inv .upto, running-end _ _ _ (c .before .loop .inv) (c .loop-test .left)))
 

@@ -3,28 +3,19 @@ use native.Mathlib.Omega.{arith}
 use borrow.Author.Needs.{needs}
 use Rattle.nested.proofs.push.Statement.{statement}
 use Rattle.nested.proofs.push.Tie as tie
-use Rattle.nested.proofs.push.Reads as reads
-use Rattle.nested.proofs.push.Lts as lts
-use Rattle.nested.proofs.put_marks.Reads as put-marks-reads
-use Rattle.rows.proofs.write_numbers.Reads as write-numbers-reads
 
--- src/lib.rt:48:5
 write-numbers-requires : tie.Need-write-numbers-requires
 write-numbers-requires c κs = omega (arith, c .before .before .before .before .pre .0, c .before .before .before .before .pre .1 .0)
 
--- src/lib.rt:49:5
 put-marks-requires : tie.Need-put-marks-requires
 put-marks-requires c κs = omega (arith, c .before .before .before .before .before .before .before .before .pre .0, c .before .before .before .before .before .before .before .before .pre .1 .1)
 
--- src/lib.rt:42:1
 same-length : tie.Need-same-length
 same-length c = search needs
 
--- src/lib.rt:42:1
 same-length-2 : tie.Need-same-length-2
 same-length-2 c = search needs
 
--- src/lib.rt:42:1
 returns : tie.Need-returns
 returns c = (numbers-more _ _ _ (c .before .before .before .before .before .before .before .before .before .before .before .pre .0) (c .before .before .before .before .before .before .before .before .before .before .before .pre .1 .0) (c .before .before .before .before .before .before .write-numbers .ensures), marks-more _ _ _ _ _ _ (c .before .before .before .before .before .before .before .before .before .before .before .pre .0) (c .before .before .before .before .before .before .before .before .before .before .before .pre .1 .1) (c .before .before .put-marks .ensures))
 

@@ -4,54 +4,38 @@ use native.Mathlib.Omega.{arith}
 use borrow.Author.Needs.{needs}
 use Rattle.nested.proofs.round.Statement.{statement}
 use Rattle.nested.proofs.round.Tie as tie
-use Rattle.nested.proofs.round.Reads as reads
-use Rattle.nested.proofs.round.Lts as lts
-use Rattle.nested.proofs.push.Reads as push-reads
-use Rattle.nested.proofs.small.Reads as small-reads
-use Rattle.openings.proofs.lines_of.Reads as lines-of-reads
 
--- src/lib.rt:105:9
 returns : tie.Need-returns
 unfolding WithinNext
 returns c = (round-full _ (c .before .before .before .before .before .before .before .before .args .c) (c .before .before .before .before .before .before .before .before .args .h) _ _ _ _ _ (c .before .before .before .before .before .before .before .before .pre .0) (c .before .before .before .before .before .before .before .before .pre .1 .marks) (c .if1 .taken), tt)
 
--- src/lib.rt:107:5
 push-requires : tie.Need-push-requires
 push-requires c κs = (c .before .before .if1 .left, (c .before .before .before .before .before .before .before .before .before .before .pre .1 .numbers, c .before .before .before .before .before .before .before .before .before .before .pre .1 .marks))
 
--- src/lib.rt:110:18
 add-t16 : tie.Need-add-t16
 add-t16 c = search needs
 
--- src/lib.rt:114:33
 small-requires : tie.Need-small-requires
 small-requires c κs = omega (arith, c .before .before .before .before .before .before .before .before .if1 .left)
 
--- src/lib.rt:114:5
 lines-of-requires : tie.Need-lines-of-requires
 lines-of-requires c κs = (record { entries = omega (arith, c .before .before .before .before .before .before .before .before .before .before .before .before .if1 .left); points = c .before .before .before .before .before .before .before .before .before .before .before .before .before .before .before .before .before .before .before .before .pre .0 .points; lines = c .before .before .before .before .before .before .before .before .before .before .before .before .before .before .before .before .before .before .before .before .pre .0 .lines }, (c .before .before .before .before .before .before .before .before .before .before .before .before .before .before .before .before .before .before .before .before .pre .1 .points, (c .before .before .before .before .before .before .before .before .before .before .before .before .before .before .before .before .before .before .before .before .pre .1 .starts, c .before .before .before .before .before .before .before .before .before .before .before .before .before .before .before .before .before .before .before .before .pre .1 .owners)))
 
--- src/lib.rt:90:1
 same-length : tie.Need-same-length
 same-length c = search needs
 
--- src/lib.rt:90:1
 same-length-2 : tie.Need-same-length-2
 same-length-2 c = search needs
 
--- src/lib.rt:90:1
 same-length-3 : tie.Need-same-length-3
 same-length-3 c = search needs
 
--- src/lib.rt:90:1
 same-length-4 : tie.Need-same-length-4
 same-length-4 c = search needs
 
--- src/lib.rt:90:1
 same-length-5 : tie.Need-same-length-5
 same-length-5 c = search needs
 
--- src/lib.rt:90:1
 returns-2 : tie.Need-returns-2
 returns-2 c = (round-enters _ (c .before .before .before .before .before .before .before .before .before .before .before .before .before .before .before .before .before .before .before .before .before .before .before .before .before .before .before .args .c) (c .before .before .before .before .before .before .before .before .before .before .before .before .before .before .before .before .before .before .before .before .before .before .before .before .before .before .before .args .h) _ _ _ _ _ (c .before .before .before .before .before .before .before .before .before .before .before .before .before .before .before .before .before .before .before .before .before .before .before .before .before .before .before .pre .0) (c .before .before .before .before .before .before .before .before .before .before .before .before .before .before .before .before .before .before .before .before .before .before .before .before .before .before .before .pre .1 .marks) (c .before .before .before .before .before .before .before .before .before .before .before .before .before .before .before .before .before .before .before .before .before .before .before .before .before .before .before .pre .1 .starts) (c .before .before .before .before .before .before .before .before .before .before .before .before .before .before .before .before .before .before .before .if1 .left) _ _ (c .before .before .before .before .before .before .before .before .before .before .before .before .before .before .before .before .push .ensures .0) (c .before .before .before .before .before .before .before .before .before .before .before .before .before .before .before .before .push .ensures .1) _ (c .before .before .before .before .before .before .before .before .before .before .small .ensures) _ _ _ (c .before .before .before .before .before .before .lines-of .result) (c .before .before .before .before .before .before .lines-of .ensures .0), c .before .before .before .before .before .before .lines-of .ensures .1)
 

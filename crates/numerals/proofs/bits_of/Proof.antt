@@ -7,24 +7,18 @@ use Rattle.numerals.proofs.Laws.{nan-bits, not-so}
 use Rattle.numerals.specs.Numerals.{bitsOf}
 use Rattle.numerals.proofs.bits_of.Statement.{statement}
 use Rattle.numerals.proofs.bits_of.Tie as tie
-use Rattle.numerals.proofs.bits_of.Reads as reads
-use Rattle.numerals.proofs.bits_of.Lts as lts
 
--- src/lib.rt:110:9
 returns : tie.Need-returns
 unfolding bitsOf
 returns c = rw (c .if1 .taken)
 
--- src/lib.rt:113:9
 returns-2 : tie.Need-returns-2
 unfolding ne
 returns-2 c = sym (ap bitsOf (not-itself _ (not-true _ (c .if2 .taken))) ∙ nan-bits)
 
--- src/lib.rt:115:5
 float-to-bits-result : tie.Need-float-to-bits-result
 float-to-bits-result c = not-so _ (sym (ne-self _) ∙ c .if2 .left)
 
--- src/lib.rt:106:1
 returns-3 : tie.Need-returns-3
 unfolding bitsOf
 returns-3 c = rw (c .before .if1 .left)

@@ -9,9 +9,6 @@ use Rattle.numerals.specs.Numerals.{hexWord}
 use Rattle.numerals.proofs.Laws.{hex-turn}
 use Rattle.numerals.proofs.put_hex.Statement.{statement}
 use Rattle.numerals.proofs.put_hex.Tie as tie
-use Rattle.numerals.proofs.put_hex.Reads as reads
-use Rattle.numerals.proofs.put_hex.Lts as lts
-use Rattle.numerals.proofs.digit_byte.Reads as digit-byte-reads
 
 abbrev Inv-loop : tie.InvT-loop
 Inv-loop out₀ at b v₀ k₀ out v k = (k ≤ 16) × (length out ≡ length out₀) × (sets out₀ at (hexWord 16 b) ≡ sets out at (hexWord k v))
@@ -19,39 +16,30 @@ Inv-loop out₀ at b v₀ k₀ out v k = (k ≤ 16) × (length out ≡ length ou
 abbrev μ-loop : tie.MeasureT-loop
 μ-loop out₀ at b v₀ k₀ out v k = k
 
--- src/lib.rt:176:5
 loop-holds : tie.Need-loop-holds Inv-loop μ-loop
 loop-holds c = (omega arith, refl, refl)
 
--- src/lib.rt:177:9
 sub-k : tie.Need-sub-k Inv-loop μ-loop
 sub-k c = search needs
 
--- src/lib.rt:178:23
 digit-byte-requires : tie.Need-digit-byte-requires Inv-loop μ-loop
 digit-byte-requires c κs = omega arith
 
--- src/lib.rt:178:13
 add-out : tie.Need-add-out Inv-loop μ-loop
 add-out c = omega (arith, c .before .before .before .before .pre)
 
--- src/lib.rt:178:9
 slice-write-out : tie.Need-slice-write-out Inv-loop μ-loop
 slice-write-out c = omega (arith, c .before .before .before .before .pre, c .before .before .loop .inv .1)
 
--- src/lib.rt:176:5
 loop-less : tie.Need-loop-less Inv-loop μ-loop
 loop-less c = search needs
 
--- src/lib.rt:176:5
 loop-again : tie.Need-loop-again Inv-loop μ-loop
 loop-again c = (omega arith, simp length-set (c .before .before .loop .inv .1), rw (c .digit-byte .ensures) (c .before .before .loop .inv .2 ∙ hex-turn _ _ _ _ (c .before .loop-test .taken)))
 
--- src/lib.rt:170:1
 same-length : tie.Need-same-length Inv-loop μ-loop
 same-length c = c .before .loop .inv .1
 
--- src/lib.rt:170:1
 returns : tie.Need-returns Inv-loop μ-loop
 returns c = sym (c .before .loop .inv .2 ∙ hex-done _ _ _ _ (c .loop-test .left))
 

@@ -4,29 +4,21 @@ use borrow.Author.Tests.{eq-eqb, ne-eqb}
 use borrow.Author.Needs.{needs}
 use Rattle.openings.proofs.detail_at.Statement.{statement}
 use Rattle.openings.proofs.detail_at.Tie as tie
-use Rattle.openings.proofs.detail_at.Reads as reads
-use Rattle.openings.proofs.detail_at.Lts as lts
-use Rattle.tokens.proofs.count_at.Reads as count-at-reads
 
--- src/lib.rt:171:9
 count-at-requires : tie.Need-count-at-requires
 count-at-requires c κs = search needs
 
--- src/lib.rt:171:9
 returns : tie.Need-returns
 unfolding detailIn
 returns c = simp (eq-eqb _ _ (c .before .if1 .taken)) (c .count-at .ensures)
 
--- src/lib.rt:174:9
 count-at-requires-2 : tie.Need-count-at-requires-2
 count-at-requires-2 c κs = search needs
 
--- src/lib.rt:174:9
 returns-2 : tie.Need-returns-2
 unfolding detailIn
 returns-2 c = simp (ne-eqb _ _ (c .before .before .if1 .left), eq-eqb _ _ (c .before .if2 .taken)) (c .count-at2 .ensures)
 
--- src/lib.rt:167:1
 returns-3 : tie.Need-returns-3
 unfolding detailIn countedAs
 returns-3 c = simp (ne-eqb _ _ (c .before .if1 .left), ne-eqb _ _ (c .if2 .left))

@@ -4,33 +4,23 @@ use Rattle.tokens.specs.Tokens.{andThen}
 use borrow.Author.Needs.{needs}
 use Rattle.openings.proofs.head_at.Statement.{statement}
 use Rattle.openings.proofs.head_at.Tie as tie
-use Rattle.openings.proofs.head_at.Reads as reads
-use Rattle.openings.proofs.head_at.Lts as lts
-use Rattle.tokens.proofs.open_at.Reads as open-at-reads
-use Rattle.tokens.proofs.word_at.Reads as word-at-reads
 
--- src/lib.rt:105:9
 open-at-requires : tie.Need-open-at-requires
 open-at-requires c κs = search needs
 
--- src/lib.rt:106:18
 enum-known-s : tie.Need-enum-known-s
 enum-known-s c = search needs
 
--- src/lib.rt:107:9
 enum-told : tie.Need-enum-told
 enum-told c = search needs
 
--- src/lib.rt:107:9
 returns : tie.Need-returns
 unfolding headIn andThen stepAs spanAs Lies
 returns c = (rw (← c .before .before .open-at .ensures, c .enum-told .given .1), tt)
 
--- src/lib.rt:109:5
 word-at-requires : tie.Need-word-at-requires
 word-at-requires c κs = search needs
 
--- src/lib.rt:102:1
 returns-2 : tie.Need-returns-2
 unfolding headIn andThen stepAs
 returns-2 c = (rw (← c .before .before .before .before .open-at .ensures, c .before .before .s .given .1) (c .word-at .ensures .0), c .word-at .ensures .1)

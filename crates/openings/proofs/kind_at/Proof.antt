@@ -7,50 +7,36 @@ use native.Mathlib.Omega.{arith}
 use borrow.Author.Needs.{needs}
 use Rattle.openings.proofs.kind_at.Statement.{statement}
 use Rattle.openings.proofs.kind_at.Tie as tie
-use Rattle.openings.proofs.kind_at.Reads as reads
-use Rattle.openings.proofs.kind_at.Lts as lts
-use Rattle.openings.proofs.head_at.Reads as head-at-reads
-use Rattle.openings.proofs.kind_of.Reads as kind-of-reads
 
--- src/lib.rt:137:9
 head-at-requires : tie.Need-head-at-requires
 head-at-requires c κs = search needs
 
--- src/lib.rt:138:18
 enum-known-h : tie.Need-enum-known-h
 enum-known-h c = search needs
 
--- src/lib.rt:139:9
 enum-told : tie.Need-enum-told
 enum-told c = search needs
 
--- src/lib.rt:139:9
 returns : tie.Need-returns
 unfolding kindIn andThen countedAs spanAs
 returns c = rw (← c .before .before .head-at .ensures .0, c .enum-told .given .1)
 
--- src/lib.rt:141:21
 sub-kind-of : tie.Need-sub-kind-of
 sub-kind-of c = omega (arith, lies-at _ (c .before .before .before .head-at .ensures .1) (c .before .h .given .1))
 
--- src/lib.rt:141:21
 part-kind-of-start : tie.Need-part-kind-of-start
 part-kind-of-start c = omega (arith, lies-at _ (c .before .before .before .head-at .ensures .1) (c .before .h .given .1))
 
--- src/lib.rt:141:21
 part-kind-of-end : tie.Need-part-kind-of-end
 part-kind-of-end c = omega (arith, lies-at _ (c .before .before .before .head-at .ensures .1) (c .before .h .given .1))
 
--- src/lib.rt:141:9
 kind-of-requires : tie.Need-kind-of-requires
 kind-of-requires c κs = search needs
 
--- src/lib.rt:143:9
 returns-2 : tie.Need-returns-2
 unfolding kindIn andThen countedAs spanAs
 returns-2 c = rw (← c .before .before .before .before .before .before .head-at .ensures .0, c .before .before .before .before .h .given .1, ← c .before .kind-of .ensures, eq-eqb _ _ (c .if1 .taken))
 
--- src/lib.rt:134:1
 returns-3 : tie.Need-returns-3
 unfolding kindIn andThen countedAs spanAs
 returns-3 c = rw (← c .before .before .before .before .before .before .head-at .ensures .0, c .before .before .before .before .h .given .1, ← c .before .kind-of .ensures, ne-eqb _ _ (c .if1 .left))

@@ -6,50 +6,36 @@ use native.Mathlib.Omega.{arith}
 use borrow.Author.Needs.{needs}
 use Rattle.openings.proofs.named_at.Statement.{statement}
 use Rattle.openings.proofs.named_at.Tie as tie
-use Rattle.openings.proofs.named_at.Reads as reads
-use Rattle.openings.proofs.named_at.Lts as lts
-use Rattle.openings.proofs.head_at.Reads as head-at-reads
-use Rattle.openings.proofs.same.Reads as same-reads
 
--- src/lib.rt:123:9
 head-at-requires : tie.Need-head-at-requires
 head-at-requires c κs = search needs
 
--- src/lib.rt:124:18
 enum-known-h : tie.Need-enum-known-h
 enum-known-h c = search needs
 
--- src/lib.rt:125:9
 enum-told : tie.Need-enum-told
 enum-told c = search needs
 
--- src/lib.rt:125:9
 returns : tie.Need-returns
 unfolding namedIn andThen stepAs spanAs
 returns c = rw (← c .before .before .head-at .ensures .0, c .enum-told .given .1)
 
--- src/lib.rt:127:13
 sub-same : tie.Need-sub-same
 sub-same c = omega (arith, lies-at _ (c .before .before .before .head-at .ensures .1) (c .before .h .given .1))
 
--- src/lib.rt:127:13
 part-same-start : tie.Need-part-same-start
 part-same-start c = omega (arith, lies-at _ (c .before .before .before .head-at .ensures .1) (c .before .h .given .1))
 
--- src/lib.rt:127:13
 part-same-end : tie.Need-part-same-end
 part-same-end c = omega (arith, lies-at _ (c .before .before .before .head-at .ensures .1) (c .before .h .given .1))
 
--- src/lib.rt:127:8
 same-requires : tie.Need-same-requires
 same-requires c κs = search needs
 
--- src/lib.rt:128:9
 returns-2 : tie.Need-returns-2
 unfolding namedIn andThen stepAs spanAs
 returns-2 c = rw (← c .before .before .before .before .before .before .head-at .ensures .0, c .before .before .before .before .h .given .1, ← c .before .same .ensures, c .if1 .taken)
 
--- src/lib.rt:120:1
 returns-3 : tie.Need-returns-3
 unfolding namedIn andThen stepAs spanAs
 returns-3 c = rw (← c .before .before .before .before .before .before .head-at .ensures .0, c .before .before .before .before .h .given .1, ← c .before .same .ensures, c .if1 .left)

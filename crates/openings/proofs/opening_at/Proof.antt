@@ -6,80 +6,56 @@ use Rattle.tokens.specs.Tokens.{andThen}
 use borrow.Author.Needs.{needs}
 use Rattle.openings.proofs.opening_at.Statement.{statement}
 use Rattle.openings.proofs.opening_at.Tie as tie
-use Rattle.openings.proofs.opening_at.Reads as reads
-use Rattle.openings.proofs.opening_at.Lts as lts
-use Rattle.openings.proofs.detail_at.Reads as detail-at-reads
-use Rattle.openings.proofs.kind_at.Reads as kind-at-reads
-use Rattle.openings.proofs.measures.Reads as measures-reads
-use Rattle.openings.proofs.numbers_at.Reads as numbers-at-reads
-use Rattle.rows.proofs.read_numbers.Reads as read-numbers-reads
 
--- src/lib.rt:210:9
 kind-at-requires : tie.Need-kind-at-requires
 kind-at-requires c κs = search needs
 
--- src/lib.rt:211:24
 enum-known-h : tie.Need-enum-known-h
 enum-known-h c = search needs
 
--- src/lib.rt:212:9
 enum-told : tie.Need-enum-told
 enum-told c = search needs
 
--- src/lib.rt:212:9
 returns : tie.Need-returns
 unfolding openedAs openingIn andThen countedAs
 returns c = rw (← c .before .before .kind-at .ensures, c .enum-told .given .1)
 
--- src/lib.rt:214:9
 detail-at-requires : tie.Need-detail-at-requires
 detail-at-requires c κs = search needs
 
--- src/lib.rt:215:24
 enum-known-d : tie.Need-enum-known-d
 enum-known-d c = search needs
 
--- src/lib.rt:216:9
 enum-told-2 : tie.Need-enum-told-2
 enum-told-2 c = search needs
 
--- src/lib.rt:216:9
 returns-2 : tie.Need-returns-2
 returns-2 c = opening-undetailed _ _ (c .before .before .before .before .before .before .kind-at .ensures) (c .before .before .before .before .h .given .1) (c .before .before .detail-at .ensures) (c .enum-told2 .given .1)
 
--- src/lib.rt:219:33
 measures-requires : tie.Need-measures-requires
 measures-requires c κs = search needs
 
--- src/lib.rt:219:49
 slice-aggregate-numbers-at : tie.Need-slice-aggregate-numbers-at
 slice-aggregate-numbers-at c = search needs
 
--- src/lib.rt:219:9
 numbers-at-requires : tie.Need-numbers-at-requires
 numbers-at-requires c κs = c .before .measures .ensures .1
 
--- src/lib.rt:220:18
 enum-known-s : tie.Need-enum-known-s
 enum-known-s c = search needs
 
--- src/lib.rt:221:9
 enum-told-3 : tie.Need-enum-told-3
 enum-told-3 c = search needs
 
--- src/lib.rt:221:9
 returns-3 : tie.Need-returns-3
 returns-3 c = opening-short _ _ (c .before .before .before .before .before .before .before .before .before .before .before .before .before .kind-at .ensures) (c .before .before .before .before .before .before .before .before .before .before .before .h .given .1) (c .before .before .before .before .before .before .before .before .before .detail-at .ensures) (c .before .before .before .before .before .before .before .d .given .1) (c .before .before .before .before .before .measures .ensures .0) _ (c .before .before .before .numbers-at .ensures .0) (c .enum-told3 .given .1)
 
--- src/lib.rt:223:34
 slice-aggregate-read-numbers : tie.Need-slice-aggregate-read-numbers
 slice-aggregate-read-numbers c = search needs
 
--- src/lib.rt:223:9
 read-numbers-requires : tie.Need-read-numbers-requires
 read-numbers-requires c κs = search needs
 
--- src/lib.rt:207:1
 returns-4 : tie.Need-returns-4
 returns-4 c = opening-of _ _ (c .before .before .before .before .before .before .before .before .before .before .before .before .before .before .before .before .kind-at .ensures) (c .before .before .before .before .before .before .before .before .before .before .before .before .before .before .h .given .1) (c .before .before .before .before .before .before .before .before .before .before .before .before .detail-at .ensures) (c .before .before .before .before .before .before .before .before .before .before .d .given .1) (c .before .before .before .before .before .before .before .before .measures .ensures .0) _ (c .before .before .before .before .before .before .numbers-at .ensures .0) (c .before .before .before .before .before .before .before .before .measures .ensures .1) (c .before .before .before .before .before .before .numbers-at .kept .1 .1 .1 .0) (c .before .before .before .before .before .before .numbers-at .ensures .1) (c .before .before .before .s .given .1) (c .read-numbers .ensures)
 

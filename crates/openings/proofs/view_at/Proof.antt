@@ -6,79 +6,56 @@ use Rattle.tokens.specs.Tokens.{andThen}
 use borrow.Author.Needs.{needs}
 use Rattle.openings.proofs.view_at.Statement.{statement}
 use Rattle.openings.proofs.view_at.Tie as tie
-use Rattle.openings.proofs.view_at.Reads as reads
-use Rattle.openings.proofs.view_at.Lts as lts
-use Rattle.openings.proofs.named_at.Reads as named-at-reads
-use Rattle.openings.proofs.numbers_at.Reads as numbers-at-reads
-use Rattle.openings.proofs.view_of.Reads as view-of-reads
-use Rattle.tokens.proofs.close_at.Reads as close-at-reads
 
--- src/lib.rt:267:32
 slice-aggregate-named-at : tie.Need-slice-aggregate-named-at
 slice-aggregate-named-at c = search needs
 
--- src/lib.rt:267:9
 named-at-requires : tie.Need-named-at-requires
 named-at-requires c κs = search needs
 
--- src/lib.rt:268:18
 enum-known-h : tie.Need-enum-known-h
 enum-known-h c = search needs
 
--- src/lib.rt:269:9
 enum-told : tie.Need-enum-told
 enum-told c = search needs
 
--- src/lib.rt:269:9
 returns : tie.Need-returns
 unfolding viewedAs viewIn andThen stepAs
 returns c = rw (← c .before .before .named-at .ensures, c .enum-told .given .1)
 
--- src/lib.rt:272:37
 slice-aggregate-numbers-at : tie.Need-slice-aggregate-numbers-at
 slice-aggregate-numbers-at c = search needs
 
--- src/lib.rt:272:9
 numbers-at-requires : tie.Need-numbers-at-requires
 numbers-at-requires c κs = search needs
 
--- src/lib.rt:273:18
 enum-known-s : tie.Need-enum-known-s
 enum-known-s c = search needs
 
--- src/lib.rt:274:9
 enum-told-2 : tie.Need-enum-told-2
 enum-told-2 c = search needs
 
--- src/lib.rt:274:9
 returns-2 : tie.Need-returns-2
 returns-2 c = view-short _ _ (c .before .before .before .before .before .before .before .before .named-at .ensures) (c .before .before .before .before .before .before .h .given .1) _ (c .before .before .before .numbers-at .ensures .0) (c .enum-told2 .given .1)
 
--- src/lib.rt:276:9
 close-at-requires : tie.Need-close-at-requires
 close-at-requires c κs = search needs
 
--- src/lib.rt:277:18
 enum-known-c : tie.Need-enum-known-c
 enum-known-c c = search needs
 
--- src/lib.rt:278:9
 enum-told-3 : tie.Need-enum-told-3
 enum-told-3 c = search needs
 
--- src/lib.rt:278:9
 returns-3 : tie.Need-returns-3
 returns-3 c = view-open _ _ (c .before .before .before .before .before .before .before .before .before .before .before .before .named-at .ensures) (c .before .before .before .before .before .before .before .before .before .before .h .given .1) _ (c .before .before .before .before .before .before .before .numbers-at .ensures .0) (c .before .before .before .before .s .given .1) (c .before .before .close-at .ensures) (c .enum-told3 .given .1)
 
--- src/lib.rt:280:26
 slice-aggregate-view-of : tie.Need-slice-aggregate-view-of
 slice-aggregate-view-of c = search needs
 
--- src/lib.rt:280:18
 view-of-requires : tie.Need-view-of-requires
 view-of-requires c κs = c .before .before .before .before .before .before .before .before .before .numbers-at .kept .1 .1 .1 .0
 
--- src/lib.rt:264:1
 returns-4 : tie.Need-returns-4
 returns-4 c = view-seen _ _ (c .before .before .before .before .before .before .before .before .before .before .before .before .before .before .before .named-at .ensures) (c .before .before .before .before .before .before .before .before .before .before .before .before .before .h .given .1) _ (c .before .before .before .before .before .before .before .before .before .before .numbers-at .ensures .0) (c .before .before .before .before .before .before .before .s .given .1) (c .before .before .before .before .before .close-at .ensures) (c .before .before .before .before .before .before .before .before .before .before .numbers-at .kept .1 .1 .1 .0) (c .before .before .before .c .given .1) (c .view-of .ensures)
 

@@ -3,56 +3,40 @@ use Rattle.openings.specs.Heads.{viewOf}
 use borrow.Author.Needs.{needs}
 use Rattle.openings.proofs.view_of.Statement.{statement}
 use Rattle.openings.proofs.view_of.Tie as tie
-use Rattle.openings.proofs.view_of.Reads as reads
-use Rattle.openings.proofs.view_of.Lts as lts
-use Rattle.rows.proofs.read_numbers.Reads as read-numbers-reads
-use Rattle.scene.proofs.entry.matrix_of.Reads as matrix-of-reads
 
--- src/lib.rt:243:32
 sub-read-numbers : tie.Need-sub-read-numbers
 sub-read-numbers c = search needs
 
--- src/lib.rt:243:32
 part-read-numbers-start : tie.Need-part-read-numbers-start
 part-read-numbers-start c = search needs
 
--- src/lib.rt:243:32
 part-read-numbers-end : tie.Need-part-read-numbers-end
 part-read-numbers-end c = search needs
 
--- src/lib.rt:243:9
 read-numbers-requires : tie.Need-read-numbers-requires
 read-numbers-requires c κs = search needs
 
--- src/lib.rt:245:17
 matrix-of-requires : tie.Need-matrix-of-requires
 matrix-of-requires c κs = search needs
 
--- src/lib.rt:247:16
 shared-slice-read-t9 : tie.Need-shared-slice-read-t9
 shared-slice-read-t9 c = search needs
 
--- src/lib.rt:248:16
 shared-slice-read-t11 : tie.Need-shared-slice-read-t11
 shared-slice-read-t11 c = search needs
 
--- src/lib.rt:249:16
 shared-slice-read-t13 : tie.Need-shared-slice-read-t13
 shared-slice-read-t13 c = search needs
 
--- src/lib.rt:251:16
 shared-slice-read-t16 : tie.Need-shared-slice-read-t16
 shared-slice-read-t16 c = search needs
 
--- src/lib.rt:252:17
 shared-slice-read-t18 : tie.Need-shared-slice-read-t18
 shared-slice-read-t18 c = search needs
 
--- src/lib.rt:253:15
 shared-slice-read-t20 : tie.Need-shared-slice-read-t20
 shared-slice-read-t20 c = search needs
 
--- src/lib.rt:239:1
 returns : tie.Need-returns
 unfolding viewOf
 returns c = rw (c .before .before .before .before .before .before .matrix-of .ensures, c .before .before .before .before .before .before .before .read-numbers .ensures, rest-row _ (c .before .before .before .before .before .before .before .before .before .before .pre))

@@ -2,25 +2,19 @@ use borrow.Author.Tests.{ne-eqb}
 use Rattle.tokens.specs.Tokens.{wordByte}
 use Rattle.tokens.proofs.in_word.Statement.{statement}
 use Rattle.tokens.proofs.in_word.Tie as tie
-use Rattle.tokens.proofs.in_word.Reads as reads
-use Rattle.tokens.proofs.in_word.Lts as lts
 
--- src/lib.rt:38:9
 returns : tie.Need-returns
 unfolding wordByte
 returns c = rw (c .if1 .taken)
 
--- src/lib.rt:41:9
 returns-2 : tie.Need-returns-2
 unfolding wordByte
 returns-2 c = rw (c .if2 .taken)
 
--- src/lib.rt:44:9
 returns-3 : tie.Need-returns-3
 unfolding wordByte
 returns-3 c = rw (c .if3 .taken)
 
--- src/lib.rt:34:1
 returns-4 : tie.Need-returns-4
 unfolding wordByte
 returns-4 c = simp (ne-eqb _ _ (c .before .before .if1 .left), ne-eqb _ _ (c .before .if2 .left), ne-eqb _ _ (c .if3 .left))

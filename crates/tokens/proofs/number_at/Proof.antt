@@ -5,58 +5,42 @@ use native.Mathlib.Omega.{arith}
 use borrow.Author.Needs.{needs}
 use Rattle.tokens.proofs.number_at.Statement.{statement}
 use Rattle.tokens.proofs.number_at.Tie as tie
-use Rattle.tokens.proofs.number_at.Reads as reads
-use Rattle.tokens.proofs.number_at.Lts as lts
-use Rattle.numerals.proofs.number.Reads as number-reads
-use Rattle.tokens.proofs.word_at.Reads as word-at-reads
 
--- src/lib.rt:159:9
 word-at-requires : tie.Need-word-at-requires
 word-at-requires c κs = search needs
 
--- src/lib.rt:160:18
 enum-known-w : tie.Need-enum-known-w
 enum-known-w c = search needs
 
--- src/lib.rt:161:9
 enum-told : tie.Need-enum-told
 enum-told c = search needs
 
--- src/lib.rt:161:9
 returns : tie.Need-returns
 unfolding spanAs foundAs numberIn andThen
 returns c = rw (← c .before .before .word-at .ensures .0, c .enum-told .given .1)
 
--- src/lib.rt:163:30
 sub-number : tie.Need-sub-number
 sub-number c = omega (arith, lies-at _ (c .before .before .before .word-at .ensures .1) (c .before .w .given .1))
 
--- src/lib.rt:163:30
 part-number-start : tie.Need-part-number-start
 part-number-start c = omega (arith, lies-at _ (c .before .before .before .word-at .ensures .1) (c .before .w .given .1))
 
--- src/lib.rt:163:30
 part-number-end : tie.Need-part-number-end
 part-number-end c = omega (arith, lies-at _ (c .before .before .before .word-at .ensures .1) (c .before .w .given .1))
 
--- src/lib.rt:163:9
 number-requires : tie.Need-number-requires
 number-requires c κs = search needs
 
--- src/lib.rt:165:34
 enum-known-x : tie.Need-enum-known-x
 enum-known-x c = search needs
 
--- src/lib.rt:166:40
 enum-told-2 : tie.Need-enum-told-2
 enum-told-2 c = search needs
 
--- src/lib.rt:156:1
 returns-2 : tie.Need-returns-2
 unfolding spanAs foundAs numberIn andThen realOf
 returns-2 c = rw (← c .before .before .before .before .before .before .before .before .word-at .ensures .0, c .before .before .before .before .before .before .w .given .1, ← c .before .before .before .number .ensures, c .before .x .given .1)
 
--- src/lib.rt:156:1
 returns-3 : tie.Need-returns-3
 unfolding spanAs foundAs numberIn andThen realOf
 returns-3 c = rw (← c .before .before .before .before .before .before .before .word-at .ensures .0, c .before .before .before .before .before .w .given .1, ← c .before .before .number .ensures, c .enum-told2 .given .1)

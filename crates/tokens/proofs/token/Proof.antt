@@ -5,47 +5,34 @@ use native.Mathlib.Omega.{arith}
 use borrow.Author.Needs.{needs}
 use Rattle.tokens.proofs.token.Statement.{statement}
 use Rattle.tokens.proofs.token.Tie as tie
-use Rattle.tokens.proofs.token.Reads as reads
-use Rattle.tokens.proofs.token.Lts as lts
-use Rattle.tokens.proofs.skip.Reads as skip-reads
-use Rattle.tokens.proofs.word_end.Reads as word-end-reads
 
--- src/lib.rt:88:9
 skip-requires : tie.Need-skip-requires
 skip-requires c κs = search needs
 
--- src/lib.rt:90:9
 returns : tie.Need-returns
 unfolding seen Inside
 returns c = (sym (c .before .skip .ensures .0 ∙ left-over _ _ (c .if1 .taken)), omega arith)
 
--- src/lib.rt:92:13
 shared-slice-read-b : tie.Need-shared-slice-read-b
 shared-slice-read-b c = search needs
 
--- src/lib.rt:94:27
 add-t10 : tie.Need-add-t10
 add-t10 c = search needs
 
--- src/lib.rt:94:9
 returns-2 : tie.Need-returns-2
 unfolding seen Inside
 returns-2 c = (sym (c .before .before .before .skip .ensures .0 ∙ left-opens _ _ (c .before .before .if1 .left) (c .if2 .taken)), omega (arith, c .before .before .if1 .left))
 
--- src/lib.rt:97:28
 add-t11 : tie.Need-add-t11
 add-t11 c = search needs
 
--- src/lib.rt:97:9
 returns-3 : tie.Need-returns-3
 unfolding seen Inside
 returns-3 c = (sym (c .before .before .before .before .skip .ensures .0 ∙ left-closes _ _ (c .before .before .before .if1 .left) (c .if3 .taken)), omega (arith, c .before .before .before .if1 .left))
 
--- src/lib.rt:99:9
 word-end-requires : tie.Need-word-end-requires
 word-end-requires c κs = (c .before .before .before .if1 .left, is-word _ (c .before .before .before .before .skip .ensures .1 (c .before .before .before .if1 .left)) (c .before .if2 .left) (c .if3 .left))
 
--- src/lib.rt:85:1
 returns-4 : tie.Need-returns-4
 unfolding seen Inside
 returns-4 c = (sym (c .before .before .before .before .before .skip .ensures .0 ∙ c .word-end .ensures .2), (c .word-end .ensures .0, c .word-end .ensures .1))
