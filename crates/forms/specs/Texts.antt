@@ -1,0 +1,57 @@
+-- The whole text: forms, one a line, the view first.
+use Prim.Native.Nat.{ℕ}
+use mathlib.Core.Bool.{cond}
+use mathlib.Core.List.{List, [], _∷_, _++_}
+use lib.Dec.{eqb, leb}
+use lib.ListN.{length, drop}
+use Rattle.view.specs.declared.View.{View}
+use Rattle.accept.specs.Checks.{Scene, sceneOf}
+use Rattle.tokens.specs.Tokens.{Token, Got, no, got, andThen, left}
+use Rattle.openings.specs.Heads.{viewIn}
+use Rattle.nested.specs.Forms.{form}
+
+-- The lines of s, what stands between its line feeds, after the bytes w of a line that is being read.
+unfoldable pub linesFrom : List ℕ → List ℕ → List (List ℕ)
+linesFrom w [] = w ∷ []
+linesFrom w (b ∷ s) = cond (eqb b 10) (w ∷ linesFrom [] s) (linesFrom (w ++ (b ∷ [])) s)
+
+-- a line of spaces alone, or of nothing, is skipped
+unfoldable pub unlessEmpty : List Token → List (List Token) → List (List Token)
+unlessEmpty [] ls = ls
+unlessEmpty (t ∷ ts) ls = (t ∷ ts) ∷ ls
+
+-- the tokens of each line that has any
+unfoldable pub filled : List (List ℕ) → List (List Token)
+filled [] = []
+filled (l ∷ ls) = unlessEmpty (left l 0) (filled ls)
+
+-- those of a text from a place on
+unfoldable pub linesLeft : List ℕ → ℕ → List (List Token)
+linesLeft s at = filled (linesFrom [] (drop at s))
+
+-- a form is the whole of its line
+unfoldable pub whole : {A : Type 0} → Got A → Got A
+whole no = no
+whole (got a []) = got a []
+whole (got a (t ∷ ts)) = no
+
+-- the forms of these lines, added to a scene
+unfoldable pub formsIn : Scene → List (List Token) → Got Scene
+formsIn s [] = got s []
+formsIn s (l ∷ ls) = andThen (whole (form 512 s l)) (λ a _. formsIn a ls)
+
+-- a view and a scene
+pub record Yard : Type 0 where
+  pub view : View
+  pub scene : Scene
+
+abbrev pub nothing : Scene
+nothing = sceneOf [] [] [] [] []
+
+unfoldable pub yardIn : List (List Token) → Got Yard
+yardIn [] = no
+yardIn (l ∷ ls) = andThen (whole (viewIn l)) (λ v _. andThen (formsIn nothing ls) (λ s ts. got (record { view = v; scene = s }) ts))
+
+-- what a text of at most 65,536 bytes stands for
+unfoldable pub yardOf : List ℕ → Got Yard
+yardOf text = cond (leb (length text) 65536) (yardIn (linesLeft text 0)) no

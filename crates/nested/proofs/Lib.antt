@@ -1,0 +1,3 @@
+pub mod EntryLaws
+pub mod FormLaws
+pub mod Depth

@@ -1,0 +1,2 @@
+-- The forms of solids.
+pub mod Forms

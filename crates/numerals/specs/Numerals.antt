@@ -1,0 +1,80 @@
+-- Numbers as words of bytes (document 01, "The program `yard` reads forms").
+use Prim.Native.Nat.{ℕ, zero, suc, _+_, _-_, _*_, _/_, _%_}
+use mathlib.Core.Bool.{Bool, true, cond, _&&_}
+use mathlib.Core.List.{List, [], _∷_, _++_}
+use lib.Dec.{ltb, leb, eqb}
+use lib.ListN.{length}
+use lib.IntN.{pos}
+use lib.Ieee.{Float, binary64, toBits, ofInt, neg, eq}
+use Rattle.floats.specs.Arith.{bits, zeroF}
+use Rattle.numerals.specs.declared.Whole.{Whole}
+use Rattle.numerals.specs.declared.Whole.the-variants.{Value, Bad}
+use Rattle.numerals.specs.declared.Pattern.{Pattern}
+use Rattle.numerals.specs.declared.Pattern.the-variants.{Bits, Wrong}
+use Rattle.numerals.specs.declared.Numeral.{Numeral}
+use Rattle.numerals.specs.declared.Numeral.the-variants.{Float as float, NoNumber}
+
+-- The value of the digit c: 0 to 9, A to F, a to f. A byte that is no digit has 16.
+unfoldable pub digitOf : ℕ → ℕ
+digitOf c =
+    cond (ltb c 48) 16 (cond (ltb c 58) (c - 48)
+    (cond (ltb c 65) 16 (cond (ltb c 71) (c - 55)
+    (cond (ltb c 97) 16 (cond (ltb c 103) (c - 87) 16)))))
+
+-- whether each byte is a digit of the base
+unfoldable pub digits : ℕ → List ℕ → Bool
+digits base [] = true
+digits base (c ∷ s) = ltb (digitOf c) base && digits base s
+
+-- the number that digits stand for, after others that stand for n
+unfoldable pub value : ℕ → ℕ → List ℕ → ℕ
+value base n [] = n
+value base n (c ∷ s) = value base (n * base + digitOf c) s
+
+-- A number n that digits have given so far is carried on by the digits s.
+unfoldable pub decimalFrom : ℕ → List ℕ → Whole
+decimalFrom n s = cond (leb (value 10 n s) 1000000 && digits 10 s) (Value (value 10 n s)) Bad
+
+-- a decimal: at least one digit, leading zeros allowed, of value at most 1,000,000
+unfoldable pub decimalOf : List ℕ → Whole
+decimalOf [] = Bad
+decimalOf (c ∷ s) = decimalFrom 0 (c ∷ s)
+
+unfoldable pub hexFrom : ℕ → List ℕ → Pattern
+hexFrom n s = cond (digits 16 s) (Bits (value 16 n s)) Wrong
+
+-- sixteen hexadecimal digits
+unfoldable pub hexOf : List ℕ → Pattern
+hexOf w = cond (eqb (length w) 16) (hexFrom 0 w) Wrong
+
+-- the f64 of a bit pattern; each NaN's pattern is the NaN
+unfoldable pub patterned : Pattern → Numeral
+patterned (Bits b) = float (bits b)
+patterned Wrong = NoNumber
+
+unfoldable pub positive : Whole → Numeral
+positive (Value n) = float (ofInt binary64 (pos n))
+positive Bad = NoNumber
+
+-- -0 reads as +0
+unfoldable pub negative : Whole → Numeral
+negative (Value n) = float (cond (eqb n 0) zeroF (neg (ofInt binary64 (pos n))))
+negative Bad = NoNumber
+
+-- a number: # and sixteen hexadecimal digits, - and a decimal, or a decimal
+unfoldable pub numberOf : List ℕ → Numeral
+numberOf [] = NoNumber
+numberOf (c ∷ s) = cond (eqb c 35) (patterned (hexOf s)) (cond (eqb c 45) (negative (decimalOf s)) (positive (decimalOf (c ∷ s))))
+
+-- a float's pattern as it is written: both zeros are +0
+unfoldable pub bitsOf : Float → ℕ
+bitsOf x = cond (eq x zeroF) 0 (toBits binary64 x)
+
+-- the upper-case digit of d
+unfoldable pub digitByte : ℕ → ℕ
+digitByte d = cond (ltb d 10) (48 + d) (55 + d)
+
+-- the last k hexadecimal digits of v
+unfoldable pub hexWord : ℕ → ℕ → List ℕ
+hexWord zero v = []
+hexWord (suc k) v = hexWord k (v / 16) ++ (digitByte (v % 16) ∷ [])

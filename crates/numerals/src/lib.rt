@@ -1,0 +1,181 @@
+// Numbers as `yard` reads and writes them: words of bytes to whole numbers and floats, and floats to words.
+ghost use mathlib.Core.Path.{_≡_};
+ghost use Prim.Native.Nat.{_+_, _≤_, _<_};
+ghost use lib.ListN.{length};
+ghost use lib.Seq.{sets};
+ghost use Rattle.numerals.specs.Numerals.{digitOf, decimalOf, hexOf, numberOf, bitsOf, digitByte, hexWord};
+ghost use Rattle.floats.specs.Arith.{bits};
+
+// A decimal's value, or that the word is none.
+pub enum Whole {
+    Value(u32),
+    Bad,
+}
+
+// The value of sixteen hexadecimal digits, or that the word is not that.
+pub enum Pattern {
+    Bits(u64),
+    Wrong,
+}
+
+pub enum Numeral {
+    Float(f64),
+    NoNumber,
+}
+
+// The value of a digit of either case, or 16 where the byte is no digit.
+pub fn digit(c: u8) -> u32
+    ensures { λ r. ⌜ r ≡ digitOf c ⌝ }
+{
+    if c < 48 {
+        return 16;
+    }
+    if c < 58 {
+        return (c - 48) as u32;
+    }
+    if c < 65 {
+        return 16;
+    }
+    if c < 71 {
+        return (c - 55) as u32;
+    }
+    if c < 97 {
+        return 16;
+    }
+    if c < 103 {
+        return (c - 87) as u32;
+    }
+    16
+}
+
+// A whole decimal without sign, at most 1,000,000.
+pub fn decimal(w: &[u8]) -> Whole
+    ensures { λ r. ⌜ r ≡ decimalOf (now (w .entry)) ⌝ }
+{
+    if w.len() == 0 {
+        return Whole::Bad;
+    }
+    let mut n: u32 = 0;
+    let mut i: usize = 0;
+    while i < w.len() {
+        let d = digit(w[i]);
+        if d >= 10 {
+            return Whole::Bad;
+        }
+        n = n * 10 + d;
+        if n > 1000000 {
+            return Whole::Bad;
+        }
+        i += 1;
+    }
+    Whole::Value(n)
+}
+
+// Sixteen hexadecimal digits.
+pub fn hexadecimal(w: &[u8]) -> Pattern
+    ensures { λ r. ⌜ r ≡ hexOf (now (w .entry)) ⌝ }
+{
+    if w.len() != 16 {
+        return Pattern::Wrong;
+    }
+    let mut n: u64 = 0;
+    let mut i: usize = 0;
+    while i < w.len() {
+        let d = digit(w[i]);
+        if d >= 16 {
+            return Pattern::Wrong;
+        }
+        n = n * 16 + d as u64;
+        i += 1;
+    }
+    Pattern::Bits(n)
+}
+
+// The float of a bit pattern; every NaN's pattern is read as the NaN.
+pub fn float_of(b: u64) -> f64
+    ensures { λ r. ⌜ r ≡ bits b ⌝ }
+{
+    let magnitude = b % 0x8000_0000_0000_0000;
+    if magnitude > 0x7ff0_0000_0000_0000 {
+        return 0.0 / 0.0;
+    }
+    f64::from_bits(b)
+}
+
+// The bit pattern of a float; both zeros are +0, and the NaN has one pattern.
+pub fn bits_of(x: f64) -> u64
+    ensures { λ r. ⌜ r ≡ bitsOf x ⌝ }
+{
+    if x == 0.0 {
+        return 0;
+    }
+    if x != x {
+        return 0x7ff8_0000_0000_0000;
+    }
+    f64::to_bits(x)
+}
+
+// A number: # and sixteen hexadecimal digits, or a decimal, with - before it if negative.
+pub fn number(w: &[u8]) -> Numeral
+    ensures { λ r. ⌜ r ≡ numberOf (now (w .entry)) ⌝ }
+{
+    if w.len() == 0 {
+        return Numeral::NoNumber;
+    }
+    let c = w[0];
+    if c == 35 {
+        let p = hexadecimal(&w[1..]);
+        match p {
+            Pattern::Bits(b) => {
+                return Numeral::Float(float_of(b));
+            }
+            Pattern::Wrong => {
+                return Numeral::NoNumber;
+            }
+        }
+    }
+    if c == 45 {
+        let m = decimal(&w[1..]);
+        match m {
+            Whole::Value(n) => {
+                if n == 0 {
+                    return Numeral::Float(0.0);
+                }
+                return Numeral::Float(-(n as f64));
+            }
+            Whole::Bad => {
+                return Numeral::NoNumber;
+            }
+        }
+    }
+    let d = decimal(w);
+    match d {
+        Whole::Value(n) => Numeral::Float(n as f64),
+        Whole::Bad => Numeral::NoNumber,
+    }
+}
+
+// The upper-case digit of a value below 16.
+pub fn digit_byte(d: u64) -> u8
+    requires { ⌜ d < 16 ⌝ }
+    ensures { λ r. ⌜ r ≡ digitByte d ⌝ }
+{
+    if d < 10 {
+        return 48 + d as u8;
+    }
+    55 + d as u8
+}
+
+// The sixteen digits of a pattern, written from `at` on.
+pub fn put_hex(out: &mut [u8], at: usize, b: u64)
+    requires { ⌜ at + 16 ≤ length (now out) ⌝ }
+    ensures { λ _. ⌜ now (out .exit) ≡ sets (now (out .entry)) at (hexWord 16 b) ⌝ }
+{
+    let mut v = b;
+    let mut k: usize = 16;
+    while k > 0 {
+        k -= 1;
+        out[at + k] = digit_byte(v % 16);
+        v = v / 16;
+    }
+}

@@ -1,0 +1,50 @@
+use Rattle.tokens.specs.Tokens.{isOver}
+use Rattle.tokens.specs.Seen.{seen}
+use borrow.Author.Needs.{needs}
+use Rattle.tokens.proofs.is_over.Statement.{statement}
+use Rattle.tokens.proofs.is_over.Tie as tie
+
+token-requires : tie.Need-token-requires
+token-requires c κs = search needs
+
+enum-told : tie.Need-enum-told
+enum-told c = search needs
+
+enum-told-2 : tie.Need-enum-told-2
+enum-told-2 c = search needs
+
+enum-told-3 : tie.Need-enum-told-3
+enum-told-3 c = search needs
+
+enum-told-4 : tie.Need-enum-told-4
+enum-told-4 c = search needs
+
+returns : tie.Need-returns
+unfolding seen isOver
+returns c = rw (← c .before .before .token .ensures .0, c .enum-told .given .1)
+
+returns-2 : tie.Need-returns-2
+unfolding seen isOver
+returns-2 c = rw (← c .before .before .token .ensures .0, c .enum-told2 .given .1)
+
+returns-3 : tie.Need-returns-3
+unfolding seen isOver
+returns-3 c = rw (← c .before .before .token .ensures .0, c .enum-told3 .given .1)
+
+returns-4 : tie.Need-returns-4
+unfolding seen isOver
+returns-4 c = rw (← c .before .before .token .ensures .0, c .enum-told4 .given .1)
+
+pub is-over-spec : {M : Type 1} → statement M
+is-over-spec =
+    tie.close
+    (tie.spec
+    token-requires
+    enum-told
+    enum-told-2
+    enum-told-3
+    enum-told-4
+    returns
+    returns-2
+    returns-3
+    returns-4)
