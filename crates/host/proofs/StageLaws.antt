@@ -32,10 +32,14 @@ pub view-so : {v w : View} (ps : List Float) (ss : List ℕ) (room startRoom x y
     → v ≡ w → Finished (chopCall v ps ss room startRoom) x y xs us c → Finished (chopCall w ps ss room startRoom) x y xs us c
 view-so ps ss room startRoom x y {xs} {us} {c} e f = subst (λ (v : View). Finished (chopCall v ps ss room startRoom) x y xs us c) e f
 
-pub draw-view-so : {v w : View} (s : Scene) (p : Places) (x y : ℕ) {xs : List Float} {us : List ℕ} {c : Counts} → v ≡ w → Finished (drawOf s v p) x y xs us c → Finished (drawOf s w p) x y xs us c
-draw-view-so s p x y {xs} {us} {c} e f = subst (λ (v : View). Finished (drawOf s v p) x y xs us c) e f
-
--- the answer, and then the work slices
-pub told-and : {A : Type 0} (a : Answer Paths) (x y : ℕ) {number : ℕ} {xs : List Float} {ss : List ℕ} {n m : ℕ} → Told a x y number xs ss n m → A
-    → (number ≡ countsNumber (counted a)) × ((xs ≡ laidPoints a x) × ((ss ≡ laidStarts a y) × ((n ≡ pointCount (counted a)) × ((m ≡ pathCount (counted a)) × A))))
-told-and a x y t w = (t .0, (t .1 .0, (t .1 .1 .0, (t .1 .1 .1 .0, (t .1 .1 .1 .1, w)))))
+-- a draw: the answer, and then the work slices
+pub draw-so : {A : Type 0} {v w : View} (s : Scene) (p : Places) (x y : ℕ) {xs : List Float} {ss : List ℕ} {c : Counts} {number n m : ℕ} → v ≡ w → Finished (drawOf s v p) x y xs ss c
+    → number ≡ countsNumber c → n ≡ pointCount c → m ≡ pathCount c → A
+    → (number ≡ countsNumber (counted (drawOf s w p)))
+    × ((xs ≡ laidPoints (drawOf s w p) x)
+    × ((ss ≡ laidStarts (drawOf s w p) y)
+    × ((n ≡ pointCount (counted (drawOf s w p)))
+    × ((m ≡ pathCount (counted (drawOf s w p))) × A))))
+draw-so {w = w} s p x y {xs} {ss} {c} e f k n m a =
+    let t = finished-so (drawOf s w p) x y (subst (λ (v : View). Finished (drawOf s v p) x y xs ss c) e f) k n m in
+    (t .0, (t .1 .0, (t .1 .1 .0, (t .1 .1 .1 .0, (t .1 .1 .1 .1, a)))))

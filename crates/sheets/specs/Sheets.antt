@@ -1,6 +1,7 @@
 -- Demand 3 in a draw: on hiding and on simplification, wherever a draw is answered.
 use Prim.Native.Nat.{ℕ, zero, suc, _<_}
 use mathlib.Core.Path.{_≡_, refl, sym, ap, subst, _∙_}
+use mathlib.Core.Logic.{_⊎_, inl, inr}
 use mathlib.Core.Bool.{Bool, true, false, not, cond, _&&_, and-eq-true-iff}
 use mathlib.Core.List.{List, [], _∷_, map}
 use native.Mathlib.Omega.{arith}
@@ -27,7 +28,7 @@ use Rattle.accept.specs.declared.Verdict.the-variants.{Accepted as Passing}
 use Rattle.reading.specs.Same.{SameSolid}
 use Rattle.visible.specs.Sights.{eyeRay, Answered}
 use Rattle.visible.specs.declared.Sight.{Sight}
-use Rattle.visible.specs.declared.Sight.the-variants.{Visible, Hidden}
+use Rattle.visible.specs.declared.Sight.the-variants.{Visible, Hidden, Refused as NotSeen}
 use Rattle.hiding.specs.Covers.{NoMinusZero, Premise}
 use Rattle.hiding.specs.Hiding.{covered-is-hidden, hidden-falls-short, nothing-is-hidden}
 use Rattle.queries.specs.Queries.{buildOf, visibleOf}
@@ -54,7 +55,7 @@ use Rattle.filter.specs.declared.Test.{Test}
 use Rattle.filter.specs.declared.Test.the-variants.{Keep, Drop, Refused}
 use Rattle.clip.specs.Clip.{bySight, clipFilter}
 use Rattle.passing.specs.Kept.{Answered as Tested, keptOf, stage-keeps}
-use Rattle.passing.specs.Passing.{Exactly, LeftAfterClipping, Passed, DroppedAsHidden, step-passes}
+use Rattle.passing.specs.Passing.{Exactly, LeftAfterClipping, Passed, DroppedAsHidden, clipped-is-dropped, step-passes}
 use Rattle.collect.specs.Collect.{handed}
 use Rattle.render.specs.Render.{Places, stepping, simplifiedLines, mapped}
 use Rattle.draw.specs.Draw.{millionth, drawOf}
@@ -99,12 +100,21 @@ eye-passes v e =
 kept-not-dropped : {t : Test} {x : Vector} → t ≡ Keep x → t ≡ Drop → ⊥
 kept-not-dropped a b = let z : _≡_ {A = ℕ} 0 1 = cc in omega arith
 
+clipped-or-left : (b : Bool) → (T b → ⊥) ⊎ T b
+clipped-or-left true = inr tt
+clipped-or-left false = inl (λ h. h)
+
+yes-or-no : (t : Sight) → Answered t → (t ≡ Visible) ⊎ (t ≡ Hidden)
+yes-or-no Visible a = inl refl
+yes-or-no Hidden a = inr refl
+yes-or-no (NotSeen k) a = absurd (a k refl)
+
 some-drawn : (l : List ℕ) (i : ℕ) → Member i l → 0 < length l
 some-drawn [] i m = absurd m
 some-drawn (x ∷ l) i m = omega arith
 
 module _ {s : Scene} {v : View} {w : Places} {q : Paths} (D : Drawing s v w q) where
-  -- What step 4 leaves: the points that it passes, as they are projected, in order; each point was put to the filter, and none refused.
+  -- What step 4 leaves: the points that it passes, as they are projected, in order.
   pub step-four-leaves : D .passed .vertices ≡ keptOf (clipFilter (v .matrix) (seenIn s (v .eye))) (pathsOf (D .lines .vertices) (D .lines .starts))
   step-four-leaves = stage-keeps (clipFilter (v .matrix) (seenIn s (v .eye))) (D .lines .vertices) (D .lines .starts) _ _ (D .filters) .0
 
@@ -157,6 +167,19 @@ module _ {s : Scene} {v : View} {w : Places} {q : Paths} (D : Drawing s v w q) w
   -- No point is dropped as hidden unless some solid that the scene draws has an own returned distance that falls short of the eye.
   pub dropped-point-short : (point : Vector) → Put D point → HiddenIn s v point → (solid : Shape) × Draws s solid × Short solid (v .eye) point
   dropped-point-short point put d = short-of-eye point put (d .left) (step-four point put (d .left) .1 .0 d)
+
+  -- Each point put to step 4 is clipped away, or passed, or dropped as hidden: there is no fourth way.
+  pub each-point : (point : Vector) → Put D point → ((LeftAfterClipping (v .matrix) point → ⊥) × (clipFilter (v .matrix) (seenIn s (v .eye)) point ≡ Drop)) ⊎ (PassedIn s v point ⊎ HiddenIn s v point)
+  each-point point put = go (clipped-or-left (contains clipBox (mulPositionW (v .matrix) point)))
+    where
+      by : LeftAfterClipping (v .matrix) point → (seenIn s (v .eye) point ≡ Visible) ⊎ (seenIn s (v .eye) point ≡ Hidden) → PassedIn s v point ⊎ HiddenIn s v point
+      by left (inl e) = inl (step-four point put left .0 .1 e)
+      by left (inr e) = inr (step-four point put left .1 .1 e)
+
+      go : (LeftAfterClipping (v .matrix) point → ⊥) ⊎ LeftAfterClipping (v .matrix) point
+          → ((LeftAfterClipping (v .matrix) point → ⊥) × (clipFilter (v .matrix) (seenIn s (v .eye)) point ≡ Drop)) ⊎ (PassedIn s v point ⊎ HiddenIn s v point)
+      go (inl out) = inl (out, clipped-is-dropped (v .matrix) (seenIn s (v .eye)) point out)
+      go (inr left) = inr (by left (yes-or-no (seenIn s (v .eye) point) (judged point put left .1)))
 
 -- Solids added, removed or reordered: a point that a solid of the one scene covers is dropped as hidden in each draw of the other, if that draws the same solid.
 pub others-bring-nothing-back : (s s′ : Scene) (n : ℕ) → checkOf s ≡ Passing n → (i j : ℕ) → SameSolid (s .numbers) (s .marks) (s′ .numbers) (s′ .marks) i j → Member j (drawn (s′ .marks))

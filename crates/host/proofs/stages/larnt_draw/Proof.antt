@@ -1,4 +1,4 @@
-use Rattle.host.proofs.StageLaws.{finished-so, draw-view-so, told-and}
+use Rattle.host.proofs.StageLaws.{draw-so}
 use borrow.Author.Needs.{needs}
 use Rattle.host.proofs.stages.larnt_draw.Statement.{statement}
 use Rattle.host.proofs.stages.larnt_draw.Tie as tie
@@ -68,7 +68,7 @@ same-length-9 c = search needs
 
 -- src/stages.rt:124:1
 returns : tie.Need-returns
-returns c = told-and _ _ _ (finished-so _ _ _ (draw-view-so _ _ _ _ (c .before .before .before .before .before .before .before .before .before .before .before .before .before .before .before .before .before .before .before .before .before .before .before .before .before .before .before .before .before .before .before .view-from .ensures) (c .before .before .before .before .before .before .before .before .before .before .before .before .before .before .before .before .before .before .before .before .before .draw .ensures .0)) (c .counts-number .ensures) (c .before .before .point-count .ensures) (c .before .path-count .ensures)) (c .before .before .before .before .before .before .before .before .before .before .before .before .before .before .before .before .before .before .before .before .before .draw .ensures .1)
+returns c = draw-so _ _ _ _ (c .before .before .before .before .before .before .before .before .before .before .before .before .before .before .before .before .before .before .before .before .before .before .before .before .before .before .before .before .before .before .before .view-from .ensures) (c .before .before .before .before .before .before .before .before .before .before .before .before .before .before .before .before .before .before .before .before .before .draw .ensures .0) (c .counts-number .ensures) (c .before .before .point-count .ensures) (c .before .path-count .ensures) (c .before .before .before .before .before .before .before .before .before .before .before .before .before .before .before .before .before .before .before .before .before .draw .ensures .1)
 
 pub larnt-draw-spec : {M : Type 1} → statement M
 larnt-draw-spec =
