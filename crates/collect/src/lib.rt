@@ -255,8 +255,21 @@ fn entry_paths(
                 cuts,
             );
             join(
-                c, numbers, inverses, marks, i, depth, args, wide, many, work, begins, n, m,
-                chopped, cuts,
+                c,
+                numbers,
+                inverses,
+                marks,
+                i,
+                depth,
+                args,
+                wide,
+                many,
+                work,
+                begins,
+                n,
+                m,
+                chopped,
+                cuts,
             )
         }
     }
@@ -285,14 +298,44 @@ fn part_paths(
     ensures { λ r. ⌜ EndsBoth (next (collected args (roomOf wide many (now (chopped .entry)) (now (cuts .entry))) (linedAt depth (now (numbers .entry)) (now (inverses .entry)) (now (marks .entry)) (now (points .entry)) (now (starts .entry)) (now (owners .entry)) a) noPaths) (collected args (roomOf wide many (now (chopped .entry)) (now (cuts .entry))) (linedAt depth (now (numbers .entry)) (now (inverses .entry)) (now (marks .entry)) (now (points .entry)) (now (starts .entry)) (now (owners .entry)) b))) (take wide (now (work .exit))) (take many (now (begins .exit))) r ⌝ }
 {
     let r = entry_paths(
-        numbers, inverses, marks, points, starts, owners, a, args, depth, wide, many, work, begins,
-        0, 0, chopped, cuts,
+        numbers,
+        inverses,
+        marks,
+        points,
+        starts,
+        owners,
+        a,
+        args,
+        depth,
+        wide,
+        many,
+        work,
+        begins,
+        0,
+        0,
+        chopped,
+        cuts,
     );
     match r {
         Counts::Refused(e) => Counts::Refused(e),
         Counts::Both(p, q) => entry_paths(
-            numbers, inverses, marks, points, starts, owners, b, args, depth, wide, many, work,
-            begins, p, q, chopped, cuts,
+            numbers,
+            inverses,
+            marks,
+            points,
+            starts,
+            owners,
+            b,
+            args,
+            depth,
+            wide,
+            many,
+            work,
+            begins,
+            p,
+            q,
+            chopped,
+            cuts,
         ),
     }
 }

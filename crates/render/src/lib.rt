@@ -64,7 +64,17 @@ fn visible_lines(
             let matrix = view.matrix;
             let eye = view.eye;
             clip::filter_paths(
-                matrix, eye, numbers, inverses, marks, hulls, records, order, path, starts, out,
+                matrix,
+                eye,
+                numbers,
+                inverses,
+                marks,
+                hulls,
+                records,
+                order,
+                path,
+                starts,
+                out,
                 begins,
             )
         }
