@@ -1,19 +1,18 @@
 -- One more digit of a word, and the word's end, for decimals and for hexadecimal patterns; digits written from the last to the first.
-use Prim.Native.Nat.{ℕ, zero, suc, _+_, _-_, _*_, _/_, _%_, _^_, _≤_, _<_}
-use mathlib.Core.Path.{_≡_, refl, ap, sym, _∙_, subst}
-use mathlib.Core.Bool.{Bool, true, false, not, _&&_}
-use mathlib.Core.List.{List, [], _∷_, _++_}
+use Prim.Native.Nat.{ℕ, _+_, _-_, _*_, _%_, _^_, _≤_, _<_}
+use mathlib.Core.Path.{_≡_, refl, sym, _∙_}
+use mathlib.Core.Bool.{Bool, true, false, _&&_}
+use mathlib.Core.List.{List, [], _∷_}
 use native.Mathlib.Numerals.{add-one, sub-one}
-use native.Mathlib.Nat.{pow-suc, pow-le-pow-right, add-suc, suc-add, add-zero}
+use native.Mathlib.Nat.{pow-suc, pow-le-pow-right}
 use native.Mathlib.Omega.{arith}
-use lib.Dec.{T}
-use lib.Ieee.{nan, ofBits, eq, div, toBits}
+use lib.Ieee.{nan, ofBits, div}
 use Rattle.floats.specs.Arith.{_⊘_, bits, zeroF}
 use Rattle.sqrt.proofs.Patterns.{nan-above}
-use lib.ListN.{length, drop, getD, set, take, drop-of-length-le, length-append}
-use lib.Seq.{drop-cons, sets, set-comm, take-all}
+use lib.ListN.{length, drop, getD, take, drop-of-length-le}
+use lib.Seq.{drop-cons, take-all}
 use borrow.Author.Tests.{lt-ltb, le-ltb, lt-leb, le-leb, eq-eqb, ne-eqb}
-use Rattle.numerals.specs.Numerals.{digitOf, digits, value, decimalFrom, decimalOf, hexFrom, digitByte, hexWord, bitsOf, hexOf, numberOf, patterned, negative, positive}
+use Rattle.numerals.specs.Numerals.{digitOf, digits, value, decimalFrom, decimalOf, hexFrom, hexOf, numberOf, patterned, negative, positive}
 use Rattle.numerals.specs.declared.Numeral.the-variants.{NoNumber}
 use Rattle.numerals.specs.declared.Whole.the-variants.{Value, Bad}
 use Rattle.numerals.specs.declared.Pattern.the-variants.{Bits, Wrong}
@@ -67,23 +66,6 @@ hex-below n d i h l = rw (add-one, pow-suc) (omega arith)
 pub hex-fits : (n i : ℕ) → n < 16 ^ i → i < 16 → n < 16 ^ 15
 hex-fits n i h l = omega (arith, pow-le-pow-right {n = 16} (omega arith) {i = i} {j = 15} (omega arith))
 
--- A last element may be stored first.
-pub sets-last : (xs : List ℕ) (i : ℕ) (ps : List ℕ) (b : ℕ) → sets xs i (ps ++ (b ∷ [])) ≡ sets (set xs (i + length ps) b) i ps
-sets-last xs i [] b = rw add-zero
-sets-last xs i (p ∷ ps) b =
-    let ne : i ≡ suc (i + length ps) → ⊥ = λ e. omega (arith, e) in
-    sets-last (set xs i p) (suc i) ps b ∙ ap (λ (l : List ℕ). sets l (suc i) ps) (rw (add-suc, suc-add) (set-comm xs i (suc (i + length ps)) p b ne))
-
-pub hex-length : (k v : ℕ) → length (hexWord k v) ≡ k
-unfolding hexWord
-hex-length zero v = refl
-hex-length (suc k) v = rw (length-append, hex-length k (v / 16)) (add-one k)
-
-pub hex-turn : (xs : List ℕ) (at k v : ℕ) → 0 < k → sets xs at (hexWord k v) ≡ sets (set xs (at + (k - 1)) (digitByte (v % 16))) at (hexWord (k - 1) (v / 16))
-unfolding hexWord
-hex-turn xs at zero v h = absurd (omega arith)
-hex-turn xs at (suc k) v h = sets-last xs at (hexWord k (v / 16)) (digitByte (v % 16)) ∙ rw (sub-one, hex-length k (v / 16))
-
 pub nothing : (w : List ℕ) → length w ≡ 0 → decimalOf w ≡ Bad
 unfolding decimalOf
 nothing [] h = refl
@@ -102,19 +84,6 @@ nan-made = refl
 
 pub nan-pattern : (n : ℕ) → 0x7FF0_0000_0000_0000 < n % 0x8000_0000_0000_0000 → zeroF ⊘ zeroF ≡ bits n
 nan-pattern n h = nan-made ∙ sym (nan-above n h)
-
-pub nan-bits : bitsOf nan ≡ 0x7FF8_0000_0000_0000
-unfolding bitsOf eq toBits
-nan-bits = refl
-
-pub not-so : (b : Bool) → b ≡ false → T (not b)
-not-so true h = absurd (subst T h tt)
-not-so false h = tt
-
-pub hex-done : (xs : List ℕ) (at k v : ℕ) → k ≤ 0 → sets xs at (hexWord k v) ≡ xs
-unfolding hexWord
-hex-done xs at zero v h = refl
-hex-done xs at (suc k) v h = absurd (omega arith)
 
 -- ---- a number by its first byte
 

@@ -1,11 +1,11 @@
 -- Numbers as words of bytes (document 01, "The program `yard` reads forms").
-use Prim.Native.Nat.{ℕ, zero, suc, _+_, _-_, _*_, _/_, _%_}
+use Prim.Native.Nat.{ℕ, _+_, _-_, _*_}
 use mathlib.Core.Bool.{Bool, true, cond, _&&_}
-use mathlib.Core.List.{List, [], _∷_, _++_}
+use mathlib.Core.List.{List, [], _∷_}
 use lib.Dec.{ltb, leb, eqb}
 use lib.ListN.{length}
 use lib.IntN.{pos}
-use lib.Ieee.{Float, binary64, toBits, ofInt, neg, eq}
+use lib.Ieee.{binary64, ofInt, neg}
 use Rattle.floats.specs.Arith.{bits, zeroF}
 use Rattle.numerals.specs.declared.Whole.{Whole}
 use Rattle.numerals.specs.declared.Whole.the-variants.{Value, Bad}
@@ -65,16 +65,3 @@ negative Bad = NoNumber
 unfoldable pub numberOf : List ℕ → Numeral
 numberOf [] = NoNumber
 numberOf (c ∷ s) = cond (eqb c 35) (patterned (hexOf s)) (cond (eqb c 45) (negative (decimalOf s)) (positive (decimalOf (c ∷ s))))
-
--- a float's pattern as it is written: both zeros are +0
-unfoldable pub bitsOf : Float → ℕ
-bitsOf x = cond (eq x zeroF) 0 (toBits binary64 x)
-
--- the upper-case digit of d
-unfoldable pub digitByte : ℕ → ℕ
-digitByte d = cond (ltb d 10) (48 + d) (55 + d)
-
--- the last k hexadecimal digits of v
-unfoldable pub hexWord : ℕ → ℕ → List ℕ
-hexWord zero v = []
-hexWord (suc k) v = hexWord k (v / 16) ++ (digitByte (v % 16) ∷ [])

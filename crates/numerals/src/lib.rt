@@ -1,9 +1,6 @@
-// Numbers as `yard` reads and writes them: words of bytes to whole numbers and floats, and floats to words.
+// Numbers as `yard` reads them: words of bytes to whole numbers and floats.
 ghost use mathlib.Core.Path.{_≡_};
-ghost use Prim.Native.Nat.{_+_, _≤_, _<_};
-ghost use lib.ListN.{length};
-ghost use lib.Seq.{sets};
-ghost use Rattle.numerals.specs.Numerals.{digitOf, decimalOf, hexOf, numberOf, bitsOf, digitByte, hexWord};
+ghost use Rattle.numerals.specs.Numerals.{digitOf, decimalOf, hexOf, numberOf};
 ghost use Rattle.floats.specs.Arith.{bits};
 
 // A decimal's value, or that the word is none.
@@ -102,19 +99,6 @@ pub fn float_of(b: u64) -> f64
     f64::from_bits(b)
 }
 
-// The bit pattern of a float; both zeros are +0, and the NaN has one pattern.
-pub fn bits_of(x: f64) -> u64
-    ensures { λ r. ⌜ r ≡ bitsOf x ⌝ }
-{
-    if x == 0.0 {
-        return 0;
-    }
-    if x != x {
-        return 0x7ff8_0000_0000_0000;
-    }
-    f64::to_bits(x)
-}
-
 // A number: # and sixteen hexadecimal digits, or a decimal, with - before it if negative.
 pub fn number(w: &[u8]) -> Numeral
     ensures { λ r. ⌜ r ≡ numberOf (now (w .entry)) ⌝ }
@@ -152,30 +136,5 @@ pub fn number(w: &[u8]) -> Numeral
     match d {
         Whole::Value(n) => Numeral::Float(n as f64),
         Whole::Bad => Numeral::NoNumber,
-    }
-}
-
-// The upper-case digit of a value below 16.
-pub fn digit_byte(d: u64) -> u8
-    requires { ⌜ d < 16 ⌝ }
-    ensures { λ r. ⌜ r ≡ digitByte d ⌝ }
-{
-    if d < 10 {
-        return 48 + d as u8;
-    }
-    55 + d as u8
-}
-
-// The sixteen digits of a pattern, written from `at` on.
-pub fn put_hex(out: &mut [u8], at: usize, b: u64)
-    requires { ⌜ at + 16 ≤ length (now out) ⌝ }
-    ensures { λ _. ⌜ now (out .exit) ≡ sets (now (out .entry)) at (hexWord 16 b) ⌝ }
-{
-    let mut v = b;
-    let mut k: usize = 16;
-    while k > 0 {
-        k -= 1;
-        out[at + k] = digit_byte(v % 16);
-        v = v / 16;
     }
 }
