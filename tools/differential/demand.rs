@@ -17,7 +17,7 @@ use oracle::larnt_plain::matrix::Matrix;
 use oracle::larnt_plain::path::Paths;
 use oracle::larnt_plain::shape::Shape;
 use oracle::larnt_plain::vector::Vector;
-use oracle::{Lines, Scene, View, plain};
+use oracle::{Lines, Scene, Trouble, View, plain};
 use std::cell::RefCell;
 
 /// What is so of an eye and a point.
@@ -89,6 +89,7 @@ pub fn run(seed: u64, count: u64) -> bool {
 pub fn draws(seed: u64, count: u64) -> bool {
     let mut rng = Rng::new(seed ^ name_hash("demand.draws"));
     let (mut tally, mut drawn, mut refused, mut differ) = (Tally::default(), 0, 0, 0);
+    let mut omitted = 0;
     while drawn < count {
         let (scene, view) = draw_inputs::scene_and_view(&mut rng);
         if scene.entries() > 60 {
@@ -98,12 +99,21 @@ pub fn draws(seed: u64, count: u64) -> bool {
             refused += 1;
             continue;
         };
+        // where larnt's own render panics normalising `up` there is nothing to compare with
+        let again = match oracle::caught(|| rendered(&mut tally, &scene, &view)) {
+            Ok(lines) => lines,
+            Err(Trouble::Panicked(text)) if text.contains("normalize") => {
+                omitted += 1;
+                continue;
+            }
+            Err(other) => panic!("{other:?}"),
+        };
         drawn += 1;
-        let again = rendered(&mut tally, &scene, &view);
         differ += u64::from(!draws::alike(&lines, &again));
     }
     println!("draws                              {drawn:>9}");
     println!("  others, refused                  {refused:>9}");
+    println!("  others, omitted for `up`         {omitted:>9}");
     println!("  differ from their points' answers {differ:>8}");
     println!("points put to the eye test         {:>9}", tally.questions);
     println!("  passed                           {:>9}", tally.seen);

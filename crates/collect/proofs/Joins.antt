@@ -1,5 +1,5 @@
 -- A cut's lines in the second vector, sifted and appended to the first: each way out. Assumes nothing.
-use mathlib.Core.Path.{_≡_, refl, sym, ap, ap₂, _∙_, subst}
+use mathlib.Core.Path.{_≡_, sym, ap, _∙_, subst}
 use mathlib.Core.List.{List}
 use Prim.Native.Nat.{ℕ, _+_, _-_, _*_, _/_, _≤_}
 use native.Mathlib.Omega.{arith}
@@ -10,9 +10,9 @@ use lib.Ieee.{Float}
 use Rattle.scene.specs.declared.refusal.Refusal.{Refusal}
 use Rattle.shape.specs.Shapes.{Shape}
 use Rattle.rows.specs.Points.{points}
-use Rattle.paths.specs.Answers.{Answer, answered, refused, next}
-use Rattle.paths.specs.Paths.{Paths, pathsWith}
-use Rattle.paths.specs.Ends.{held, toldBoth, EndsBoth}
+use Rattle.paths.specs.Answers.{answered}
+use Rattle.paths.specs.Paths.{Paths}
+use Rattle.paths.specs.Ends.{held, EndsBoth}
 use Rattle.paths.specs.declared.Counts.{Counts}
 use Rattle.paths.specs.declared.Counts.the-variants.{Both, Refused}
 use Rattle.paths.proofs.Ending.{both-at, both-refused, refuses-both}
@@ -20,7 +20,6 @@ use Rattle.paths.proofs.Adding.{next-answered}
 use Rattle.paths.proofs.Parts.{length-points}
 use Rattle.lines.proofs.Adding.{ends-both-as}
 use Rattle.view.specs.declared.RenderArgs.{RenderArgs}
-use Rattle.chop.specs.Chop.{chopPaths}
 use Rattle.cuts.specs.Cuts.{cutFilter, cutPaths}
 use Rattle.append.specs.Append.{Low, appended}
 use Rattle.append.proofs.LowStarts.{filter-low}

@@ -1,7 +1,7 @@
 -- The loop over the drawn entries: what is left to collect answers as the whole does. Assumes nothing.
-use mathlib.Core.Path.{_≡_, refl, sym, ap, _∙_}
-use mathlib.Core.List.{List, [], _∷_}
-use Prim.Native.Nat.{ℕ, suc, _+_, _*_, _≤_, _<_}
+use mathlib.Core.Path.{_≡_, refl, sym, _∙_}
+use mathlib.Core.List.{List}
+use Prim.Native.Nat.{ℕ, _+_, _≤_, _<_}
 use native.Mathlib.Numerals.{add-one}
 use native.Mathlib.Omega.{arith}
 use lib.ListN.{length, take, drop, getD, drop-of-length-le}
@@ -9,7 +9,7 @@ use lib.Seq.{drop-cons}
 use lib.Ieee.{Float}
 use Rattle.scene.specs.declared.refusal.Refusal.{Refusal}
 use Rattle.rows.specs.Rows.{view}
-use Rattle.paths.specs.Answers.{Answer, answered, next}
+use Rattle.paths.specs.Answers.{Answer, next}
 use Rattle.paths.specs.Paths.{Paths, noPaths}
 use Rattle.paths.specs.Ends.{EndsBoth}
 use Rattle.paths.specs.declared.Counts.{Counts}

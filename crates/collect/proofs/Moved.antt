@@ -1,15 +1,15 @@
 -- Points from one place on, moved in a part of a slice. Assumes nothing.
 use mathlib.Core.Path.{_≡_, refl, sym, ap, ap₂, _∙_}
-use mathlib.Core.List.{List, [], _++_, map, append-nil}
+use mathlib.Core.List.{List, _++_, map, append-nil}
 use Prim.Native.Nat.{ℕ, _+_, _-_, _*_, _≤_, _<_}
 use native.Mathlib.Omega.{arith}
-use lib.ListN.{length, take, drop, length-map, length-append, length-drop, drop-of-length-le}
-use lib.Seq.{take-all, take-at, drop-at, length-take-le, drop-drop}
+use lib.ListN.{length, take, drop, length-map, drop-of-length-le}
+use lib.Seq.{take-all, take-at, drop-at, length-take-le}
 use lib.Ieee.{Float}
 use Rattle.geometry.specs.declared.vector.Vector.{Vector}
 use Rattle.matrix.specs.Matrices.{mulPosition}
 use Rattle.matrix.specs.declared.Matrix.{Matrix}
-use Rattle.rows.specs.Rows.{flat, view, row}
+use Rattle.rows.specs.Rows.{flat}
 use Rattle.rows.specs.Points.{points, pointOf, pointRow}
 use Rattle.rows.proofs.RowLaws.{view-take, view-flat}
 use Rattle.paths.proofs.Parts.{length-points}

@@ -1,6 +1,6 @@
 -- The lines of an entry by what the entry is: each way out. Assumes nothing.
-use mathlib.Core.Path.{_≡_, refl, sym, ap, ap₂, _∙_, subst}
-use mathlib.Core.List.{List, [], _∷_, _++_, map}
+use mathlib.Core.Path.{_≡_, refl, sym, ap, _∙_}
+use mathlib.Core.List.{List, _++_, map}
 use Prim.Native.Nat.{ℕ, zero, suc, _+_, _-_, _*_, _/_, _≤_}
 use native.Mathlib.Numerals.{sub-one}
 use native.Mathlib.Nat.{mul-le-mul-right, le-trans, suc-mul}
@@ -21,8 +21,8 @@ use Rattle.scene.specs.declared.entry.Entry.the-variants.{Simple, Placed, Cut, 
 use Rattle.shape.specs.Shapes.{Shape, shapeOf, read, decode}
 use Rattle.rows.specs.Rows.{view}
 use Rattle.rows.specs.Points.{points}
-use Rattle.paths.specs.Answers.{Answer, answered, refused, next}
-use Rattle.paths.specs.Paths.{Paths, pathsWith, noPaths, extend, pathsOf, each, stage}
+use Rattle.paths.specs.Answers.{Answer, answered, next}
+use Rattle.paths.specs.Paths.{Paths, noPaths, extend, pathsOf, each, stage}
 use Rattle.paths.specs.Ends.{places, allPoints, held, toldBoth, EndsBoth}
 use Rattle.paths.specs.Judged.{pointsOk}
 use Rattle.paths.specs.declared.Counts.{Counts}
@@ -34,7 +34,7 @@ use Rattle.lines.specs.Pushing.{addPaths}
 use Rattle.lines.proofs.Adding.{ends-both-as}
 use Rattle.view.specs.declared.RenderArgs.{RenderArgs}
 use Rattle.append.specs.Append.{appended}
-use Rattle.collect.specs.Lined.{Lined, noLines, lined, placedLines, cutLines, bare, linedOf, readLined, detailAt, ownLines}
+use Rattle.collect.specs.Lined.{Lined, noLines, cutLines, bare, linedOf, readLined, detailAt, ownLines}
 use Rattle.collect.specs.Collect.{Room, placedArgs, movedFrom, handed, choppedLines, sifted, collected}
 use Rattle.collect.specs.Slices.{roomOf, linedAt, firstHeld, Lent, joined}
 use Rattle.collect.proofs.Vectors.{rest-is, rest-after}

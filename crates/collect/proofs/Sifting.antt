@@ -1,5 +1,5 @@
 -- The lines of a cut, sifted: each way out. Assumes nothing.
-use mathlib.Core.Path.{_≡_, refl, sym, ap, _∙_}
+use mathlib.Core.Path.{_≡_, sym, _∙_}
 use mathlib.Core.Bool.{Bool, true, false}
 use mathlib.Core.List.{List}
 use Prim.Native.Nat.{ℕ, _*_, _≤_}
@@ -9,7 +9,7 @@ use Rattle.scene.specs.declared.refusal.Refusal.{Refusal}
 use Rattle.scene.specs.declared.refusal.Refusal.the-variants.{Point}
 use Rattle.shape.specs.Shapes.{Shape}
 use Rattle.rows.specs.Points.{points}
-use Rattle.paths.specs.Answers.{answered, refused, next}
+use Rattle.paths.specs.Answers.{answered, refused}
 use Rattle.paths.specs.Paths.{Paths, pathsWith}
 use Rattle.paths.specs.Ends.{places, allPoints, held, EndsBoth}
 use Rattle.paths.specs.Judged.{pointsOk}

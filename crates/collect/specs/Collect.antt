@@ -3,7 +3,6 @@ use mathlib.Core.Bool.{cond}
 use mathlib.Core.List.{List, [], _∷_, _++_, map}
 use Prim.Native.Nat.{ℕ}
 use lib.ListN.{length, take, drop}
-use Rattle.geometry.specs.declared.vector.Vector.{Vector}
 use Rattle.matrix.specs.Matrices.{mulM, mulPosition}
 use Rattle.matrix.specs.declared.Matrix.{Matrix}
 use Rattle.scene.specs.declared.refusal.Refusal.the-variants.{Point}

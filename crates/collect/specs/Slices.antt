@@ -1,6 +1,6 @@
 -- The slices that lines are collected in: vectors of `wide` numbers and `many` starts, one after the other.
 use mathlib.Core.List.{List}
-use Prim.Native.Nat.{ℕ, _+_, _*_, _/_, _≤_}
+use Prim.Native.Nat.{ℕ, _*_, _/_, _≤_}
 use lib.ListN.{length, take, drop}
 use lib.Ieee.{Float}
 use Rattle.scene.specs.Entries.{entryAt}

@@ -1,9 +1,8 @@
 -- The eye test on the rows that the build leaves is that of the tree. Assumes nothing.
-use mathlib.Core.Path.{_≡_, refl, sym, ap, _∙_, fun-ext}
+use mathlib.Core.Path.{_≡_, _∙_, fun-ext}
 use mathlib.Core.List.{List, [], _∷_}
-use Prim.Native.Nat.{ℕ, _<_}
+use Prim.Native.Nat.{ℕ}
 use native.Mathlib.Omega.{arith}
-use lib.ListN.{length}
 use lib.Ieee.{Float}
 use Rattle.floats.specs.Arith.{zeroF}
 use Rattle.geometry.specs.declared.vector.Vector.{Vector}
@@ -18,12 +17,10 @@ use Rattle.build.proofs.BuiltTree.{sensible-tree}
 use Rattle.walk.specs.Walks.{entryHit, walkRows}
 use Rattle.walk.proofs.Layouts.{walk-of-layout, walk-of-zeros}
 use Rattle.visible.specs.Sights.{eyeRay}
-use Rattle.visible.specs.declared.Sight.{Sight}
 use Rattle.visible.proofs.Answers.{sees-same}
 use Rattle.queries.specs.Queries.{plantedOf, ifBuilt}
 use Rattle.queries.specs.declared.Built.{Built}
 use Rattle.queries.specs.declared.Built.the-variants.{Nodes, Refused as NotBuilt}
-use Rattle.paths.specs.Answers.{refused}
 use Rattle.paths.specs.Paths.{pathsWith}
 use Rattle.paths.specs.Ends.{EndsBoth}
 use Rattle.paths.specs.declared.Counts.{Counts}

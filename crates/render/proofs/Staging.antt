@@ -1,8 +1,8 @@
 -- The stages of a drawing one after the other: each way out. Assumes nothing.
-use mathlib.Core.Path.{_≡_, refl, sym, ap, _∙_, fun-ext}
+use mathlib.Core.Path.{_≡_, sym, ap, _∙_, fun-ext}
 use mathlib.Core.Bool.{Bool, true, false}
 use mathlib.Core.List.{List, map}
-use Prim.Native.Nat.{ℕ, _*_, _/_, _≤_}
+use Prim.Native.Nat.{ℕ, _*_, _≤_}
 use native.Mathlib.Omega.{arith}
 use lib.ListN.{length, take}
 use lib.Seq.{length-take-le}
@@ -15,9 +15,9 @@ use Rattle.scene.specs.Entries.{entryAt}
 use Rattle.scene.specs.declared.refusal.Refusal.{Refusal}
 use Rattle.scene.specs.declared.refusal.Refusal.the-variants.{Point}
 use Rattle.shape.specs.Shapes.{Shape, decode}
-use Rattle.paths.specs.Answers.{Answer, answered, refused, next}
+use Rattle.paths.specs.Answers.{Answer}
 use Rattle.paths.specs.Paths.{Paths, pathsWith, noPaths}
-use Rattle.paths.specs.Ends.{places, allPoints, held, EndsBoth}
+use Rattle.paths.specs.Ends.{allPoints, held, EndsBoth}
 use Rattle.paths.specs.Judged.{pointsOk}
 use Rattle.paths.specs.declared.Counts.{Counts}
 use Rattle.paths.specs.declared.Counts.the-variants.{Both, Refused}
@@ -29,8 +29,8 @@ use Rattle.view.specs.declared.View.{View}
 use Rattle.view.specs.declared.RenderArgs.{RenderArgs}
 use Rattle.transform.specs.Transform.{transformed}
 use Rattle.simplify.specs.Simplify.{simplifyPaths}
-use Rattle.collect.specs.Lined.{Lined, bare, readLined, ownLines}
-use Rattle.collect.specs.Collect.{Room, handed, choppedLines, collectedAll}
+use Rattle.collect.specs.Lined.{bare, ownLines}
+use Rattle.collect.specs.Collect.{choppedLines, collectedAll}
 use Rattle.collect.specs.Slices.{roomOf, linedAt}
 use Rattle.collect.proofs.Sifting.{handed-on, handed-far}
 use Rattle.collect.proofs.Moved.{transformed-points}

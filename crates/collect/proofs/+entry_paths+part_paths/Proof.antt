@@ -1,5 +1,5 @@
-use Rattle.collect.proofs.Nesting.{entry-nowhere, one-wide, one-many, less-wide, less-many, entry-none, entry-shallow, entry-simple, placed-refused, placed-moved, two-deep, parts-lent, joint-lent, joint, parts-refused, parts-on}
-use Rattle.collect.proofs.Nesting.{entry-nowhere, one-wide, one-many, less-wide, less-many, entry-none, entry-shallow, entry-simple, placed-refused, placed-moved, two-deep, parts-lent, joint-lent, joint}
+use Rattle.collect.proofs.Nesting.{entry-nowhere, one-wide, one-many, less-wide, less-many, entry-none, entry-shallow, entry-simple, placed-refused, placed-moved, parts-lent, joint-lent, joint, parts-refused, parts-on}
+use Rattle.collect.proofs.Nesting.{entry-nowhere, one-wide, one-many, less-wide, less-many, entry-none, entry-shallow, entry-simple, placed-refused, placed-moved, parts-lent, joint-lent, joint}
 use lib.Seq.{length-take-le}
 use Prim.Native.Nat.{_+_, _*_}
 use native.Mathlib.Omega.{arith}

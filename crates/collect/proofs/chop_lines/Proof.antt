@@ -3,32 +3,22 @@ use borrow.Author.Tests.{not-true, not-false}
 use borrow.Author.Needs.{needs}
 use Rattle.collect.proofs.chop_lines.Statement.{statement}
 use Rattle.collect.proofs.chop_lines.Tie as tie
-use Rattle.collect.proofs.chop_lines.Reads as reads
-use Rattle.collect.proofs.chop_lines.Lts as lts
-use Rattle.chop.proofs.chop_paths.Reads as chop-paths-reads
-use Rattle.paths.proofs.points_ok.Reads as points-ok-reads
 
--- src/lib.rt:69:9
 points-ok-requires : tie.Need-points-ok-requires
 points-ok-requires c κs = tt
 
--- src/lib.rt:70:9
 returns : tie.Need-returns
 returns c = chop-far (c .before .before .before .before .before .before .args .args) (c .before .before .before .before .before .before .args .path .now) (c .before .before .before .before .before .before .args .starts .now) _ _ (c .before .points-ok .ensures) (not-true _ (c .if1 .taken)) _ _
 
--- src/lib.rt:72:5
 chop-paths-requires : tie.Need-chop-paths-requires
 chop-paths-requires c κs = tt
 
--- src/lib.rt:60:1
 same-length : tie.Need-same-length
 same-length c = search needs
 
--- src/lib.rt:60:1
 same-length-2 : tie.Need-same-length-2
 same-length-2 c = search needs
 
--- src/lib.rt:60:1
 returns-2 : tie.Need-returns-2
 returns-2 c = chop-near (c .before .before .before .before .before .before .before .before .before .before .before .before .before .args .args) (c .before .before .before .before .before .before .before .before .before .before .before .before .before .args .path .now) (c .before .before .before .before .before .before .before .before .before .before .before .before .before .args .starts .now) _ _ (c .before .before .before .before .before .before .before .before .points-ok .ensures) (not-false _ (c .before .before .before .before .before .before .before .if1 .left)) _ _ (c .before .before .before .before .chop-paths .ensures)
 

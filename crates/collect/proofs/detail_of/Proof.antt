@@ -1,6 +1,4 @@
-use borrow.Author.Needs.{needs}
 use borrow.Author.Tests.{lt-ltb, le-ltb}
-use mathlib.Core.Path.{refl}
 use native.Mathlib.Omega.{arith}
 use Rattle.collect.specs.Lined.{detailAt}
 use Rattle.collect.proofs.detail_of.Statement.{statement}

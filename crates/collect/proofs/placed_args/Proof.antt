@@ -1,5 +1,3 @@
-use borrow.Author.Needs.{needs}
-use mathlib.Core.Path.{refl}
 use Rattle.collect.specs.Collect.{placedArgs}
 use Rattle.collect.proofs.placed_args.Statement.{statement}
 use Rattle.collect.proofs.placed_args.Tie as tie

@@ -3,69 +3,49 @@ use Rattle.floats.specs.Arith.{zeroF}
 use borrow.Author.Needs.{needs}
 use Rattle.draw.proofs.clear_work.Statement.{statement}
 use Rattle.draw.proofs.clear_work.Tie as tie
-use Rattle.draw.proofs.clear_work.Reads as reads
-use Rattle.draw.proofs.clear_work.Lts as lts
-use Rattle.rows.proofs.clear.Reads as clear-reads
-use Rattle.rows.proofs.clear_marks.Reads as clear-marks-reads
-use Rattle.rows.proofs.clear_starts.Reads as clear-starts-reads
 
--- src/lib.rt:133:5
 clear-requires : tie.Need-clear-requires
 clear-requires c κs = search needs
 
--- src/lib.rt:134:5
 clear-starts-requires : tie.Need-clear-starts-requires
 clear-starts-requires c κs = search needs
 
--- src/lib.rt:135:5
 clear-requires-2 : tie.Need-clear-requires-2
 clear-requires-2 c κs = search needs
 
--- src/lib.rt:136:5
 clear-starts-requires-2 : tie.Need-clear-starts-requires-2
 clear-starts-requires-2 c κs = search needs
 
--- src/lib.rt:137:5
 clear-requires-3 : tie.Need-clear-requires-3
 clear-requires-3 c κs = search needs
 
--- src/lib.rt:138:5
 clear-marks-requires : tie.Need-clear-marks-requires
 clear-marks-requires c κs = search needs
 
--- src/lib.rt:139:5
 clear-marks-requires-2 : tie.Need-clear-marks-requires-2
 clear-marks-requires-2 c κs = search needs
 
--- src/lib.rt:116:1
 same-length : tie.Need-same-length
 same-length c = search needs
 
--- src/lib.rt:116:1
 same-length-2 : tie.Need-same-length-2
 same-length-2 c = search needs
 
--- src/lib.rt:116:1
 same-length-3 : tie.Need-same-length-3
 same-length-3 c = search needs
 
--- src/lib.rt:116:1
 same-length-4 : tie.Need-same-length-4
 same-length-4 c = search needs
 
--- src/lib.rt:116:1
 same-length-5 : tie.Need-same-length-5
 same-length-5 c = search needs
 
--- src/lib.rt:116:1
 same-length-6 : tie.Need-same-length-6
 same-length-6 c = search needs
 
--- src/lib.rt:116:1
 same-length-7 : tie.Need-same-length-7
 same-length-7 c = search needs
 
--- src/lib.rt:116:1
 returns : tie.Need-returns
 returns c = (cleared zeroF (c .before .before .before .before .before .before .before .before .before .before .before .before .before .before .before .before .before .before .before .before .before .before .before .before .before .before .before .before .before .before .before .before .before .before .before .args .work .now) (c .before .before .before .before .before .before .before .before .before .before .before .before .before .before .before .before .before .before .before .before .before .before .before .before .before .before .clear .ensures), (cleared 0 (c .before .before .before .before .before .before .before .before .before .before .before .before .before .before .before .before .before .before .before .before .before .before .before .before .before .before .before .before .before .before .before .before .before .before .before .args .work-starts .now) (c .before .before .before .before .before .before .before .before .before .before .before .before .before .before .before .before .before .before .before .before .before .before .clear-starts .ensures), (cleared zeroF (c .before .before .before .before .before .before .before .before .before .before .before .before .before .before .before .before .before .before .before .before .before .before .before .before .before .before .before .before .before .before .before .before .before .before .before .args .chopped .now) (c .before .before .before .before .before .before .before .before .before .before .before .before .before .before .before .before .before .before .clear2 .ensures), (cleared 0 (c .before .before .before .before .before .before .before .before .before .before .before .before .before .before .before .before .before .before .before .before .before .before .before .before .before .before .before .before .before .before .before .before .before .before .before .args .cuts .now) (c .before .before .before .before .before .before .before .before .before .before .before .before .before .before .clear-starts2 .ensures), (cleared zeroF (c .before .before .before .before .before .before .before .before .before .before .before .before .before .before .before .before .before .before .before .before .before .before .before .before .before .before .before .before .before .before .before .before .before .before .before .args .hulls .now) (c .before .before .before .before .before .before .before .before .before .before .clear3 .ensures), (cleared 0 (c .before .before .before .before .before .before .before .before .before .before .before .before .before .before .before .before .before .before .before .before .before .before .before .before .before .before .before .before .before .before .before .before .before .before .before .args .records .now) (c .before .before .before .before .before .before .clear-marks .ensures), cleared 0 (c .before .before .before .before .before .before .before .before .before .before .before .before .before .before .before .before .before .before .before .before .before .before .before .before .before .before .before .before .before .before .before .before .before .before .before .args .order .now) (c .before .before .clear-marks2 .ensures)))))))
 

@@ -4,8 +4,6 @@ use Rattle.floats.proofs.Tests.{ne-self}
 use Rattle.drawing.specs.Numbers.{bitsOf}
 use Rattle.drawing.proofs.bits_of.Statement.{statement}
 use Rattle.drawing.proofs.bits_of.Tie as tie
-use Rattle.drawing.proofs.bits_of.Reads as reads
-use Rattle.drawing.proofs.bits_of.Lts as lts
 
 returns : tie.Need-returns
 unfolding bitsOf

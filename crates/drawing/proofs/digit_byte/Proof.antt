@@ -3,8 +3,6 @@ use borrow.Author.Tests.{lt-ltb, le-ltb}
 use Rattle.drawing.specs.Numbers.{digitByte}
 use Rattle.drawing.proofs.digit_byte.Statement.{statement}
 use Rattle.drawing.proofs.digit_byte.Tie as tie
-use Rattle.drawing.proofs.digit_byte.Reads as reads
-use Rattle.drawing.proofs.digit_byte.Lts as lts
 
 cast-result : tie.Need-cast-result
 cast-result c = search needs

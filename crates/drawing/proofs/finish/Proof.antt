@@ -3,39 +3,28 @@ use Rattle.drawing.proofs.Ends.{refused-answered, refused-laid, at-answ
 use borrow.Author.Needs.{needs}
 use Rattle.drawing.proofs.finish.Statement.{statement}
 use Rattle.drawing.proofs.finish.Tie as tie
-use Rattle.drawing.proofs.finish.Reads as reads
-use Rattle.drawing.proofs.finish.Lts as lts
-use Rattle.drawing.proofs.clear.Reads as clear-reads
 
--- src/lib.rt:216:24
 enum-known-c : tie.Need-enum-known-c
 enum-known-c c = search needs
 
--- src/lib.rt:217:13
 clear-requires : tie.Need-clear-requires
 clear-requires c κs = search needs
 
--- src/lib.rt:220:19
 enum-known-c-2 : tie.Need-enum-known-c-2
 enum-known-c-2 c = search needs
 
--- src/lib.rt:221:13
 clear-requires-2 : tie.Need-clear-requires-2
 clear-requires-2 c κs = c .before .before .before .before .before .pre _ (c .before .before .c2 .given .1)
 
--- src/lib.rt:210:1
 same-length : tie.Need-same-length
 same-length c = c .before .before .clear .kept .0
 
--- src/lib.rt:210:1
 returns : tie.Need-returns
 returns c = (refused-answered (c .before .before .before .before .before .before .before .before .args .text .now) (c .before .before .before .before .before .before .before .before .args .c) (c .before .before .before .before .before .c .given .1), c .before .before .clear .ensures ∙ refused-laid (c .before .before .before .before .before .before .before .before .args .text .now) (c .before .before .before .before .before .before .before .before .args .c) (c .before .before .before .before .before .c .given .1))
 
--- src/lib.rt:210:1
 same-length-2 : tie.Need-same-length-2
 same-length-2 c = c .before .before .clear2 .kept .0
 
--- src/lib.rt:210:1
 returns-2 : tie.Need-returns-2
 returns-2 c = (at-answered (c .before .before .before .before .before .before .before .before .args .text .now) (c .before .before .before .before .before .before .before .before .args .c) (c .before .before .before .before .before .c2 .given .1) (c .before .before .before .before .before .before .before .before .pre _ (c .before .before .before .before .before .c2 .given .1)), c .before .before .clear2 .ensures ∙ at-laid (c .before .before .before .before .before .before .before .before .args .text .now) (c .before .before .before .before .before .before .before .before .args .c) (c .before .before .before .before .before .c2 .given .1) (c .before .before .before .before .before .before .before .before .pre _ (c .before .before .before .before .before .c2 .given .1)))
 

@@ -2,38 +2,28 @@ use Rattle.drawing.proofs.Adding.{byte-refused, byte-full, byte-put}
 use borrow.Author.Needs.{needs}
 use Rattle.drawing.proofs.put_byte.Statement.{statement}
 use Rattle.drawing.proofs.put_byte.Tie as tie
-use Rattle.drawing.proofs.put_byte.Reads as reads
-use Rattle.drawing.proofs.put_byte.Lts as lts
 
--- src/lib.rt:50:24
 enum-known-c : tie.Need-enum-known-c
 enum-known-c c = search needs
 
--- src/lib.rt:51:19
 enum-known-c-2 : tie.Need-enum-known-c-2
 enum-known-c-2 c = search needs
 
--- src/lib.rt:53:17
 slice-write-text : tie.Need-slice-write-text
 slice-write-text c = search needs
 
--- src/lib.rt:54:34
 add-t10 : tie.Need-add-t10
 add-t10 c = search needs
 
--- src/lib.rt:54:17
 same-length : tie.Need-same-length
 same-length c = search needs
 
--- src/lib.rt:54:17
 returns : tie.Need-returns
 returns c = byte-put _ _ _ (c .before .before .c2 .given .1) (c .if1 .taken)
 
--- src/lib.rt:45:1
 returns-2 : tie.Need-returns-2
 returns-2 c = byte-refused _ _ _ (c .before .c .given .1)
 
--- src/lib.rt:45:1
 returns-3 : tie.Need-returns-3
 returns-3 c = byte-full _ _ _ (c .before .before .c2 .given .1) (c .before .before .before .before .pre _ (c .before .before .c2 .given .1)) (c .if1 .left)
 

@@ -3,33 +3,22 @@ use Rattle.drawing.proofs.Texts.{number-put}
 use borrow.Author.Needs.{needs}
 use Rattle.drawing.proofs.put_number.Statement.{statement}
 use Rattle.drawing.proofs.put_number.Tie as tie
-use Rattle.drawing.proofs.put_number.Reads as reads
-use Rattle.drawing.proofs.put_number.Lts as lts
-use Rattle.drawing.proofs.bits_of.Reads as bits-of-reads
-use Rattle.drawing.proofs.put_byte.Reads as put-byte-reads
-use Rattle.drawing.proofs.put_hex.Reads as put-hex-reads
 
--- src/lib.rt:106:9
 put-byte-requires : tie.Need-put-byte-requires
 put-byte-requires c κs = c .before .before .pre
 
--- src/lib.rt:107:9
 put-byte-requires-2 : tie.Need-put-byte-requires-2
 put-byte-requires-2 c κs = c .before .before .before .put-byte .ensures .fits
 
--- src/lib.rt:108:26
 bits-of-requires : tie.Need-bits-of-requires
 bits-of-requires c κs = search needs
 
--- src/lib.rt:108:5
 put-hex-requires : tie.Need-put-hex-requires
 put-hex-requires c κs = c .before .before .before .before .put-byte2 .ensures .fits
 
--- src/lib.rt:102:1
 same-length : tie.Need-same-length
 same-length c = c .before .before .put-hex .kept .0 ∙ c .before .before .before .before .before .before .before .put-byte2 .kept .0 ∙ c .before .before .before .before .before .before .before .before .before .before .before .put-byte .kept .0
 
--- src/lib.rt:102:1
 returns : tie.Need-returns
 returns c = number-put (c .before .before .before .before .before .before .before .before .before .before .before .before .before .before .pre) _ _ _ (c .before .before .before .before .before .before .before .before .before .before .before .put-byte .ensures) (c .before .before .before .before .before .before .before .before .before .before .before .put-byte .kept .0) (c .before .before .before .before .before .before .before .put-byte2 .ensures) (c .before .before .before .before .before .before .before .put-byte2 .kept .0) (c .before .before .before .bits-of .ensures) (c .before .before .put-hex .ensures) (c .before .before .put-hex .kept .0)
 

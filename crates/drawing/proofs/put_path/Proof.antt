@@ -3,36 +3,25 @@ use Rattle.drawing.proofs.Texts.{path-put}
 use borrow.Author.Needs.{needs}
 use Rattle.drawing.proofs.put_path.Statement.{statement}
 use Rattle.drawing.proofs.put_path.Tie as tie
-use Rattle.drawing.proofs.put_path.Reads as reads
-use Rattle.drawing.proofs.put_path.Lts as lts
-use Rattle.drawing.proofs.put_points.Reads as put-points-reads
-use Rattle.drawing.proofs.put_word.Reads as put-word-reads
 
--- src/lib.rt:140:31
 slice-aggregate-put-word : tie.Need-slice-aggregate-put-word
 slice-aggregate-put-word c = search needs
 
--- src/lib.rt:140:9
 put-word-requires : tie.Need-put-word-requires
 put-word-requires c κs = c .before .before .before .before .pre .0
 
--- src/lib.rt:141:9
 put-points-requires : tie.Need-put-points-requires
 put-points-requires c κs = (c .before .before .before .put-word .ensures .fits, c .before .before .before .before .before .before .before .before .pre .1, c .before .before .before .before .before .before .before .before .pre .2)
 
--- src/lib.rt:142:23
 slice-aggregate-put-word-2 : tie.Need-slice-aggregate-put-word-2
 slice-aggregate-put-word-2 c = search needs
 
--- src/lib.rt:142:5
 put-word-requires-2 : tie.Need-put-word-requires-2
 put-word-requires-2 c κs = c .before .before .before .before .put-points .ensures .fits
 
--- src/lib.rt:136:1
 same-length : tie.Need-same-length
 same-length c = c .before .before .put-word2 .kept .0 ∙ c .before .before .before .before .before .before .before .put-points .kept .0 ∙ c .before .before .before .before .before .before .before .before .before .before .before .put-word .kept .0
 
--- src/lib.rt:136:1
 returns : tie.Need-returns
 returns c = path-put (c .before .before .before .before .before .before .before .before .before .before .before .before .before .before .before .before .pre .0) _ (c .before .before .before .before .before .before .before .before .before .before .before .put-word .ensures) (c .before .before .before .before .before .before .before .before .before .before .before .put-word .kept .0) (c .before .before .before .before .before .before .before .put-points .ensures) (c .before .before .before .before .before .before .before .put-points .kept .0) (c .before .before .put-word2 .ensures) (c .before .before .put-word2 .kept .0)
 

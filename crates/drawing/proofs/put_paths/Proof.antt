@@ -10,10 +10,6 @@ use Prim.Native.Nat.{_-_}
 use borrow.Author.Needs.{needs}
 use Rattle.drawing.proofs.put_paths.Statement.{statement}
 use Rattle.drawing.proofs.put_paths.Tie as tie
-use Rattle.drawing.proofs.put_paths.Reads as reads
-use Rattle.drawing.proofs.put_paths.Lts as lts
-use Rattle.drawing.proofs.put_path.Reads as put-path-reads
-use Rattle.paths.proofs.span_of.Reads as span-of-reads
 
 abbrev Inv-loop : tie.InvT-loop
 Inv-loop text₀ path starts n d₀ i₀ text d i = Writing (flat pathText (pathsOf (allPoints path) starts)) text₀ d₀ text d (flat pathText (pathsOf (allPoints path) (drop i starts)))
@@ -21,35 +17,27 @@ Inv-loop text₀ path starts n d₀ i₀ text d i = Writing (flat pathText (path
 abbrev μ-loop : tie.MeasureT-loop
 μ-loop text₀ path starts n d₀ i₀ text d i = length starts - i
 
--- src/lib.rt:152:5
 loop-holds : tie.Need-loop-holds Inv-loop μ-loop
 loop-holds c = writing-start (c .before .before .before .pre)
 
--- src/lib.rt:153:13
 span-of-requires : tie.Need-span-of-requires Inv-loop μ-loop
 span-of-requires c κs = search needs
 
--- src/lib.rt:154:9
 put-path-requires : tie.Need-put-path-requires Inv-loop μ-loop
 put-path-requires c κs = let w = span-fits (c .before .before .before .before .before .before .before .args .path .now) (c .before .before .before .before .before .before .before .args .starts .now) (c .before .before .before .loop .i) (c .before .span-of .result) (c .before .span-of .ensures) in (c .before .before .before .loop .inv .fits, w .0, w .1)
 
--- src/lib.rt:155:9
 add-i : tie.Need-add-i Inv-loop μ-loop
 add-i c = search needs
 
--- src/lib.rt:152:5
 loop-less : tie.Need-loop-less Inv-loop μ-loop
 loop-less c = search needs
 
--- src/lib.rt:152:5
 loop-again : tie.Need-loop-again Inv-loop μ-loop
 loop-again c = paths-turn (c .before .before .before .before .before .before .before .before .before .before .args .path .now) (c .before .before .before .before .before .before .before .before .before .before .args .starts .now) _ (c .before .before .before .before .before .loop-test .taken) (c .before .before .before .before .span-of .ensures) (c .before .before .before .before .before .before .loop .inv) (c .before .before .put-path .ensures) (c .before .before .put-path .kept .0)
 
--- src/lib.rt:145:1
 same-length : tie.Need-same-length Inv-loop μ-loop
 same-length c = c .before .loop .inv .same
 
--- src/lib.rt:145:1
 returns : tie.Need-returns Inv-loop μ-loop
 returns c = paths-end (c .before .before .before .before .before .args .path .now) (c .before .before .before .before .before .args .starts .now) _ (c .loop-test .left) (c .before .loop .inv)
 

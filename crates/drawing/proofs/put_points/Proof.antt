@@ -9,10 +9,6 @@ use Prim.Native.Nat.{_-_, _≤_}
 use borrow.Author.Needs.{needs}
 use Rattle.drawing.proofs.put_points.Statement.{statement}
 use Rattle.drawing.proofs.put_points.Tie as tie
-use Rattle.drawing.proofs.put_points.Reads as reads
-use Rattle.drawing.proofs.put_points.Lts as lts
-use Rattle.drawing.proofs.put_point.Reads as put-point-reads
-use Rattle.rows.proofs.read_point.Reads as read-point-reads
 
 abbrev Inv-loop : tie.InvT-loop
 Inv-loop text₀ path from end d₀ i₀ text d i = (i ≤ end) × Writing (flat pointText (slice from end (allPoints path))) text₀ d₀ text d (flat pointText (slice i end (allPoints path)))
@@ -20,35 +16,27 @@ Inv-loop text₀ path from end d₀ i₀ text d i = (i ≤ end) × Writing (flat
 abbrev μ-loop : tie.MeasureT-loop
 μ-loop text₀ path from end d₀ i₀ text d i = end - i
 
--- src/lib.rt:129:5
 loop-holds : tie.Need-loop-holds Inv-loop μ-loop
 loop-holds c = (c .before .before .pre .1, writing-start (c .before .before .pre .0))
 
--- src/lib.rt:130:32
 read-point-requires : tie.Need-read-point-requires Inv-loop μ-loop
 read-point-requires c κs = search needs
 
--- src/lib.rt:130:9
 put-point-requires : tie.Need-put-point-requires Inv-loop μ-loop
 put-point-requires c κs = c .before .before .before .loop .inv .1 .fits
 
--- src/lib.rt:131:9
 add-i : tie.Need-add-i Inv-loop μ-loop
 add-i c = search needs
 
--- src/lib.rt:129:5
 loop-less : tie.Need-loop-less Inv-loop μ-loop
 loop-less c = search needs
 
--- src/lib.rt:129:5
 loop-again : tie.Need-loop-again Inv-loop μ-loop
 loop-again c = (omega (arith, c .before .before .before .before .before .loop-test .taken), points-turn (c .before .before .before .before .before .before .before .before .before .args .path .now) _ _ (c .before .before .before .before .before .before .before .before .before .pre .2) (c .before .before .before .before .before .loop-test .taken) (c .before .before .before .read-point .ensures) (c .before .before .before .before .before .before .loop .inv .1) (c .before .before .put-point .ensures) (c .before .before .put-point .kept .0))
 
--- src/lib.rt:123:1
 same-length : tie.Need-same-length Inv-loop μ-loop
 same-length c = c .before .loop .inv .1 .same
 
--- src/lib.rt:123:1
 returns : tie.Need-returns Inv-loop μ-loop
 returns c = points-end (c .before .before .before .before .args .path .now) _ _ (c .before .loop .inv .0) (c .loop-test .left) (c .before .loop .inv .1)
 

@@ -5,66 +5,46 @@ use Rattle.drawing.proofs.Ends.{refused-text, drawn-text, drawn-fits}
 use borrow.Author.Needs.{needs}
 use Rattle.drawing.proofs.put_text.Statement.{statement}
 use Rattle.drawing.proofs.put_text.Tie as tie
-use Rattle.drawing.proofs.put_text.Reads as reads
-use Rattle.drawing.proofs.put_text.Lts as lts
-use Rattle.drawing.proofs.lesser.Reads as lesser-reads
-use Rattle.drawing.proofs.put_drawing.Reads as put-drawing-reads
-use Rattle.drawing.proofs.put_refused.Reads as put-refused-reads
-use Rattle.scene.proofs.refusal.Refusal.number.Reads as number-reads
 
--- src/lib.rt:188:25
 enum-known-c : tie.Need-enum-known-c
 enum-known-c c = search needs
 
--- src/lib.rt:188:49
 number-requires : tie.Need-number-requires
 number-requires c κs = search needs
 
--- src/lib.rt:188:31
 put-refused-requires : tie.Need-put-refused-requires
 put-refused-requires c κs = search needs
 
--- src/lib.rt:189:22
 enum-known-c-2 : tie.Need-enum-known-c-2
 enum-known-c-2 c = search needs
 
--- src/lib.rt:190:17
 lesser-requires : tie.Need-lesser-requires
 lesser-requires c κs = search needs
 
--- src/lib.rt:191:17
 lesser-requires-2 : tie.Need-lesser-requires-2
 lesser-requires-2 c κs = search needs
 
--- src/lib.rt:192:41
 mul-put-drawing : tie.Need-mul-put-drawing
 mul-put-drawing c = let w = drawn-fits (c .before .before .before .before .before .before .before .before .before .args .points .now) (c .before .before .before .before .before .before .before .before .before .args .starts .now) (c .before .before .before .before .c2 .given .0 .0) (c .before .before .before .before .c2 .given .0 .1 .0) (c .before .before .lesser .result) (c .before .lesser2 .result) (c .before .before .lesser .ensures) (c .before .lesser2 .ensures) in omega (arith, w .0, c .before .before .before .before .before .before .before .before .before .good)
 
--- src/lib.rt:192:31
 slice-aggregate-put-drawing : tie.Need-slice-aggregate-put-drawing
 slice-aggregate-put-drawing c = sym (length-take-le _ _ (drawn-fits (c .before .before .before .before .before .before .before .before .before .before .args .points .now) (c .before .before .before .before .before .before .before .before .before .before .args .starts .now) (c .before .before .before .before .before .c2 .given .0 .0) (c .before .before .before .before .before .c2 .given .0 .1 .0) (c .before .before .before .lesser .result) (c .before .before .lesser2 .result) (c .before .before .before .lesser .ensures) (c .before .before .lesser2 .ensures) .0))
 
--- src/lib.rt:192:49
 slice-aggregate-put-drawing-2 : tie.Need-slice-aggregate-put-drawing-2
 slice-aggregate-put-drawing-2 c = sym (length-take-le _ _ (drawn-fits (c .before .before .before .before .before .before .before .before .before .before .before .args .points .now) (c .before .before .before .before .before .before .before .before .before .before .before .args .starts .now) (c .before .before .before .before .before .before .c2 .given .0 .0) (c .before .before .before .before .before .before .c2 .given .0 .1 .0) (c .before .before .before .before .lesser .result) (c .before .before .before .lesser2 .result) (c .before .before .before .before .lesser .ensures) (c .before .before .before .lesser2 .ensures) .1))
 
--- src/lib.rt:192:13
 put-drawing-requires : tie.Need-put-drawing-requires
 put-drawing-requires c κs = search needs
 
--- src/lib.rt:184:1
 same-length : tie.Need-same-length
 same-length c = c .before .before .put-refused .kept .0
 
--- src/lib.rt:184:1
 returns : tie.Need-returns
 returns c = refused-text (c .before .before .before .before .before .before .before .before .before .before .before .args .points .now) (c .before .before .before .before .before .before .before .before .before .before .before .args .starts .now) (c .before .before .before .before .before .before .c .given .1) (c .before .before .before .number .ensures) (c .before .before .put-refused .ensures)
 
--- src/lib.rt:184:1
 same-length-2 : tie.Need-same-length-2
 same-length-2 c = c .before .before .put-drawing .kept .0
 
--- src/lib.rt:184:1
 returns-2 : tie.Need-returns-2
 returns-2 c = drawn-text (c .before .before .before .before .before .before .before .before .before .before .before .before .before .before .args .points .now) (c .before .before .before .before .before .before .before .before .before .before .before .before .before .before .args .starts .now) _ _ _ _ (c .before .before .before .before .before .before .before .lesser .ensures) (c .before .before .before .before .before .before .lesser2 .ensures) (c .before .before .before .before .before .before .before .before .before .c2 .given .1) (c .before .before .put-drawing .ensures)
 

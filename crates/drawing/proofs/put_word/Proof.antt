@@ -4,9 +4,6 @@ use Prim.Native.Nat.{_-_}
 use borrow.Author.Needs.{needs}
 use Rattle.drawing.proofs.put_word.Statement.{statement}
 use Rattle.drawing.proofs.put_word.Tie as tie
-use Rattle.drawing.proofs.put_word.Reads as reads
-use Rattle.drawing.proofs.put_word.Lts as lts
-use Rattle.drawing.proofs.put_byte.Reads as put-byte-reads
 
 abbrev Inv-loop : tie.InvT-loop
 Inv-loop text₀ word d₀ i₀ text d i = Writing word text₀ d₀ text d (drop i word)
@@ -14,35 +11,27 @@ Inv-loop text₀ word d₀ i₀ text d i = Writing word text₀ d₀ text d (dro
 abbrev μ-loop : tie.MeasureT-loop
 μ-loop text₀ word d₀ i₀ text d i = length word - i
 
--- src/lib.rt:67:5
 loop-holds : tie.Need-loop-holds Inv-loop μ-loop
 loop-holds c = writing-start (c .before .before .pre)
 
--- src/lib.rt:68:31
 shared-slice-read-put-byte : tie.Need-shared-slice-read-put-byte Inv-loop μ-loop
 shared-slice-read-put-byte c = search needs
 
--- src/lib.rt:68:9
 put-byte-requires : tie.Need-put-byte-requires Inv-loop μ-loop
 put-byte-requires c κs = c .before .before .before .loop .inv .fits
 
--- src/lib.rt:69:9
 add-i : tie.Need-add-i Inv-loop μ-loop
 add-i c = search needs
 
--- src/lib.rt:67:5
 loop-less : tie.Need-loop-less Inv-loop μ-loop
 loop-less c = search needs
 
--- src/lib.rt:67:5
 loop-again : tie.Need-loop-again Inv-loop μ-loop
 loop-again c = word-turn _ (c .before .before .before .before .before .loop-test .taken) (c .before .before .before .before .before .before .loop .inv) (c .before .before .put-byte .ensures) (c .before .before .put-byte .kept .0)
 
--- src/lib.rt:61:1
 same-length : tie.Need-same-length Inv-loop μ-loop
 same-length c = c .before .loop .inv .same
 
--- src/lib.rt:61:1
 returns : tie.Need-returns Inv-loop μ-loop
 returns c = word-end _ (c .loop-test .left) (c .before .loop .inv)
 

@@ -3,32 +3,22 @@ use borrow.Author.Tests.{not-true, not-false}
 use borrow.Author.Needs.{needs}
 use Rattle.render.proofs.simplify_lines.Statement.{statement}
 use Rattle.render.proofs.simplify_lines.Tie as tie
-use Rattle.render.proofs.simplify_lines.Reads as reads
-use Rattle.render.proofs.simplify_lines.Lts as lts
-use Rattle.paths.proofs.points_ok.Reads as points-ok-reads
-use Rattle.simplify.proofs.simplify_paths.Reads as simplify-paths-reads
 
--- src/lib.rt:33:9
 points-ok-requires : tie.Need-points-ok-requires
 points-ok-requires c κs = tt
 
--- src/lib.rt:34:9
 returns : tie.Need-returns
 returns c = simplify-far (c .before .before .before .before .before .before .args .threshold) (c .before .before .before .before .before .before .args .path .now) (c .before .before .before .before .before .before .args .starts .now) _ _ (c .before .points-ok .ensures) (not-true _ (c .if1 .taken)) _ _
 
--- src/lib.rt:36:5
 simplify-paths-requires : tie.Need-simplify-paths-requires
 simplify-paths-requires c κs = c .before .before .before .before .before .before .before .before .pre
 
--- src/lib.rt:23:1
 same-length : tie.Need-same-length
 same-length c = search needs
 
--- src/lib.rt:23:1
 same-length-2 : tie.Need-same-length-2
 same-length-2 c = search needs
 
--- src/lib.rt:23:1
 returns-2 : tie.Need-returns-2
 returns-2 c = simplify-near (c .before .before .before .before .before .before .before .before .before .before .before .before .before .args .threshold) (c .before .before .before .before .before .before .before .before .before .before .before .before .before .args .path .now) (c .before .before .before .before .before .before .before .before .before .before .before .before .before .args .starts .now) _ _ (c .before .before .before .before .before .before .before .before .points-ok .ensures) (not-false _ (c .before .before .before .before .before .before .before .if1 .left)) _ _ (c .before .before .before .before .simplify-paths .ensures)
 

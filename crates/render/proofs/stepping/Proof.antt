@@ -1,4 +1,3 @@
-use borrow.Author.Needs.{needs}
 use mathlib.Core.Path.{refl}
 use Rattle.render.specs.Render.{stepping}
 use Rattle.render.proofs.stepping.Statement.{statement}
