@@ -1,12 +1,10 @@
 -- The text of what a draw left is the text of its answer, and the local slices are the places of `yard`. Assumes nothing.
 use Prim.Native.Nat.{ℕ, zero, suc, _-_, _*_, _/_, _≤_}
-use mathlib.Core.Path.{_≡_, refl, sym, ap, ap₂, _∙_, subst}
+use mathlib.Core.Path.{_≡_, refl, ap, ap₂, _∙_, subst}
 use mathlib.Core.List.{List, _∷_}
-use mathlib.Core.Bool.{cond}
 use native.Mathlib.Omega.{arith}
 use lib.ListN.{length, take, drop, replicate, length-append, length-replicate}
 use lib.Seq.{take-at}
-use lib.Dec.{ltb}
 use lib.Ieee.{Float}
 use Rattle.floats.specs.Arith.{zeroF}
 use Rattle.geometry.specs.declared.vector.Vector.{Vector}
@@ -19,7 +17,6 @@ use Rattle.paths.specs.Paths.{Paths, pathsOf}
 use Rattle.paths.specs.Ends.{places, allPoints, counted, laidPoints, laidStarts, Finished}
 use Rattle.paths.specs.declared.Count.{Count}
 use Rattle.paths.specs.declared.Counts.{Counts}
-use Rattle.paths.specs.declared.Counts.the-variants.{Both}
 use Rattle.view.specs.declared.View.{View}
 use Rattle.accept.specs.Checks.{Scene}
 use Rattle.render.specs.Render.{Places}
