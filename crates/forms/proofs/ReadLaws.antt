@@ -1,13 +1,13 @@
 -- What the public call answers and leaves. Assumes nothing.
 use Prim.Native.Nat.{ℕ, _+_, _-_, _*_, _/_, _≤_, _<_}
-use mathlib.Core.Path.{_≡_, refl, sym, _∙_}
+use mathlib.Core.Path.{_≡_, refl, sym, ap, _∙_}
 use mathlib.Core.Bool.{Bool, true, false, _&&_}
 use mathlib.Core.List.{List, [], _++_}
 use native.Mathlib.Omega.{arith}
 use lib.Dec.{leb}
 use lib.Ieee.{Float}
 use lib.ListN.{length, take, replicate}
-use lib.Seq.{length-take-le}
+use lib.Seq.{length-take-le, take-at}
 use borrow.Author.Tests.{lt-leb, le-leb, leb-true}
 use Rattle.floats.specs.Arith.{zeroF}
 use Rattle.floats.proofs.Tests.{clash}
@@ -89,6 +89,10 @@ read-within w f = rw f at w
 pub cleared : {A : Type 0} (z : A) (m n : ℕ) (xs : List A) {ys : List A} → n ≤ length xs → length xs ≡ m → ys ≡ take n xs ++ replicate (length xs - n) z → ys ≡ padded z m (take n xs)
 cleared z m n xs l e w = w ∙ padded-take z xs n l ∙ rw e
 
+-- its first n places are kept
+pub kept-front : {A : Type 0} (z : A) (n : ℕ) (xs : List A) {ys : List A} → n ≤ length xs → ys ≡ take n xs ++ replicate (length xs - n) z → take n ys ≡ take n xs
+kept-front z n xs l w = ap (take n) w ∙ take-at (take n xs) (replicate (length xs - n) z) n (length-take-le n xs l)
+
 module _ (x : Got Yard) (v : View) (e p l : ℕ) (ns : List Float) (ms : List ℕ) (ps : List Float) (ss os : List ℕ) {r : Reading} (is : readingAs r ns ms ps ss os ≡ x) (f : r ≡ SceneRead v e p l) (fits : Fits r ns ms ps ss os) where
   all : (e * 16 ≤ length ns) × ((e * 4 ≤ length ms) × ((p * 3 ≤ length ps) × ((l ≤ length ss) × (l ≤ length os))))
   all = read-fits ns ms ps ss os fits f
@@ -124,10 +128,27 @@ module _ (x : Got Yard) (v : View) (e p l : ℕ) (ns : List Float) (ms : List �
   unfolding sceneRead
   read-owners m k w = rw scene (cleared 0 m l os (all .1 .1 .1 .1) k w)
 
+  module _ (ns′ : List Float) (ms′ : List ℕ) (ps′ : List Float) (ss′ os′ : List ℕ) where
+    pub read-held : ns′ ≡ take (e * 16) ns ++ replicate (length ns - e * 16) zeroF → ms′ ≡ take (e * 4) ms ++ replicate (length ms - e * 4) 0
+        → ps′ ≡ take (p * 3) ps ++ replicate (length ps - p * 3) zeroF → ss′ ≡ take l ss ++ replicate (length ss - l) 0 → os′ ≡ take l os ++ replicate (length os - l) 0
+        → readingAs (SceneRead v e p l) ns′ ms′ ps′ ss′ os′ ≡ x
+    unfolding readingAs
+    read-held a b c d g =
+        rw (kept-front zeroF (e * 16) ns (all .0) a, kept-front 0 (e * 4) ms (all .1 .0) b, kept-front zeroF (p * 3) ps (all .1 .1 .0) c, kept-front 0 l ss (all .1 .1 .1 .0) d, kept-front 0 l os (all .1 .1 .1 .1) g)
+        (sym scene)
+
+    pub held-fits : length ns′ ≡ length ns → length ms′ ≡ length ms → length ps′ ≡ length ps → length ss′ ≡ length ss → length os′ ≡ length os → Fits (SceneRead v e p l) ns′ ms′ ps′ ss′ os′
+    unfolding Fits
+    held-fits a b c d g = (omega (arith, all .0, a), (omega (arith, all .1 .0, b), (omega (arith, all .1 .1 .0, c), (omega (arith, all .1 .1 .1 .0, d), omega (arith, all .1 .1 .1 .1, g)))))
+
 module _ (x : Got Yard) (ns : List Float) (ms : List ℕ) (ps : List Float) (ss os : List ℕ) {r : Reading} (is : readingAs r ns ms ps ss os ≡ x) (f : r ≡ Refused) where
   none : x ≡ no
   unfolding readingAs
   none = sym is ∙ rw f
+
+  pub refused-held : (ns′ : List Float) (ms′ : List ℕ) (ps′ : List Float) (ss′ os′ : List ℕ) → readingAs Refused ns′ ms′ ps′ ss′ os′ ≡ x
+  unfolding readingAs
+  refused-held ns′ ms′ ps′ ss′ os′ = sym none
 
   pub refused-answer : Refused ≡ answerOf x
   unfolding answerOf
@@ -156,6 +177,10 @@ module _ (x : Got Yard) (ns : List Float) (ms : List ℕ) (ps : List Float) (ss 
   pub refused-owners : (m : ℕ) {ys : List ℕ} → length os ≡ m → ys ≡ take 0 os ++ replicate (length os - 0) 0 → ys ≡ padded 0 m (sceneRead x .owners)
   unfolding sceneRead
   refused-owners m k w = rw none (zeros 0 m os k w)
+
+pub refused-fits : (ns : List Float) (ms : List ℕ) (ps : List Float) (ss os : List ℕ) → Fits Refused ns ms ps ss os
+unfolding Fits
+refused-fits ns ms ps ss os = tt
 
 -- ---- the places of the slices
 and-first : (a b : Bool) → (a && b) ≡ true → a ≡ true

@@ -196,6 +196,7 @@ fn fill(
 }
 
 // Reads a text: its view, and its scene into the slices, then zeros. Where it is refused, zeros throughout.
+// The counts of the answer are those of the scene's places, which the slices have.
 pub fn read(
     text: &[u8],
     numbers: &mut [f64],
@@ -210,6 +211,8 @@ pub fn read(
     ensures { λ r. ⌜ now (points .exit) ≡ padded zeroF (length (now (points .entry))) (sceneRead (readOf (now (text .entry)) (now (numbers .entry)) (now (marks .entry)) (now (points .entry)) (now (starts .entry)) (now (owners .entry))) .points) ⌝ }
     ensures { λ r. ⌜ now (starts .exit) ≡ padded 0 (length (now (starts .entry))) (sceneRead (readOf (now (text .entry)) (now (numbers .entry)) (now (marks .entry)) (now (points .entry)) (now (starts .entry)) (now (owners .entry))) .starts) ⌝ }
     ensures { λ r. ⌜ now (owners .exit) ≡ padded 0 (length (now (owners .entry))) (sceneRead (readOf (now (text .entry)) (now (numbers .entry)) (now (marks .entry)) (now (points .entry)) (now (starts .entry)) (now (owners .entry))) .owners) ⌝ }
+    ensures { λ r. ⌜ readingAs r (now (numbers .exit)) (now (marks .exit)) (now (points .exit)) (now (starts .exit)) (now (owners .exit)) ≡ readOf (now (text .entry)) (now (numbers .entry)) (now (marks .entry)) (now (points .entry)) (now (starts .entry)) (now (owners .entry)) ⌝ }
+    ensures { λ r. ⌜ Fits r (now (numbers .exit)) (now (marks .exit)) (now (points .exit)) (now (starts .exit)) (now (owners .exit)) ⌝ }
 {
     let r = fill(text, numbers, marks, points, starts, owners);
     match r {

@@ -1,0 +1,3 @@
+-- Laws of the answer to a text.
+pub mod Left
+pub mod Replies

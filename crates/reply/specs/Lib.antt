@@ -1,0 +1,2 @@
+-- What `yard` answers a text.
+pub mod Reply
