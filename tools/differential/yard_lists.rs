@@ -171,6 +171,10 @@ fn main() {
         for form in FORMS {
             list.spoilt(&mut rng, &format!("{VIEW}{form}\n"), 25);
         }
+        // a cut that needs too many restarts, and a tree walk that needs too many waiting places
+        for name in ["restarts", "waiting"] {
+            list.add(std::fs::read(format!("tools/differential/yards/{name}.yard")).expect("a yard"));
+        }
         let entries = std::fs::read_dir("examples").expect("examples");
         let mut yards: Vec<_> = entries.map(|e| e.expect("an entry").path()).collect();
         yards.retain(|path| path.extension().is_some_and(|x| x == "yard"));

@@ -1,5 +1,3 @@
-use native.Mathlib.Omega.{arith}
-use lib.Seq.{length-take-le}
 use Rattle.yard_check.proofs.Laws.{first-falls, second-falls, over, between}
 use borrow.Author.Needs.{needs}
 use Rattle.yard_check.proofs.right_at.Statement.{statement}

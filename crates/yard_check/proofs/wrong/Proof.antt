@@ -1,7 +1,6 @@
 use native.Mathlib.Omega.{arith}
 use mathlib.Core.Path.{_≡_, ap, _∙_}
-use lib.ListN.{length}
-use Prim.Native.Nat.{_-_, _*_, _≤_}
+use Prim.Native.Nat.{_-_, _≤_}
 use Rattle.yard_check.specs.Records.{wrongOf, countOf}
 use Rattle.yard_check.proofs.Laws.{one-more}
 use borrow.Author.Needs.{needs}
