@@ -1,3 +1,4 @@
 -- Laws of the answer to a text.
 pub mod Left
 pub mod Replies
+pub mod Showing

@@ -1,6 +1,6 @@
 -- What the program `yard` answers a text: the drawing of the scene that it stands for, or why it is refused.
 use Prim.Native.Nat.{ℕ}
-use mathlib.Core.List.{List}
+use mathlib.Core.List.{List, []}
 use Rattle.scene.specs.Refusals.{numberOf}
 use Rattle.accept.specs.Checks.{Scene}
 use Rattle.paths.specs.Answers.{Answer, answered, refused}
@@ -37,3 +37,8 @@ readText (got y ts) = drawnText (y .scene) (y .view)
 
 unfoldable pub replyOf : List ℕ → List ℕ
 replyOf text = readText (yardOf text)
+
+-- what is printed of a text that has to fit in a slice: all of it, or nothing
+unfoldable pub shown : Answer (List ℕ) → List ℕ
+shown (answered t) = t
+shown (refused k) = []

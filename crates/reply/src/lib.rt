@@ -1,9 +1,10 @@
 // What the program `yard` answers a text.
 ghost use mathlib.Core.Path.{_≡_};
-ghost use lib.ListN.{length};
+ghost use Prim.Native.Nat.{_≤_};
+ghost use lib.ListN.{length, take};
 ghost use Rattle.accept.specs.Checks.{sceneOf};
 ghost use Rattle.drawing.specs.Drawings.{fitting, written, laid};
-ghost use Rattle.reply.specs.Reply.{drawnText, replyOf};
+ghost use Rattle.reply.specs.Reply.{drawnText, replyOf, shown};
 use forms::Reading;
 use paths::Count;
 use view::View;
@@ -80,5 +81,16 @@ pub fn reply(text: &[u8], out: &mut [u8]) -> Count
             view,
             out,
         ),
+    }
+}
+
+// How many bytes of `out` are the answer to a text: all of it, or none where `out` is too short.
+pub fn answer(text: &[u8], out: &mut [u8]) -> usize
+    ensures { λ n. ⌜ (n ≤ length (now (out .exit))) × (take n (now (out .exit)) ≡ shown (fitting (length (now (out .entry))) (replyOf (now (text .entry))))) ⌝ }
+{
+    let r = reply(text, out);
+    match r {
+        Count::At(n) => n,
+        Count::Refused(_) => 0,
     }
 }

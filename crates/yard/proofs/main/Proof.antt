@@ -7,7 +7,6 @@ use Rattle.yard.proofs.main.Reads as reads
 use Rattle.yard.proofs.main.Lts as lts
 use Rattle.io.proofs.read_full.Reads as read-full-reads
 use Rattle.io.proofs.write_all.Reads as write-all-reads
-use Rattle.yard.proofs.answer.Reads as answer-reads
 
 -- src/main.rt:25:30
 slice-aggregate-read-full : tie.Need-slice-aggregate-read-full

@@ -11,7 +11,7 @@ use Rattle.paths.specs.Answers.{Answer, answered, refused}
 use Rattle.paths.specs.declared.Count.{Count}
 use Rattle.paths.specs.declared.Count.the-variants.{At, Refused}
 use Rattle.drawing.specs.Drawings.{written, laid}
-use Rattle.yard.specs.Shown.{shown}
+use Rattle.reply.specs.Reply.{shown}
 
 module _ (room : ℕ) (ys : List ℕ) {r : Count} where
   pub shown-at : (a : Answer (List ℕ)) → r ≡ written a → ys ≡ laid a room → {n : ℕ} → r ≡ At n → (n ≤ length ys) × (take n ys ≡ shown a)

@@ -1,0 +1,2 @@
+-- Laws of the list of texts.
+pub mod Laws

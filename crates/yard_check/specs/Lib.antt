@@ -1,0 +1,2 @@
+-- The list of texts.
+pub mod Records
