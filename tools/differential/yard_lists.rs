@@ -147,13 +147,53 @@ fn bounds(list: &mut List) {
     }
     // chopped finer than there are places for
     for step in ["1", "#3F50624DD2F1A9FC", "#3F1A36E2EB1C432D"] {
-        list.add(format!("{}(cube 3 -1 -1 -1 1 1 1)\n", STEPPED.replacen(" 3 ", &format!(" {step} "), 1)));
+        list.add(format!(
+            "{}(cube 3 -1 -1 -1 1 1 1)\n",
+            STEPPED.replacen(" 3 ", &format!(" {step} "), 1)
+        ));
     }
     // many solids in one place, so that the tree is deep
     for n in [8, 9, 200] {
         let balls: String = (0..n).map(|k| format!("(cube 1 {k} 0 0 {} 1 1)\n", k + 1)).collect();
         list.add(format!("(view 9 9 0 300 5 5 1 0 0 0 0 1 0 0 0 0 1 0 0 0 0 400)\n{balls}"));
     }
+}
+
+/// An f64 as the texts write it.
+fn word(x: f64) -> String {
+    format!("#{:016X}", x.to_bits())
+}
+
+/// 64 restarts of a cut and 65; a tree walk with 64 waiting places and one that needs 65.
+fn restarts_and_places(list: &mut List) {
+    // a part shrunk by 1e-6 misses at 1,000, so the ray from (0, 5, 0) along x goes on by 1,000.01 at a time
+    let tenth = word(0.1);
+    let view = format!("(view 2 2 0 900000 5 0 1 0 0 0 0 {tenth} 0 0 0 0 1 0 0 0 0 1)\n");
+    let s = word(1e-6);
+    let shrunk = format!("(place {s} 0 0 0 0 {s} 0 0 0 0 {s} 0 0 0 0 1 (cube 1 -1 -1 -1 1 1 1))");
+    let point = "(sphere 0 -50 0 0 (line 0 5 0))\n";
+    for (x, answer) in [(64_500, "(drawing 0)\n"), (65_500, "(refused 11)\n")] {
+        let block = format!("(cube 1 {x} -10 -10 {} 10 10)", x + 100);
+        list.add(format!("{view}(cut 1 {block} {shrunk})\n{point}"));
+        assert_eq!(list.records.last().expect("a text").1, answer);
+    }
+    // boxes in boxes, each a tenth of the one around it: the tree has a split for each but a few
+    let mut before = String::new();
+    for n in 55..85 {
+        let boxes: String = (0..n)
+            .map(|k| word(90_000.0 / 10f64.powi(k)))
+            .map(|size| format!("(cube 1 0 0 0 {size} {size} {size})\n"))
+            .collect();
+        let text = format!("(view 2 2 0 0 0 900000 1 0 0 0 0 1 0 0 0 0 1 0 0 0 0 1)\n{boxes}");
+        if oracle::yard::run(text.as_bytes()) == "(refused 12)\n" {
+            assert!(oracle::yard::run(before.as_bytes()).starts_with("(drawing"));
+            list.add(before);
+            list.add(text);
+            return;
+        }
+        before = text;
+    }
+    panic!("no tree is deep enough");
 }
 
 fn main() {
@@ -167,13 +207,10 @@ fn main() {
             list.add(format!("{VIEW}{form}\n(cube 1 -1 -1 -3 1 1 -2)\n"));
         }
         bounds(&mut list);
+        restarts_and_places(&mut list);
         let mut rng = Rng::new(1);
         for form in FORMS {
             list.spoilt(&mut rng, &format!("{VIEW}{form}\n"), 25);
-        }
-        // a cut that needs too many restarts, and a tree walk that needs too many waiting places
-        for name in ["restarts", "waiting"] {
-            list.add(std::fs::read(format!("tools/differential/yards/{name}.yard")).expect("a yard"));
         }
         let entries = std::fs::read_dir("examples").expect("examples");
         let mut yards: Vec<_> = entries.map(|e| e.expect("an entry").path()).collect();
@@ -192,10 +229,16 @@ fn main() {
         let mut answers = std::collections::BTreeMap::<String, usize>::new();
         for (_, answer) in &list.records {
             let first = answer.lines().next().unwrap_or("").to_string();
-            *answers.entry(if first.starts_with("(d") { "drawings".into() } else { first }).or_default() += 1;
+            *answers
+                .entry(if first.starts_with("(d") { "drawings".into() } else { first })
+                .or_default() += 1;
         }
         println!("{} texts, {} bytes: {answers:?}", list.records.len(), bytes.len());
         std::fs::write(format!("{folder}/stdin"), bytes).expect("stdin");
-        std::fs::write(format!("{folder}/stdout"), format!("{} texts, 0 wrong\n", list.records.len())).expect("stdout");
+        std::fs::write(
+            format!("{folder}/stdout"),
+            format!("{} texts, 0 wrong\n", list.records.len()),
+        )
+        .expect("stdout");
     });
 }
