@@ -1,6 +1,6 @@
 -- What the code's tests say of a float: `x != x`, `x - x == x - x`, and the sign tests of `abs`. Assumes nothing.
 use mathlib.Core.Path.{_≡_, refl, sym, ap, _∙_, subst}
-use mathlib.Core.Bool.{Bool, true, false, not, _&&_, _||_, Bool·beq}
+use mathlib.Core.Bool.{Bool, true, false, not, cond, _&&_, _||_, Bool·beq}
 use Prim.Native.Nat.{ℕ, zero, suc, _+_, _*_, _<_}
 use native.Mathlib.Nat.{mul-pos, zero-mul, zero-lt-suc, lt-irrefl}
 use native.Mathlib.Omega.{arith}
@@ -23,6 +23,19 @@ unfolding ne isNan eq
 ne-self nan = refl
 ne-self (inf s) = ap not (eq-self (inf s) tt)
 ne-self (fin s m e) = ap not (eq-self (fin s m e) tt)
+
+-- ---- `min` and `max`: picked by the comparison c, then given up if it is a NaN
+either : (a : Bool) (x y : Float) → y ≡ cond (a || true) y x
+either true x y = refl
+either false x y = refl
+
+pub picked-nan : (c : Bool) (x y m : Float) → m ≡ cond c y x → ne m m ≡ true → y ≡ cond (isNan x || c) y x
+picked-nan true x y m e h = either (isNan x) x y
+picked-nan false x y m e h = simp (← ne-self, ← e, h)
+
+pub picked-number : (c : Bool) (x y m : Float) → m ≡ cond c y x → ne m m ≡ false → m ≡ cond (isNan x || c) y x
+picked-number true x y m e h = e ∙ either (isNan x) x y
+picked-number false x y m e h = simp (← ne-self, ← e, h)
 
 pub finite-test : (x : Float) → eq (x ⊖ x) (x ⊖ x) ≡ finite x
 unfolding sub eq

@@ -1,26 +1,37 @@
 // `min`, `max` and `abs` as Rust's f64 has them, and the tests of a single number. The laws of
 // floats that the other crates use stand in proofs/.
 ghost use mathlib.Core.Path.{_≡_};
+ghost use mathlib.Core.Bool.{cond};
+ghost use lib.Ieee.{lt};
 ghost use lib.Ieee.Scale.{finite};
 ghost use Rattle.floats.specs.Numbers as Numbers;
 ghost use Rattle.floats.specs.Numbers.{minOf, maxOf, absOf};
 
+fn lesser(x: f64, y: f64) -> f64
+    ensures { λ r. ⌜ r ≡ cond (lt y x) y x ⌝ }
+{
+    if y < x { y } else { x }
+}
+
+fn greater(x: f64, y: f64) -> f64
+    ensures { λ r. ⌜ r ≡ cond (lt x y) y x ⌝ }
+{
+    if x < y { y } else { x }
+}
+
+// Compared first and tested for a NaN after, so that neither test needs a jump.
 pub fn min(x: f64, y: f64) -> f64
     ensures { λ r. ⌜ r ≡ minOf x y ⌝ }
 {
-    if x != x {
-        return y;
-    }
-    if y < x { y } else { x }
+    let m = lesser(x, y);
+    if m != m { y } else { m }
 }
 
 pub fn max(x: f64, y: f64) -> f64
     ensures { λ r. ⌜ r ≡ maxOf x y ⌝ }
 {
-    if x != x {
-        return y;
-    }
-    if x < y { y } else { x }
+    let m = greater(x, y);
+    if m != m { y } else { m }
 }
 
 pub fn abs(x: f64) -> f64
