@@ -9,6 +9,7 @@ use Rattle.geometry.specs.declared.vector.Normalized.{Normalized}
 use Rattle.geometry.specs.declared.ray.Ray.{Ray}
 use Rattle.geometry.specs.declared.bounding_box.BBox.{BBox}
 use Rattle.matrix.specs.declared.Matrix.{Matrix}
+use Rattle.matrix.specs.declared.Row.{Row}
 use Rattle.matrix.specs.declared.Scaled.{Scaled}
 use Rattle.matrix.specs.declared.Inverted.{Inverted}
 
@@ -32,6 +33,25 @@ mat a b c d e f g h i j k l m n o p = record {
   x32 = o;
   x33 = p;
 }
+
+abbrev pub rowOf : Float → Float → Float → Float → Row
+rowOf a b c d = record { a = a; b = b; c = c; d = d }
+
+-- the rows of a matrix
+abbrev pub row0 : Matrix → Row
+row0 m = rowOf (m .x00) (m .x01) (m .x02) (m .x03)
+
+abbrev pub row1 : Matrix → Row
+row1 m = rowOf (m .x10) (m .x11) (m .x12) (m .x13)
+
+abbrev pub row2 : Matrix → Row
+row2 m = rowOf (m .x20) (m .x21) (m .x22) (m .x23)
+
+abbrev pub row3 : Matrix → Row
+row3 m = rowOf (m .x30) (m .x31) (m .x32) (m .x33)
+
+abbrev pub ofRows : Row → Row → Row → Row → Matrix
+ofRows p q r s = mat (p .a) (p .b) (p .c) (p .d) (q .a) (q .b) (q .c) (q .d) (r .a) (r .b) (r .c) (r .d) (s .a) (s .b) (s .c) (s .d)
 
 unfoldable pub identityM : Matrix
 identityM =
@@ -72,25 +92,14 @@ orthographicM l r b t n f =
     zeroF zeroF (neg twoF ⊘ (f ⊖ n)) (neg (f ⊕ n) ⊘ (f ⊖ n))
     zeroF zeroF zeroF oneF
 
+-- a row times a matrix
+unfoldable pub rowMul : Row → Matrix → Row
+rowMul r b =
+    rowOf (r .a ⊗ b .x00 ⊕ r .b ⊗ b .x10 ⊕ r .c ⊗ b .x20 ⊕ r .d ⊗ b .x30) (r .a ⊗ b .x01 ⊕ r .b ⊗ b .x11 ⊕ r .c ⊗ b .x21 ⊕ r .d ⊗ b .x31)
+    (r .a ⊗ b .x02 ⊕ r .b ⊗ b .x12 ⊕ r .c ⊗ b .x22 ⊕ r .d ⊗ b .x32) (r .a ⊗ b .x03 ⊕ r .b ⊗ b .x13 ⊕ r .c ⊗ b .x23 ⊕ r .d ⊗ b .x33)
+
 unfoldable pub mulM : Matrix → Matrix → Matrix
-mulM a b = record {
-  x00 = a .x00 ⊗ b .x00 ⊕ a .x01 ⊗ b .x10 ⊕ a .x02 ⊗ b .x20 ⊕ a .x03 ⊗ b .x30;
-  x01 = a .x00 ⊗ b .x01 ⊕ a .x01 ⊗ b .x11 ⊕ a .x02 ⊗ b .x21 ⊕ a .x03 ⊗ b .x31;
-  x02 = a .x00 ⊗ b .x02 ⊕ a .x01 ⊗ b .x12 ⊕ a .x02 ⊗ b .x22 ⊕ a .x03 ⊗ b .x32;
-  x03 = a .x00 ⊗ b .x03 ⊕ a .x01 ⊗ b .x13 ⊕ a .x02 ⊗ b .x23 ⊕ a .x03 ⊗ b .x33;
-  x10 = a .x10 ⊗ b .x00 ⊕ a .x11 ⊗ b .x10 ⊕ a .x12 ⊗ b .x20 ⊕ a .x13 ⊗ b .x30;
-  x11 = a .x10 ⊗ b .x01 ⊕ a .x11 ⊗ b .x11 ⊕ a .x12 ⊗ b .x21 ⊕ a .x13 ⊗ b .x31;
-  x12 = a .x10 ⊗ b .x02 ⊕ a .x11 ⊗ b .x12 ⊕ a .x12 ⊗ b .x22 ⊕ a .x13 ⊗ b .x32;
-  x13 = a .x10 ⊗ b .x03 ⊕ a .x11 ⊗ b .x13 ⊕ a .x12 ⊗ b .x23 ⊕ a .x13 ⊗ b .x33;
-  x20 = a .x20 ⊗ b .x00 ⊕ a .x21 ⊗ b .x10 ⊕ a .x22 ⊗ b .x20 ⊕ a .x23 ⊗ b .x30;
-  x21 = a .x20 ⊗ b .x01 ⊕ a .x21 ⊗ b .x11 ⊕ a .x22 ⊗ b .x21 ⊕ a .x23 ⊗ b .x31;
-  x22 = a .x20 ⊗ b .x02 ⊕ a .x21 ⊗ b .x12 ⊕ a .x22 ⊗ b .x22 ⊕ a .x23 ⊗ b .x32;
-  x23 = a .x20 ⊗ b .x03 ⊕ a .x21 ⊗ b .x13 ⊕ a .x22 ⊗ b .x23 ⊕ a .x23 ⊗ b .x33;
-  x30 = a .x30 ⊗ b .x00 ⊕ a .x31 ⊗ b .x10 ⊕ a .x32 ⊗ b .x20 ⊕ a .x33 ⊗ b .x30;
-  x31 = a .x30 ⊗ b .x01 ⊕ a .x31 ⊗ b .x11 ⊕ a .x32 ⊗ b .x21 ⊕ a .x33 ⊗ b .x31;
-  x32 = a .x30 ⊗ b .x02 ⊕ a .x31 ⊗ b .x12 ⊕ a .x32 ⊗ b .x22 ⊕ a .x33 ⊗ b .x32;
-  x33 = a .x30 ⊗ b .x03 ⊕ a .x31 ⊗ b .x13 ⊕ a .x32 ⊗ b .x23 ⊕ a .x33 ⊗ b .x33;
-}
+mulM a b = ofRows (rowMul (row0 a) b) (rowMul (row1 a) b) (rowMul (row2 a) b) (rowMul (row3 a) b)
 
 unfoldable pub transposeM : Matrix → Matrix
 transposeM a =

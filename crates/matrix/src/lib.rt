@@ -25,6 +25,14 @@ pub struct Matrix {
     pub x33: f64,
 }
 
+// Four numbers: a row of a matrix.
+struct Row {
+    a: f64,
+    b: f64,
+    c: f64,
+    d: f64,
+}
+
 // A ray in other coordinates, its direction over its length, and that length.
 pub struct Scaled {
     pub ray: Ray,
@@ -46,6 +54,14 @@ fn mul_edge(v: Vector, lo: f64, hi: f64) -> BBox
     BBox {
         min: a.min(b),
         max: a.max(b),
+    }
+}
+
+impl Row {
+    fn new(a: f64, b: f64, c: f64, d: f64) -> Row
+        ensures { λ r. ⌜ r ≡ Matrices.rowOf a b c d ⌝ }
+    {
+        Row { a, b, c, d }
     }
 }
 
@@ -193,28 +209,51 @@ impl Matrix {
         Matrix::orthographic(l, r, b, t, n, f).mul(self)
     }
 
+    fn of_rows(p: Row, q: Row, r: Row, s: Row) -> Matrix
+        ensures { λ m. ⌜ m ≡ Matrices.ofRows p q r s ⌝ }
+    {
+        Matrix {
+            x00: p.a,
+            x01: p.b,
+            x02: p.c,
+            x03: p.d,
+            x10: q.a,
+            x11: q.b,
+            x12: q.c,
+            x13: q.d,
+            x20: r.a,
+            x21: r.b,
+            x22: r.c,
+            x23: r.d,
+            x30: s.a,
+            x31: s.b,
+            x32: s.c,
+            x33: s.d,
+        }
+    }
+
+    // A row times a matrix.
+    fn row_mul(r: Row, b: Matrix) -> Row
+        ensures { λ s. ⌜ s ≡ Matrices.rowMul r b ⌝ }
+    {
+        Row {
+            a: r.a * b.x00 + r.b * b.x10 + r.c * b.x20 + r.d * b.x30,
+            b: r.a * b.x01 + r.b * b.x11 + r.c * b.x21 + r.d * b.x31,
+            c: r.a * b.x02 + r.b * b.x12 + r.c * b.x22 + r.d * b.x32,
+            d: r.a * b.x03 + r.b * b.x13 + r.c * b.x23 + r.d * b.x33,
+        }
+    }
+
     pub fn mul(self, b: Matrix) -> Matrix
         ensures { λ r. ⌜ r ≡ Matrices.mulM self b ⌝ }
     {
         let a = self;
-        Matrix {
-            x00: a.x00 * b.x00 + a.x01 * b.x10 + a.x02 * b.x20 + a.x03 * b.x30,
-            x01: a.x00 * b.x01 + a.x01 * b.x11 + a.x02 * b.x21 + a.x03 * b.x31,
-            x02: a.x00 * b.x02 + a.x01 * b.x12 + a.x02 * b.x22 + a.x03 * b.x32,
-            x03: a.x00 * b.x03 + a.x01 * b.x13 + a.x02 * b.x23 + a.x03 * b.x33,
-            x10: a.x10 * b.x00 + a.x11 * b.x10 + a.x12 * b.x20 + a.x13 * b.x30,
-            x11: a.x10 * b.x01 + a.x11 * b.x11 + a.x12 * b.x21 + a.x13 * b.x31,
-            x12: a.x10 * b.x02 + a.x11 * b.x12 + a.x12 * b.x22 + a.x13 * b.x32,
-            x13: a.x10 * b.x03 + a.x11 * b.x13 + a.x12 * b.x23 + a.x13 * b.x33,
-            x20: a.x20 * b.x00 + a.x21 * b.x10 + a.x22 * b.x20 + a.x23 * b.x30,
-            x21: a.x20 * b.x01 + a.x21 * b.x11 + a.x22 * b.x21 + a.x23 * b.x31,
-            x22: a.x20 * b.x02 + a.x21 * b.x12 + a.x22 * b.x22 + a.x23 * b.x32,
-            x23: a.x20 * b.x03 + a.x21 * b.x13 + a.x22 * b.x23 + a.x23 * b.x33,
-            x30: a.x30 * b.x00 + a.x31 * b.x10 + a.x32 * b.x20 + a.x33 * b.x30,
-            x31: a.x30 * b.x01 + a.x31 * b.x11 + a.x32 * b.x21 + a.x33 * b.x31,
-            x32: a.x30 * b.x02 + a.x31 * b.x12 + a.x32 * b.x22 + a.x33 * b.x32,
-            x33: a.x30 * b.x03 + a.x31 * b.x13 + a.x32 * b.x23 + a.x33 * b.x33,
-        }
+        Matrix::of_rows(
+            Matrix::row_mul(Row::new(a.x00, a.x01, a.x02, a.x03), b),
+            Matrix::row_mul(Row::new(a.x10, a.x11, a.x12, a.x13), b),
+            Matrix::row_mul(Row::new(a.x20, a.x21, a.x22, a.x23), b),
+            Matrix::row_mul(Row::new(a.x30, a.x31, a.x32, a.x33), b),
+        )
     }
 
     pub fn mul_position(self, b: Vector) -> Vector
@@ -339,93 +378,128 @@ impl Matrix {
             + a.x03 * a.x12 * a.x21 * a.x30
     }
 
-    // The cofactors, transposed, each over d.
-    fn adjugate_over(self, d: f64) -> Matrix
-        ensures { λ r. ⌜ r ≡ Matrices.adjugateOver self d ⌝ }
+    fn adjugate_row0(self, d: f64) -> Row
+        ensures { λ r. ⌜ r ≡ Matrices.row0 (Matrices.adjugateOver self d) ⌝ }
     {
         let a = self;
-        Matrix {
-            x00: (a.x12 * a.x23 * a.x31 - a.x13 * a.x22 * a.x31 + a.x13 * a.x21 * a.x32
+        Row {
+            a: (a.x12 * a.x23 * a.x31 - a.x13 * a.x22 * a.x31 + a.x13 * a.x21 * a.x32
                 - a.x11 * a.x23 * a.x32
                 - a.x12 * a.x21 * a.x33
                 + a.x11 * a.x22 * a.x33)
                 / d,
-            x01: (a.x03 * a.x22 * a.x31 - a.x02 * a.x23 * a.x31 - a.x03 * a.x21 * a.x32
+            b: (a.x03 * a.x22 * a.x31 - a.x02 * a.x23 * a.x31 - a.x03 * a.x21 * a.x32
                 + a.x01 * a.x23 * a.x32
                 + a.x02 * a.x21 * a.x33
                 - a.x01 * a.x22 * a.x33)
                 / d,
-            x02: (a.x02 * a.x13 * a.x31 - a.x03 * a.x12 * a.x31 + a.x03 * a.x11 * a.x32
+            c: (a.x02 * a.x13 * a.x31 - a.x03 * a.x12 * a.x31 + a.x03 * a.x11 * a.x32
                 - a.x01 * a.x13 * a.x32
                 - a.x02 * a.x11 * a.x33
                 + a.x01 * a.x12 * a.x33)
                 / d,
-            x03: (a.x03 * a.x12 * a.x21 - a.x02 * a.x13 * a.x21 - a.x03 * a.x11 * a.x22
+            d: (a.x03 * a.x12 * a.x21 - a.x02 * a.x13 * a.x21 - a.x03 * a.x11 * a.x22
                 + a.x01 * a.x13 * a.x22
                 + a.x02 * a.x11 * a.x23
                 - a.x01 * a.x12 * a.x23)
                 / d,
-            x10: (a.x13 * a.x22 * a.x30 - a.x12 * a.x23 * a.x30 - a.x13 * a.x20 * a.x32
+        }
+    }
+
+    fn adjugate_row1(self, d: f64) -> Row
+        ensures { λ r. ⌜ r ≡ Matrices.row1 (Matrices.adjugateOver self d) ⌝ }
+    {
+        let a = self;
+        Row {
+            a: (a.x13 * a.x22 * a.x30 - a.x12 * a.x23 * a.x30 - a.x13 * a.x20 * a.x32
                 + a.x10 * a.x23 * a.x32
                 + a.x12 * a.x20 * a.x33
                 - a.x10 * a.x22 * a.x33)
                 / d,
-            x11: (a.x02 * a.x23 * a.x30 - a.x03 * a.x22 * a.x30 + a.x03 * a.x20 * a.x32
+            b: (a.x02 * a.x23 * a.x30 - a.x03 * a.x22 * a.x30 + a.x03 * a.x20 * a.x32
                 - a.x00 * a.x23 * a.x32
                 - a.x02 * a.x20 * a.x33
                 + a.x00 * a.x22 * a.x33)
                 / d,
-            x12: (a.x03 * a.x12 * a.x30 - a.x02 * a.x13 * a.x30 - a.x03 * a.x10 * a.x32
+            c: (a.x03 * a.x12 * a.x30 - a.x02 * a.x13 * a.x30 - a.x03 * a.x10 * a.x32
                 + a.x00 * a.x13 * a.x32
                 + a.x02 * a.x10 * a.x33
                 - a.x00 * a.x12 * a.x33)
                 / d,
-            x13: (a.x02 * a.x13 * a.x20 - a.x03 * a.x12 * a.x20 + a.x03 * a.x10 * a.x22
+            d: (a.x02 * a.x13 * a.x20 - a.x03 * a.x12 * a.x20 + a.x03 * a.x10 * a.x22
                 - a.x00 * a.x13 * a.x22
                 - a.x02 * a.x10 * a.x23
                 + a.x00 * a.x12 * a.x23)
                 / d,
-            x20: (a.x11 * a.x23 * a.x30 - a.x13 * a.x21 * a.x30 + a.x13 * a.x20 * a.x31
+        }
+    }
+
+    fn adjugate_row2(self, d: f64) -> Row
+        ensures { λ r. ⌜ r ≡ Matrices.row2 (Matrices.adjugateOver self d) ⌝ }
+    {
+        let a = self;
+        Row {
+            a: (a.x11 * a.x23 * a.x30 - a.x13 * a.x21 * a.x30 + a.x13 * a.x20 * a.x31
                 - a.x10 * a.x23 * a.x31
                 - a.x11 * a.x20 * a.x33
                 + a.x10 * a.x21 * a.x33)
                 / d,
-            x21: (a.x03 * a.x21 * a.x30 - a.x01 * a.x23 * a.x30 - a.x03 * a.x20 * a.x31
+            b: (a.x03 * a.x21 * a.x30 - a.x01 * a.x23 * a.x30 - a.x03 * a.x20 * a.x31
                 + a.x00 * a.x23 * a.x31
                 + a.x01 * a.x20 * a.x33
                 - a.x00 * a.x21 * a.x33)
                 / d,
-            x22: (a.x01 * a.x13 * a.x30 - a.x03 * a.x11 * a.x30 + a.x03 * a.x10 * a.x31
+            c: (a.x01 * a.x13 * a.x30 - a.x03 * a.x11 * a.x30 + a.x03 * a.x10 * a.x31
                 - a.x00 * a.x13 * a.x31
                 - a.x01 * a.x10 * a.x33
                 + a.x00 * a.x11 * a.x33)
                 / d,
-            x23: (a.x03 * a.x11 * a.x20 - a.x01 * a.x13 * a.x20 - a.x03 * a.x10 * a.x21
+            d: (a.x03 * a.x11 * a.x20 - a.x01 * a.x13 * a.x20 - a.x03 * a.x10 * a.x21
                 + a.x00 * a.x13 * a.x21
                 + a.x01 * a.x10 * a.x23
                 - a.x00 * a.x11 * a.x23)
                 / d,
-            x30: (a.x12 * a.x21 * a.x30 - a.x11 * a.x22 * a.x30 - a.x12 * a.x20 * a.x31
+        }
+    }
+
+    fn adjugate_row3(self, d: f64) -> Row
+        ensures { λ r. ⌜ r ≡ Matrices.row3 (Matrices.adjugateOver self d) ⌝ }
+    {
+        let a = self;
+        Row {
+            a: (a.x12 * a.x21 * a.x30 - a.x11 * a.x22 * a.x30 - a.x12 * a.x20 * a.x31
                 + a.x10 * a.x22 * a.x31
                 + a.x11 * a.x20 * a.x32
                 - a.x10 * a.x21 * a.x32)
                 / d,
-            x31: (a.x01 * a.x22 * a.x30 - a.x02 * a.x21 * a.x30 + a.x02 * a.x20 * a.x31
+            b: (a.x01 * a.x22 * a.x30 - a.x02 * a.x21 * a.x30 + a.x02 * a.x20 * a.x31
                 - a.x00 * a.x22 * a.x31
                 - a.x01 * a.x20 * a.x32
                 + a.x00 * a.x21 * a.x32)
                 / d,
-            x32: (a.x02 * a.x11 * a.x30 - a.x01 * a.x12 * a.x30 - a.x02 * a.x10 * a.x31
+            c: (a.x02 * a.x11 * a.x30 - a.x01 * a.x12 * a.x30 - a.x02 * a.x10 * a.x31
                 + a.x00 * a.x12 * a.x31
                 + a.x01 * a.x10 * a.x32
                 - a.x00 * a.x11 * a.x32)
                 / d,
-            x33: (a.x01 * a.x12 * a.x20 - a.x02 * a.x11 * a.x20 + a.x02 * a.x10 * a.x21
+            d: (a.x01 * a.x12 * a.x20 - a.x02 * a.x11 * a.x20 + a.x02 * a.x10 * a.x21
                 - a.x00 * a.x12 * a.x21
                 - a.x01 * a.x10 * a.x22
                 + a.x00 * a.x11 * a.x22)
                 / d,
         }
+    }
+
+    // The cofactors, transposed, each over d.
+    fn adjugate_over(self, d: f64) -> Matrix
+        ensures { λ r. ⌜ r ≡ Matrices.adjugateOver self d ⌝ }
+    {
+        Matrix::of_rows(
+            self.adjugate_row0(d),
+            self.adjugate_row1(d),
+            self.adjugate_row2(d),
+            self.adjugate_row3(d),
+        )
     }
 
     // The inverse, with the determinant that it divides by: one call answers both.
