@@ -16,7 +16,7 @@ use Rattle.rows.specs.Rows.{flat}
 use Rattle.rows.specs.Starts.{nextStart, rising}
 use Rattle.paths.specs.Paths.{pathsOf}
 use Rattle.drawing.specs.Numbers.{digitByte, decimalWord, decimalText}
-use Rattle.drawing.specs.Drawings.{pointText, pathText, drawingText}
+use Rattle.drawing.specs.Drawings.{pointText, pathText, drawingText, refusedText}
 use Rattle.drawing.proofs.Determined.{number-length}
 use Rattle.drawing.proofs.Texts.{length-paths}
 
@@ -88,3 +88,7 @@ pub text-fits : (vs : List Vector) (ss : List ℕ) → length vs ≤ 2048 → le
 text-fits vs ss h l r =
     let m : length (pathsOf vs ss) ≡ length ss = length-paths vs ss in
     omega (arith, text-length (pathsOf vs ss) (omega (arith, m)), paths-points vs ss r, m)
+
+pub refused-fits : (k : ℕ) → k < 10000 → length (refusedText k) ≤ 15
+unfolding refusedText decimalText
+refused-fits k h = simp length-append (omega (arith, decimal-length 20 4 k h (omega arith)))

@@ -4,7 +4,7 @@ use mathlib.Core.Bool.{Bool, true, false, cond}
 use mathlib.Core.List.{List, [], _∷_, _++_, map, append-assoc, append-nil}
 use Prim.Native.Nat.{ℕ, _+_, _-_, _≤_, _<_}
 use native.Mathlib.Omega.{arith}
-use borrow.Author.Tests.{lt-ltb, eq-eqb, ne-eqb}
+use borrow.Author.Tests.{ltb-true, lt-ltb, eq-eqb, ne-eqb}
 use lib.Dec.{ltb}
 use lib.ListN.{length, drop, length-append}
 use lib.Seq.{slice, take-all, take-append-le, drop-at, getD-at}
@@ -32,6 +32,16 @@ push-answered {A} room xs x ys e = by (ltb (length xs) room) e
     by : (t : Bool) → cond t (answered (xs ++ (x ∷ []))) (refused Room) ≡ answered ys → ys ≡ xs ++ (x ∷ [])
     by true q = cc
     by false q = no-answer Room q
+
+pub push-fits : {A : Type 0} (room : ℕ) (xs : List A) (x : A) (ys : List A) → push room xs x ≡ answered ys → length ys ≤ room
+unfolding push
+push-fits {A} room xs x ys e = by (ltb (length xs) room) refl e
+  where
+    by : (t : Bool) → ltb (length xs) room ≡ t → cond t (answered (xs ++ (x ∷ []))) (refused Room) ≡ answered ys → length ys ≤ room
+    by true l q =
+        let k : length (xs ++ (x ∷ [])) ≡ length ys = (let z : xs ++ (x ∷ []) ≡ ys = cc in ap length z) in
+        omega (arith, k, length-append xs (x ∷ []), ltb-true (length xs) room l)
+    by false l q = no-answer Room q
 
 pub extend-adds : {A : Type 0} (room : ℕ) (vs xs ys : List A) → extend room xs vs ≡ answered ys → ys ≡ xs ++ vs
 unfolding extend

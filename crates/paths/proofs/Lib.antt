@@ -6,3 +6,4 @@ pub mod Closing
 pub mod Judging
 pub mod Stages
 pub mod Adding
+pub mod Laying

@@ -2,3 +2,4 @@
 pub mod Left
 pub mod Replies
 pub mod Showing
+pub mod Fitting

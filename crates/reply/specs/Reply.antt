@@ -38,6 +38,10 @@ readText (got y ts) = drawnText (y .scene) (y .view)
 unfoldable pub replyOf : List ℕ → List ℕ
 replyOf text = readText (yardOf text)
 
+-- so many bytes hold every answer, of at most 2,048 points and path starts
+abbrev pub enough : ℕ
+enough = 129039
+
 -- what is printed of a text that has to fit in a slice: all of it, or nothing
 unfoldable pub shown : Answer (List ℕ) → List ℕ
 shown (answered t) = t

@@ -4,7 +4,7 @@ ghost use Prim.Native.Nat.{_≤_};
 ghost use lib.ListN.{length, take};
 ghost use Rattle.accept.specs.Checks.{sceneOf};
 ghost use Rattle.drawing.specs.Drawings.{fitting, written, laid};
-ghost use Rattle.reply.specs.Reply.{drawnText, replyOf, shown};
+ghost use Rattle.reply.specs.Reply.{enough, drawnText, replyOf, shown};
 use forms::Reading;
 use paths::Count;
 use view::View;
@@ -84,9 +84,11 @@ pub fn reply(text: &[u8], out: &mut [u8]) -> Count
     }
 }
 
-// How many bytes of `out` are the answer to a text: all of it, or none where `out` is too short.
+// How many bytes of `out` are the answer to a text: all of it, or none where `out` is too short, which a
+// slice of 129,039 bytes never is.
 pub fn answer(text: &[u8], out: &mut [u8]) -> usize
-    ensures { λ n. ⌜ (n ≤ length (now (out .exit))) × (take n (now (out .exit)) ≡ shown (fitting (length (now (out .entry))) (replyOf (now (text .entry))))) ⌝ }
+    ensures whole { λ n. ⌜ (enough ≤ length (now (out .entry)) → take n (now (out .exit)) ≡ replyOf (now (text .entry))) ⌝ }
+    ensures part { λ n. ⌜ (n ≤ length (now (out .exit))) × (take n (now (out .exit)) ≡ shown (fitting (length (now (out .entry))) (replyOf (now (text .entry))))) ⌝ }
 {
     let r = reply(text, out);
     match r {

@@ -28,7 +28,7 @@ use Rattle.queries.specs.Queries.{boxesLeft, sceneTree, plantedOf, builtAfter, 
 use Rattle.covering.specs.Scenes.{BuiltRows, accepted-scene, sees-tree, sees-nothing}
 use Rattle.render.specs.Render.{nearestOf}
 use Rattle.draw.proofs.Bridge.{planted-alike, own-boxes}
-use Rattle.sheets.specs.Drawing.{solidIn, boxIn, seenIn}
+use Rattle.draw.specs.Drawing.{solidIn, boxIn, seenIn}
 
 nearest-some : (solid : ℕ → Shape) (box : ℕ → BBox) (ids : List ℕ) (r : Ray) → 0 < length ids → nearestOf solid box ids r ≡ visit (λ (k : ℕ). shapeHit (solid k) r) r (treeFor box ids) 0 nothing
 unfolding nearestOf

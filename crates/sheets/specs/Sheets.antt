@@ -59,7 +59,7 @@ use Rattle.passing.specs.Passing.{Exactly, LeftAfterClipping, Passed, DroppedAs
 use Rattle.collect.specs.Collect.{handed}
 use Rattle.render.specs.Render.{Places, stepping, simplifiedLines, mapped}
 use Rattle.draw.specs.Draw.{millionth, drawOf}
-use Rattle.sheets.specs.Drawing.{solidIn, seenIn, Drawing, drawn-so}
+use Rattle.draw.specs.Drawing.{solidIn, seenIn, Drawing, drawn-so}
 use Rattle.sheets.specs.Seeing.{build-alike, seen-nothing, seen-tree, visible-is-seen}
 
 -- The public call, where it answers with so many points and paths: they stand in its slices, and are the drawing.

@@ -4,18 +4,18 @@ use mathlib.Core.Path.{_≡_, _∙_}
 use mathlib.Core.Bool.{Bool, false}
 use mathlib.Core.List.{List}
 use native.Mathlib.Numerals.{add-one}
+use native.Mathlib.Omega.{arith}
 use lib.ListN.{length, take, drop, replicate, length-replicate}
 use borrow.Author.Tests.{lt-leb, le-leb, lt-ltb, le-ltb}
 use Rattle.openings.specs.Heads.{same}
 use Rattle.words.specs.Words.{wordAt}
-use Rattle.drawing.specs.Drawings.{fitting}
-use Rattle.reply.specs.Reply.{replyOf, shown}
+use Rattle.reply.specs.Reply.{enough, replyOf}
 use Rattle.yard_check.specs.Records.{right, rightBetween, rightAt, missed, wrongOf, countOf}
 
 -- the slice for the answer has 131,072 places
-pub right-is : (text answer out : List ℕ) {b : Bool} → out ≡ shown (fitting (length {A = ℕ} (replicate 131072 0)) (replyOf text)) → b ≡ same out answer → b ≡ right text answer
+pub right-is : (text answer out : List ℕ) {b : Bool} → (enough ≤ length {A = ℕ} (replicate 131072 0) → out ≡ replyOf text) → b ≡ same out answer → b ≡ right text answer
 unfolding right
-right-is text answer out h e = e ∙ rw (h, length-replicate {A = ℕ} 131072 0)
+right-is text answer out h e = e ∙ rw (h (omega (arith, length-replicate {A = ℕ} 131072 0)))
 
 module _ (s : List ℕ) (a b c : ℕ) where
   first : b < a → false ≡ rightBetween s a b c

@@ -6,12 +6,11 @@ use lib.Dec.{leb, ltb}
 use lib.ListN.{length, take, drop}
 use Rattle.openings.specs.Heads.{same}
 use Rattle.words.specs.Words.{wordAt}
-use Rattle.drawing.specs.Drawings.{fitting}
-use Rattle.reply.specs.Reply.{replyOf, shown}
+use Rattle.reply.specs.Reply.{replyOf}
 
--- what `yard` prints of a text is this answer
+-- what `yard` answers a text is this
 unfoldable pub right : List ℕ → List ℕ → Bool
-right text answer = same (shown (fitting 131072 (replyOf text))) answer
+right text answer = same (replyOf text) answer
 
 unfoldable pub rightBetween : List ℕ → ℕ → ℕ → ℕ → Bool
 rightBetween s a b c = leb a b && (leb b c && (leb c (length s) && right (take (b - a) (drop a s)) (take (c - b) (drop b s))))

@@ -4,68 +4,49 @@ use Rattle.reply.proofs.Left.{drawn-wrote}
 use borrow.Author.Needs.{needs}
 use Rattle.reply.proofs.drawn.Statement.{statement}
 use Rattle.reply.proofs.drawn.Tie as tie
-use Rattle.reply.proofs.drawn.Reads as reads
-use Rattle.reply.proofs.drawn.Lts as lts
-use Rattle.draw.proofs.draw.Reads as draw-reads
-use Rattle.drawing.proofs.write_drawing.Reads as write-drawing-reads
 
--- src/lib.rt:40:9
 slice-aggregate-draw : tie.Need-slice-aggregate-draw
 slice-aggregate-draw c = search needs
 
--- src/lib.rt:41:9
 slice-aggregate-draw-2 : tie.Need-slice-aggregate-draw-2
 slice-aggregate-draw-2 c = search needs
 
--- src/lib.rt:42:9
 slice-aggregate-draw-3 : tie.Need-slice-aggregate-draw-3
 slice-aggregate-draw-3 c = search needs
 
--- src/lib.rt:43:9
 slice-aggregate-draw-4 : tie.Need-slice-aggregate-draw-4
 slice-aggregate-draw-4 c = search needs
 
--- src/lib.rt:44:9
 slice-aggregate-draw-5 : tie.Need-slice-aggregate-draw-5
 slice-aggregate-draw-5 c = search needs
 
--- src/lib.rt:45:9
 slice-aggregate-draw-6 : tie.Need-slice-aggregate-draw-6
 slice-aggregate-draw-6 c = search needs
 
--- src/lib.rt:46:9
 slice-aggregate-draw-7 : tie.Need-slice-aggregate-draw-7
 slice-aggregate-draw-7 c = search needs
 
--- src/lib.rt:47:9
 slice-aggregate-draw-8 : tie.Need-slice-aggregate-draw-8
 slice-aggregate-draw-8 c = search needs
 
--- src/lib.rt:48:9
 slice-aggregate-draw-9 : tie.Need-slice-aggregate-draw-9
 slice-aggregate-draw-9 c = search needs
 
--- src/lib.rt:33:9
 draw-requires : tie.Need-draw-requires
 draw-requires c κs = search needs
 
--- src/lib.rt:50:28
 slice-aggregate-write-drawing : tie.Need-slice-aggregate-write-drawing
 slice-aggregate-write-drawing c = search needs
 
--- src/lib.rt:50:34
 slice-aggregate-write-drawing-2 : tie.Need-slice-aggregate-write-drawing-2
 slice-aggregate-write-drawing-2 c = search needs
 
--- src/lib.rt:50:5
 write-drawing-requires : tie.Need-write-drawing-requires
 write-drawing-requires c κs = search needs
 
--- src/lib.rt:12:1
 same-length : tie.Need-same-length
 same-length c = search needs
 
--- src/lib.rt:12:1
 returns : tie.Need-returns
 returns c = drawn-wrote (sceneOf (c .before .before .before .before .before .before .before .before .before .before .before .before .before .before .before .before .before .before .before .before .before .before .before .before .before .before .before .before .before .before .before .args .numbers .now) (c .before .before .before .before .before .before .before .before .before .before .before .before .before .before .before .before .before .before .before .before .before .before .before .before .before .before .before .before .before .before .before .args .marks .now) (c .before .before .before .before .before .before .before .before .before .before .before .before .before .before .before .before .before .before .before .before .before .before .before .before .before .before .before .before .before .before .before .args .points .now) (c .before .before .before .before .before .before .before .before .before .before .before .before .before .before .before .before .before .before .before .before .before .before .before .before .before .before .before .before .before .before .before .args .starts .now) (c .before .before .before .before .before .before .before .before .before .before .before .before .before .before .before .before .before .before .before .before .before .before .before .before .before .before .before .before .before .before .before .args .owners .now)) (c .before .before .before .before .before .before .before .before .before .before .before .before .before .before .before .before .before .before .before .before .before .before .before .before .before .before .before .before .before .before .before .args .view) _ _ _ _ (c .before .before .before .before .before .before .before .before .before .before .before .before .before .before .before .draw .ensures .0) (length (c .before .before .before .before .before .before .before .before .before .before .before .before .before .before .before .before .before .before .before .before .before .before .before .before .before .before .before .before .before .before .before .args .text .now)) _ _ (c .before .before .write-drawing .ensures)
 

@@ -8,117 +8,85 @@ use Rattle.reply.proofs.Left.{wrote-as}
 use borrow.Author.Needs.{needs}
 use Rattle.reply.proofs.reply.Statement.{statement}
 use Rattle.reply.proofs.reply.Tie as tie
-use Rattle.reply.proofs.reply.Reads as reads
-use Rattle.reply.proofs.reply.Lts as lts
-use Rattle.drawing.proofs.write_refused.Reads as write-refused-reads
-use Rattle.forms.proofs.read.Reads as read-reads
-use Rattle.reply.proofs.drawn.Reads as drawn-reads
 
--- src/lib.rt:66:9
 slice-aggregate-read : tie.Need-slice-aggregate-read
 slice-aggregate-read c = search needs
 
--- src/lib.rt:67:9
 slice-aggregate-read-2 : tie.Need-slice-aggregate-read-2
 slice-aggregate-read-2 c = search needs
 
--- src/lib.rt:68:9
 slice-aggregate-read-3 : tie.Need-slice-aggregate-read-3
 slice-aggregate-read-3 c = search needs
 
--- src/lib.rt:69:9
 slice-aggregate-read-4 : tie.Need-slice-aggregate-read-4
 slice-aggregate-read-4 c = search needs
 
--- src/lib.rt:70:9
 slice-aggregate-read-5 : tie.Need-slice-aggregate-read-5
 slice-aggregate-read-5 c = search needs
 
--- src/lib.rt:64:9
 read-requires : tie.Need-read-requires
 read-requires c κs = search needs
 
--- src/lib.rt:73:55
 enum-told : tie.Need-enum-told
 enum-told c = search needs
 
--- src/lib.rt:73:29
 write-refused-requires : tie.Need-write-refused-requires
 write-refused-requires c κs = search needs
 
--- src/lib.rt:74:24
 enum-known-r : tie.Need-enum-known-r
 enum-known-r c = search needs
 
--- src/lib.rt:75:24
 mul-numbers : tie.Need-mul-numbers
 mul-numbers c = omega (arith, (read-fits _ _ _ _ _ (c .before .before .before .before .before .before .before .before .read .ensures .1 .1 .1 .1 .1 .1 .1) (c .before .r .given .1)) .0, (c .before .before .before .before .before .before .before .before .read .kept .1 .0))
 
--- src/lib.rt:75:13
 array-share-prefix-numbers : tie.Need-array-share-prefix-numbers
 array-share-prefix-numbers c = omega (arith, (read-fits _ _ _ _ _ (c .before .before .before .before .before .before .before .before .read .ensures .1 .1 .1 .1 .1 .1 .1) (c .before .r .given .1)) .0, (c .before .before .before .before .before .before .before .before .read .kept .1 .0))
 
--- src/lib.rt:75:13
 slice-aggregate-drawn : tie.Need-slice-aggregate-drawn
 slice-aggregate-drawn c = sym (length-take-le _ _ ((read-fits _ _ _ _ _ (c .before .before .before .before .before .before .before .before .before .read .ensures .1 .1 .1 .1 .1 .1 .1) (c .before .before .r .given .1)) .0))
 
--- src/lib.rt:76:22
 mul-marks : tie.Need-mul-marks
 mul-marks c = omega (arith, (read-fits _ _ _ _ _ (c .before .before .before .before .before .before .before .before .before .read .ensures .1 .1 .1 .1 .1 .1 .1) (c .before .before .r .given .1)) .1 .0, (c .before .before .before .before .before .before .before .before .before .read .kept .1 .1 .0))
 
--- src/lib.rt:76:13
 array-share-prefix-marks : tie.Need-array-share-prefix-marks
 array-share-prefix-marks c = omega (arith, (read-fits _ _ _ _ _ (c .before .before .before .before .before .before .before .before .before .read .ensures .1 .1 .1 .1 .1 .1 .1) (c .before .before .r .given .1)) .1 .0, (c .before .before .before .before .before .before .before .before .before .read .kept .1 .1 .0))
 
--- src/lib.rt:76:13
 slice-aggregate-drawn-2 : tie.Need-slice-aggregate-drawn-2
 slice-aggregate-drawn-2 c = sym (length-take-le _ _ ((read-fits _ _ _ _ _ (c .before .before .before .before .before .before .before .before .before .before .read .ensures .1 .1 .1 .1 .1 .1 .1) (c .before .before .before .r .given .1)) .1 .0))
 
--- src/lib.rt:77:23
 mul-points : tie.Need-mul-points
 mul-points c = omega (arith, (read-fits _ _ _ _ _ (c .before .before .before .before .before .before .before .before .before .before .read .ensures .1 .1 .1 .1 .1 .1 .1) (c .before .before .before .r .given .1)) .1 .1 .0, (c .before .before .before .before .before .before .before .before .before .before .read .kept .1 .1 .1 .0))
 
--- src/lib.rt:77:13
 array-share-prefix-points : tie.Need-array-share-prefix-points
 array-share-prefix-points c = omega (arith, (read-fits _ _ _ _ _ (c .before .before .before .before .before .before .before .before .before .before .read .ensures .1 .1 .1 .1 .1 .1 .1) (c .before .before .before .r .given .1)) .1 .1 .0, (c .before .before .before .before .before .before .before .before .before .before .read .kept .1 .1 .1 .0))
 
--- src/lib.rt:77:13
 slice-aggregate-drawn-3 : tie.Need-slice-aggregate-drawn-3
 slice-aggregate-drawn-3 c = sym (length-take-le _ _ ((read-fits _ _ _ _ _ (c .before .before .before .before .before .before .before .before .before .before .before .read .ensures .1 .1 .1 .1 .1 .1 .1) (c .before .before .before .before .r .given .1)) .1 .1 .0))
 
--- src/lib.rt:78:13
 array-share-prefix-starts : tie.Need-array-share-prefix-starts
 array-share-prefix-starts c = omega (arith, (read-fits _ _ _ _ _ (c .before .before .before .before .before .before .before .before .before .before .before .read .ensures .1 .1 .1 .1 .1 .1 .1) (c .before .before .before .before .r .given .1)) .1 .1 .1 .0, (c .before .before .before .before .before .before .before .before .before .before .before .read .kept .1 .1 .1 .1 .0))
 
--- src/lib.rt:78:13
 slice-aggregate-drawn-4 : tie.Need-slice-aggregate-drawn-4
 slice-aggregate-drawn-4 c = sym (length-take-le _ _ ((read-fits _ _ _ _ _ (c .before .before .before .before .before .before .before .before .before .before .before .before .read .ensures .1 .1 .1 .1 .1 .1 .1) (c .before .before .before .before .before .r .given .1)) .1 .1 .1 .0))
 
--- src/lib.rt:79:13
 array-share-prefix-owners : tie.Need-array-share-prefix-owners
 array-share-prefix-owners c = omega (arith, (read-fits _ _ _ _ _ (c .before .before .before .before .before .before .before .before .before .before .before .before .read .ensures .1 .1 .1 .1 .1 .1 .1) (c .before .before .before .before .before .r .given .1)) .1 .1 .1 .1, (c .before .before .before .before .before .before .before .before .before .before .before .before .read .kept .1 .1 .1 .1 .1 .0))
 
--- src/lib.rt:79:13
 slice-aggregate-drawn-5 : tie.Need-slice-aggregate-drawn-5
 slice-aggregate-drawn-5 c = sym (length-take-le _ _ ((read-fits _ _ _ _ _ (c .before .before .before .before .before .before .before .before .before .before .before .before .before .read .ensures .1 .1 .1 .1 .1 .1 .1) (c .before .before .before .before .before .before .r .given .1)) .1 .1 .1 .1))
 
--- src/lib.rt:74:42
 drawn-requires : tie.Need-drawn-requires
 drawn-requires c κs = search needs
 
--- src/lib.rt:55:1
 same-length : tie.Need-same-length
 same-length c = search needs
 
--- src/lib.rt:55:1
 returns : tie.Need-returns
 returns c = wrote-as (length (c .before .before .before .before .before .before .before .before .before .before .before .before .before .before .before .before .before .before .before .args .out .now)) _ _ (reply-refused (c .before .before .before .before .before .before .before .before .before .before .before .before .before .before .before .before .before .before .before .args .text .now) _ (c .before .before .before .before .before .before .before .before .before .before .before .read .last .1 .0) (c .before .before .before .before .before .before .before .before .before .before .before .read .last .1 .1 .0) (c .before .before .before .before .before .before .before .before .before .before .before .read .last .1 .1 .1 .0) (c .before .before .before .before .before .before .before .before .before .before .before .read .last .1 .1 .1 .1 .0) (c .before .before .before .before .before .before .before .before .before .before .before .read .last .1 .1 .1 .1 .1 .0) (c .before .before .before .before .before .before .before .before .before .before .before .read .ensures .1 .1 .1 .1 .1 .1 .0) (c .before .before .before .before .enum-told .given .1)) (c .before .before .write-refused .ensures)
 
--- src/lib.rt:55:1
 same-length-2 : tie.Need-same-length-2
 same-length-2 c = search needs
 
--- src/lib.rt:55:1
 returns-2 : tie.Need-returns-2
 returns-2 c = wrote-as (length (c .before .before .before .before .before .before .before .before .before .before .before .before .before .before .before .before .before .before .before .before .before .before .before .before .before .args .out .now)) _ _ (reply-drawn (c .before .before .before .before .before .before .before .before .before .before .before .before .before .before .before .before .before .before .before .before .before .before .before .before .before .args .text .now) _ (c .before .before .before .before .before .before .before .before .before .before .before .before .before .before .before .before .before .read .last .1 .0) (c .before .before .before .before .before .before .before .before .before .before .before .before .before .before .before .before .before .read .last .1 .1 .0) (c .before .before .before .before .before .before .before .before .before .before .before .before .before .before .before .before .before .read .last .1 .1 .1 .0) (c .before .before .before .before .before .before .before .before .before .before .before .before .before .before .before .before .before .read .last .1 .1 .1 .1 .0) (c .before .before .before .before .before .before .before .before .before .before .before .before .before .before .before .before .before .read .last .1 .1 .1 .1 .1 .0) (c .before .before .before .before .before .before .before .before .before .before .before .before .before .before .before .before .before .read .ensures .1 .1 .1 .1 .1 .1 .0) _ _ _ _ (c .before .before .before .before .before .before .before .before .before .before .r .given .1)) (c .before .before .drawn .ensures)
 

@@ -4,34 +4,24 @@ use Rattle.yard_check.proofs.Laws.{right-is}
 use borrow.Author.Needs.{needs}
 use Rattle.yard_check.proofs.right.Statement.{statement}
 use Rattle.yard_check.proofs.right.Tie as tie
-use Rattle.yard_check.proofs.right.Reads as reads
-use Rattle.yard_check.proofs.right.Lts as lts
-use Rattle.reply.proofs.answer.Reads as answer-reads
-use Rattle.yard_check.proofs.same.Reads as same-reads
 
--- src/main.rt:31:33
 slice-aggregate-answer : tie.Need-slice-aggregate-answer
 slice-aggregate-answer c = search needs
 
--- src/main.rt:31:9
 answer-requires : tie.Need-answer-requires
 answer-requires c κs = search needs
 
--- src/main.rt:32:10
 array-share-prefix-out : tie.Need-array-share-prefix-out
 array-share-prefix-out c = search needs
 
--- src/main.rt:32:10
 slice-aggregate-same : tie.Need-slice-aggregate-same
-slice-aggregate-same c = sym (length-take-le _ _ (c .before .before .answer .ensures .0))
+slice-aggregate-same c = sym (length-take-le _ _ (c .before .before .answer .ensures .1 .0))
 
--- src/main.rt:32:5
 same-requires : tie.Need-same-requires
 same-requires c κs = search needs
 
--- src/main.rt:27:1
 returns : tie.Need-returns
-returns c = right-is (c .before .before .before .before .before .before .before .args .text .now) (c .before .before .before .before .before .before .before .args .expected .now) _ (c .before .before .before .answer .ensures .1) (c .same .ensures)
+returns c = right-is (c .before .before .before .before .before .before .before .args .text .now) (c .before .before .before .before .before .before .before .args .expected .now) _ (c .before .before .before .answer .ensures .0) (c .same .ensures)
 
 pub right-spec : {M : Type 1} → statement M
 right-spec =

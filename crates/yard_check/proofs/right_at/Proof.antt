@@ -2,80 +2,58 @@ use Rattle.yard_check.proofs.Laws.{first-falls, second-falls, over, bet
 use borrow.Author.Needs.{needs}
 use Rattle.yard_check.proofs.right_at.Statement.{statement}
 use Rattle.yard_check.proofs.right_at.Tie as tie
-use Rattle.yard_check.proofs.right_at.Reads as reads
-use Rattle.yard_check.proofs.right_at.Lts as lts
-use Rattle.words.proofs.word.Reads as word-reads
-use Rattle.yard_check.proofs.right.Reads as right-reads
 
--- src/main.rt:40:28
 mul-word : tie.Need-mul-word
 mul-word c = search needs
 
--- src/main.rt:40:28
 add-word : tie.Need-add-word
 add-word c = search needs
 
--- src/main.rt:40:13
 word-requires : tie.Need-word-requires
 word-requires c κs = search needs
 
--- src/main.rt:41:28
 mul-word-2 : tie.Need-mul-word-2
 mul-word-2 c = search needs
 
--- src/main.rt:41:28
 add-word-2 : tie.Need-add-word-2
 add-word-2 c = search needs
 
--- src/main.rt:41:13
 word-requires-2 : tie.Need-word-requires-2
 word-requires-2 c κs = search needs
 
--- src/main.rt:42:28
 mul-word-3 : tie.Need-mul-word-3
 mul-word-3 c = search needs
 
--- src/main.rt:42:28
 add-word-3 : tie.Need-add-word-3
 add-word-3 c = search needs
 
--- src/main.rt:42:13
 word-requires-3 : tie.Need-word-requires-3
 word-requires-3 c κs = search needs
 
--- src/main.rt:44:9
 returns : tie.Need-returns
 returns c = first-falls (c .before .before .before .before .before .args .s .now) (c .before .before .before .before .before .args .i) _ _ _ (c .before .before .before .word .ensures) (c .before .before .word2 .ensures) (c .before .word3 .ensures) (c .if1 .taken)
 
--- src/main.rt:47:9
 returns-2 : tie.Need-returns-2
 returns-2 c = second-falls (c .before .before .before .before .before .before .args .s .now) (c .before .before .before .before .before .before .args .i) _ _ _ (c .before .before .before .before .word .ensures) (c .before .before .before .word2 .ensures) (c .before .before .word3 .ensures) (c .before .if1 .left) (c .if2 .taken)
 
--- src/main.rt:50:9
 returns-3 : tie.Need-returns-3
 returns-3 c = over (c .before .before .before .before .before .before .before .args .s .now) (c .before .before .before .before .before .before .before .args .i) _ _ _ (c .before .before .before .before .before .word .ensures) (c .before .before .before .before .word2 .ensures) (c .before .before .before .word3 .ensures) (c .before .before .if1 .left) (c .before .if2 .left) (c .if3 .taken)
 
--- src/main.rt:52:11
 part-right-start : tie.Need-part-right-start
 part-right-start c = search needs
 
--- src/main.rt:52:11
 part-right-end : tie.Need-part-right-end
 part-right-end c = search needs
 
--- src/main.rt:52:21
 part-right-start-2 : tie.Need-part-right-start-2
 part-right-start-2 c = search needs
 
--- src/main.rt:52:21
 part-right-end-2 : tie.Need-part-right-end-2
 part-right-end-2 c = search needs
 
--- src/main.rt:52:5
 right-requires : tie.Need-right-requires
 right-requires c κs = search needs
 
--- src/main.rt:36:1
 returns-4 : tie.Need-returns-4
 returns-4 c = between (c .before .before .before .before .before .before .before .before .before .before .args .s .now) (c .before .before .before .before .before .before .before .before .before .before .args .i) _ _ _ (c .before .before .before .before .before .before .before .before .word .ensures) (c .before .before .before .before .before .before .before .word2 .ensures) (c .before .before .before .before .before .before .word3 .ensures) (c .before .before .before .before .before .if1 .left) (c .before .before .before .before .if2 .left) (c .before .before .before .if3 .left) (c .right .ensures)
 

@@ -6,10 +6,6 @@ use Rattle.yard_check.proofs.Laws.{one-more}
 use borrow.Author.Needs.{needs}
 use Rattle.yard_check.proofs.wrong.Statement.{statement}
 use Rattle.yard_check.proofs.wrong.Tie as tie
-use Rattle.yard_check.proofs.wrong.Reads as reads
-use Rattle.yard_check.proofs.wrong.Lts as lts
-use Rattle.yard_check.proofs.count.Reads as count-reads
-use Rattle.yard_check.proofs.miss.Reads as miss-reads
 
 abbrev Inv-loop : tie.InvT-loop
 Inv-loop s all n₀ i₀ n i = (i ≤ all) × ((n ≡ wrongOf s i) × (n ≤ i))
@@ -17,36 +13,28 @@ Inv-loop s all n₀ i₀ n i = (i ≤ all) × ((n ≡ wrongOf s i) × (n ≤ i))
 abbrev μ-loop : tie.MeasureT-loop
 μ-loop s all n₀ i₀ n i = all - i
 
--- src/main.rt:81:9
 count-requires : tie.Need-count-requires Inv-loop μ-loop
 count-requires c κs = search needs
 
--- src/main.rt:84:5
 loop-holds : tie.Need-loop-holds Inv-loop μ-loop
 unfolding wrongOf
 loop-holds c = search needs
 
--- src/main.rt:85:14
 miss-requires : tie.Need-miss-requires Inv-loop μ-loop
 miss-requires c κs = omega (arith, c .before .before .count .ensures .1, c .loop-test .taken)
 
--- src/main.rt:85:9
 add-n : tie.Need-add-n Inv-loop μ-loop
 add-n c = search needs
 
--- src/main.rt:86:9
 add-i : tie.Need-add-i Inv-loop μ-loop
 add-i c = search needs
 
--- src/main.rt:84:5
 loop-less : tie.Need-loop-less Inv-loop μ-loop
 loop-less c = search needs
 
--- src/main.rt:84:5
 loop-again : tie.Need-loop-again Inv-loop μ-loop
 loop-again c = (omega (arith, c .before .loop-test .taken), (one-more (c .before .before .before .before .before .args .s .now) (c .before .before .loop .i) (c .before .before .loop .n) (c .miss .result) (c .before .before .loop .inv .1 .0) (c .miss .ensures .0), omega (arith, c .before .before .loop .inv .1 .1, c .miss .ensures .1)))
 
--- src/main.rt:78:1
 returns : tie.Need-returns Inv-loop μ-loop
 returns c = let e : c .before .loop .i ≡ countOf (c .before .before .before .before .args .s .now) = omega (arith, c .before .before .count .ensures .0, c .before .loop .inv .0, c .loop-test .left) in c .before .loop .inv .1 .0 ∙ ap (wrongOf (c .before .before .before .before .args .s .now)) e
 

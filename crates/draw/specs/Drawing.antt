@@ -1,10 +1,14 @@
 -- The steps of a draw that is answered, each with its result.
 use Prim.Native.Nat.{ℕ}
-use mathlib.Core.Path.{_≡_, refl, sym, ap, fun-ext, _∙_}
+use mathlib.Core.Path.{_≡_, refl, sym, ap, fun-ext, subst, _∙_}
 use mathlib.Core.Bool.{Bool, true, false, cond}
+use mathlib.Core.List.{map}
 use native.Mathlib.Omega.{arith}
+use lib.ListN.{length-map}
+use lib.Ieee.{Float}
 use Rattle.geometry.specs.declared.vector.Vector.{Vector}
 use Rattle.geometry.specs.declared.bounding_box.BBox.{BBox}
+use Rattle.matrix.specs.Matrices.{mulPosition}
 use Rattle.scene.specs.Entries.{ownEntry}
 use Rattle.scene.specs.declared.refusal.Refusal.{Refusal}
 use Rattle.scene.specs.declared.refusal.Refusal.the-variants.{View as BadView}
@@ -21,14 +25,18 @@ use Rattle.queries.specs.declared.Built.the-variants.{Nodes, Refused as NotBuil
 use Rattle.paths.specs.Answers.{Answer, answered, refused, next}
 use Rattle.paths.specs.Paths.{Paths, noPaths}
 use Rattle.paths.proofs.Adding.{next-answered}
+use Rattle.paths.proofs.Laying.{Laid, moved-laid}
+use Rattle.simplify.specs.Simplify.{simplifyPaths}
+use Rattle.simplify.proofs.Laying.{simplify-laid}
+use Rattle.filter.proofs.Laying.{filter-laid}
 use Rattle.view.specs.Views.{viewOk, viewport, argsOf}
 use Rattle.view.specs.declared.View.{View}
-use Rattle.clip.specs.Clip.{clipPaths}
+use Rattle.clip.specs.Clip.{clipFilter, clipPaths}
 use Rattle.collect.specs.Lined.{bare, ownLines}
-use Rattle.collect.specs.Collect.{choppedLines, collectedAll}
+use Rattle.collect.specs.Collect.{handed, choppedLines, collectedAll}
 use Rattle.collect.proofs.Nesting.{bare-read}
 use Rattle.render.specs.Render.{Places, stepping, seenBy, onTree, seenLines, simplifiedLines, mapped, staged, rendered}
 use Rattle.draw.specs.Draw.{linedIn, millionth, render, drawnAfter, drawOf}
 
 -- the solid at entry i of a scene, and document 01's own box of it
 abbrev pub solidIn : Scene → ℕ → Shape
@@ -132,3 +140,22 @@ module _ (s : Scene) (v : View) (w : Places) where
         simplifies = h .4;
         maps = sym (same (g .2));
       }
+
+-- ---- the slices of the result
+simplified-laid : (t : Float) (room startRoom : ℕ) (p : Paths) {o : Paths} → simplifiedLines t room startRoom p ≡ answered o → Laid room startRoom o
+unfolding simplifiedLines
+simplified-laid t room startRoom p {o} e =
+    let a = next-answered (handed p) (λ (q : Paths). simplifyPaths t (q .vertices) (q .starts) room startRoom) o e in
+    simplify-laid t (a .0 .vertices) (a .0 .starts) room startRoom (a .2)
+
+-- The drawing's starts rise, and it has no more points and starts than places.
+pub drawing-laid : {s : Scene} {v : View} {w : Places} {q : Paths} → Drawing s v w q → Laid (w .points) (w .starts) q
+unfolding mapped
+drawing-laid {s} {v} {w} D =
+    let m = mulPosition (viewport (v .width) (v .height)) in
+    subst (Laid (w .points) (w .starts)) (sym (D .maps)) (moved-laid (D .left) (map m (D .left .vertices)) (length-map (D .left .vertices) m) (by (stepping v) (D .filters) (D .simplifies)))
+  where
+    by : (b : Bool) → clipPaths (v .matrix) (seenIn s (v .eye)) (D .lines .vertices) (D .lines .starts) (cond b (w .lines .points) (w .points)) (cond b (w .lines .starts) (w .starts)) ≡ answered (D .passed)
+        → cond b (simplifiedLines millionth (w .points) (w .starts) (D .passed)) (answered (D .passed)) ≡ answered (D .left) → Laid (w .points) (w .starts) (D .left)
+    by true f e = simplified-laid millionth (w .points) (w .starts) (D .passed) e
+    by false f e = subst (Laid (w .points) (w .starts)) (same e) (filter-laid (clipFilter (v .matrix) (seenIn s (v .eye))) (D .lines .vertices) (D .lines .starts) f)
