@@ -24,7 +24,7 @@ use Rattle.queries.specs.declared.Built.{Built}
 use Rattle.queries.specs.declared.Built.the-variants.{Nodes, Refused as NotBuilt}
 use Rattle.paths.specs.Answers.{Answer, answered, refused, next}
 use Rattle.paths.specs.Paths.{Paths, noPaths}
-use Rattle.paths.proofs.Adding.{next-answered}
+use Rattle.paths.proofs.Adding.{no-answer, same-answer, next-answered}
 use Rattle.paths.proofs.Laying.{Laid, moved-laid}
 use Rattle.simplify.specs.Simplify.{simplifyPaths}
 use Rattle.simplify.proofs.Laying.{simplify-laid}
@@ -74,25 +74,19 @@ pub record Drawing (s : Scene) (v : View) (w : Places) (q : Paths) : Type 0 wher
   pub maps : q ≡ mapped (viewport (v .width) (v .height)) left
 
 -- ---- what is answered was answered at each step
-clash : {k : Refusal} {x : Paths} → _≡_ {A = Answer Paths} (refused k) (answered x) → ⊥
-clash e = let z : _≡_ {A = ℕ} 0 1 = cc in omega arith
-
-same : {x y : Paths} → _≡_ {A = Answer Paths} (answered x) (answered y) → x ≡ y
-same e = cc
-
 drawn-accepted : (d : Verdict) (a : Answer Paths) {q : Paths} → drawnAfter d a ≡ answered q → (n : ℕ) × (d ≡ Accepted n) × (a ≡ answered q)
 unfolding drawnAfter
 drawn-accepted (Accepted n) a e = (n, refl, e)
-drawn-accepted (Refused k) a e = absurd (clash e)
+drawn-accepted (Refused k) a e = no-answer k e
 
 view-passes : (b : Bool) (a : Answer Paths) {q : Paths} → cond b a (refused BadView) ≡ answered q → (b ≡ true) × (a ≡ answered q)
 view-passes true a e = (refl, e)
-view-passes false a e = absurd (clash e)
+view-passes false a e = no-answer BadView e
 
 tree-built : (b : Built) (a : Answer Paths) {q : Paths} → onTree b a ≡ answered q → (n : ℕ) × (b ≡ Nodes n) × (a ≡ answered q)
 unfolding onTree
 tree-built (Nodes n) a e = (n, refl, e)
-tree-built (NotBuilt k) a e = absurd (clash e)
+tree-built (NotBuilt k) a e = no-answer k e
 
 -- steps 2 to 5, whatever the steps are
 module _ (chop : Answer Paths) (see : ℕ → ℕ → Paths → Answer Paths) (simplify : Paths → Answer Paths) (p left : Paths) (r u r′ u′ : ℕ) where
@@ -138,7 +132,7 @@ module _ (s : Scene) (v : View) (w : Places) where
         filters = t .2;
         left = g .0;
         simplifies = h .4;
-        maps = sym (same (g .2));
+        maps = sym (same-answer (g .2));
       }
 
 -- ---- the slices of the result
@@ -158,4 +152,4 @@ drawing-laid {s} {v} {w} D =
     by : (b : Bool) → clipPaths (v .matrix) (seenIn s (v .eye)) (D .lines .vertices) (D .lines .starts) (cond b (w .lines .points) (w .points)) (cond b (w .lines .starts) (w .starts)) ≡ answered (D .passed)
         → cond b (simplifiedLines millionth (w .points) (w .starts) (D .passed)) (answered (D .passed)) ≡ answered (D .left) → Laid (w .points) (w .starts) (D .left)
     by true f e = simplified-laid millionth (w .points) (w .starts) (D .passed) e
-    by false f e = subst (Laid (w .points) (w .starts)) (same e) (filter-laid (clipFilter (v .matrix) (seenIn s (v .eye))) (D .lines .vertices) (D .lines .starts) f)
+    by false f e = subst (Laid (w .points) (w .starts)) (same-answer e) (filter-laid (clipFilter (v .matrix) (seenIn s (v .eye))) (D .lines .vertices) (D .lines .starts) f)

@@ -13,6 +13,7 @@ use Rattle.scene.specs.declared.refusal.Refusal.the-variants.{Room}
 use Rattle.nodes.specs.Members.{Member}
 use Rattle.paths.specs.Answers.{Answer, answered, refused, next}
 use Rattle.paths.specs.Paths.{Paths, pathsWith, push, opened, closed, pathsOf, each, noPaths, stage}
+use Rattle.paths.proofs.Adding.{no-answer, same-answer, next-answered, push-answered}
 use Rattle.filter.specs.Filter.{stepped, filteredFrom, pathFilter, filterPaths}
 use Rattle.filter.specs.declared.Test.{Test}
 use Rattle.filter.specs.declared.Test.the-variants.{Keep, Drop, Refused}
@@ -41,30 +42,11 @@ keptOf test (p ∷ ps) = kept test p ++ keptOf test ps
 abbrev pub AllAnswered : (Vector → Test) → List (List Vector) → Type 0
 AllAnswered test ps = (p : List Vector) → Member p ps → (v : Vector) → Member v p → Answered (test v)
 
-clash : {A : Type 0} {k : Refusal} {x : A} → _≡_ {A = Answer A} (refused k) (answered x) → ⊥
-clash e = let z : _≡_ {A = ℕ} 0 1 = cc in omega arith
-
-same : {A : Type 0} {x y : A} → _≡_ {A = Answer A} (answered x) (answered y) → x ≡ y
-same e = cc
-
--- what is answered in the end was answered on the way
-went : {A B : Type 0} (a : Answer A) (f : A → Answer B) {y : B} → next a f ≡ answered y → (x : A) × (a ≡ answered x) × (f x ≡ answered y)
-went (answered x) f e = (x, refl, e)
-went (refused k) f e = absurd (clash e)
-
-pushed : {A : Type 0} (room : ℕ) (xs : List A) (x : A) {ys : List A} → push room xs x ≡ answered ys → ys ≡ xs ++ (x ∷ [])
-unfolding push
-pushed {A} room xs x {ys} e = go (ltb (length xs) room) e
-  where
-    go : (b : Bool) → cond b (answered (xs ++ (x ∷ []))) (refused Room) ≡ answered ys → ys ≡ xs ++ (x ∷ [])
-    go true e = sym (same e)
-    go false e = absurd (clash e)
-
 opened-points : (room : ℕ) (o : Paths) {q : Paths} → opened room o ≡ answered q → q .vertices ≡ o .vertices
 unfolding opened
 opened-points room o {q} e =
-    let w = went (push room (o .starts) (length (o .vertices))) (λ (ss : List ℕ). answered (pathsWith (o .vertices) ss)) e in
-    ap (λ (p : Paths). p .vertices) (sym (same (w .2)))
+    let w = next-answered (push room (o .starts) (length (o .vertices))) (λ (ss : List ℕ). answered (pathsWith (o .vertices) ss)) _ e in
+    ap (λ (p : Paths). p .vertices) (sym (same-answer (w .2)))
 
 closed-points : (o : Paths) → closed o .vertices ≡ o .vertices
 unfolding closed
@@ -74,10 +56,10 @@ closed-points o = refl
 step-points : (room startRoom : ℕ) (t : Test) (o : Paths) {q : Paths} → stepped room startRoom t o ≡ answered q → (q .vertices ≡ o .vertices ++ before t []) × Answered t
 unfolding stepped before
 step-points room startRoom (Keep w) o {q} e =
-    let s = went (push room (o .vertices) w) (λ (vs : List Vector). answered (pathsWith vs (o .starts))) e in
-    (ap (λ (p : Paths). p .vertices) (sym (same (s .2))) ∙ pushed room (o .vertices) w (s .1), λ k h. let z : _≡_ {A = ℕ} 0 1 = cc in omega arith)
+    let s = next-answered (push room (o .vertices) w) (λ (vs : List Vector). answered (pathsWith vs (o .starts))) _ e in
+    (ap (λ (p : Paths). p .vertices) (sym (same-answer (s .2))) ∙ push-answered room (o .vertices) w (s .0) (s .1), λ k h. let z : _≡_ {A = ℕ} 0 1 = cc in omega arith)
 step-points room startRoom Drop o e = (opened-points startRoom (closed o) e ∙ closed-points o ∙ sym (append-nil (o .vertices)), λ k h. let z : _≡_ {A = ℕ} 0 1 = cc in omega arith)
-step-points room startRoom (Refused j) o e = absurd (clash e)
+step-points room startRoom (Refused j) o e = no-answer j e
 
 before-append : (t : Test) (ws : List Vector) → before t [] ++ ws ≡ before t ws
 unfolding before
@@ -90,9 +72,9 @@ module _ (test : Vector → Test) (room startRoom : ℕ) where
   from-points : (vs : List Vector) (o : Paths) {q : Paths} → filteredFrom test room startRoom vs o ≡ answered q
       → (q .vertices ≡ o .vertices ++ kept test vs) × ((v : Vector) → Member v vs → Answered (test v))
   unfolding filteredFrom kept
-  from-points [] o e = (ap (λ (p : Paths). p .vertices) (sym (same e)) ∙ sym (append-nil (o .vertices)), λ v m. absurd m)
+  from-points [] o e = (ap (λ (p : Paths). p .vertices) (sym (same-answer e)) ∙ sym (append-nil (o .vertices)), λ v m. absurd m)
   from-points (v ∷ vs) o {q} e =
-      let s = went (stepped room startRoom (test v) o) (filteredFrom test room startRoom vs) e in
+      let s = next-answered (stepped room startRoom (test v) o) (filteredFrom test room startRoom vs) _ e in
       let one = step-points room startRoom (test v) o (s .1) in
       let more = from-points vs (s .0) (s .2) in (
         more .0 ∙ ap (λ (l : List Vector). l ++ kept test vs) (one .0) ∙ append-assoc (o .vertices) (before (test v) []) (kept test vs)
@@ -108,18 +90,18 @@ module _ (test : Vector → Test) (room startRoom : ℕ) where
       → (q .vertices ≡ o .vertices ++ kept test p) × ((v : Vector) → Member v p → Answered (test v))
   unfolding pathFilter
   path-points p o {q} e =
-      let s = went (opened startRoom o) (λ (u : Paths). next (filteredFrom test room startRoom p u) (λ (r : Paths). answered (closed r))) e in
-      let t = went (filteredFrom test room startRoom p (s .0)) (λ (r : Paths). answered (closed r)) (s .2) in
+      let s = next-answered (opened startRoom o) (λ (u : Paths). next (filteredFrom test room startRoom p u) (λ (r : Paths). answered (closed r))) _ e in
+      let t = next-answered (filteredFrom test room startRoom p (s .0)) (λ (r : Paths). answered (closed r)) _ (s .2) in
       let f = from-points p (s .0) (t .1) in
-      (ap (λ (r : Paths). r .vertices) (sym (same (t .2))) ∙ closed-points (t .0) ∙ f .0 ∙ ap (λ (l : List Vector). l ++ kept test p) (opened-points startRoom o (s .1)), f .1)
+      (ap (λ (r : Paths). r .vertices) (sym (same-answer (t .2))) ∙ closed-points (t .0) ∙ f .0 ∙ ap (λ (l : List Vector). l ++ kept test p) (opened-points startRoom o (s .1)), f .1)
 
   -- ---- all paths
   each-points : (ps : List (List Vector)) (o : Paths) {q : Paths} → each (pathFilter test room startRoom) ps o ≡ answered q
       → (q .vertices ≡ o .vertices ++ keptOf test ps) × AllAnswered test ps
   unfolding each keptOf
-  each-points [] o e = (ap (λ (p : Paths). p .vertices) (sym (same e)) ∙ sym (append-nil (o .vertices)), λ p m. absurd m)
+  each-points [] o e = (ap (λ (p : Paths). p .vertices) (sym (same-answer e)) ∙ sym (append-nil (o .vertices)), λ p m. absurd m)
   each-points (p ∷ ps) o {q} e =
-      let s = went (pathFilter test room startRoom p o) (each (pathFilter test room startRoom) ps) e in
+      let s = next-answered (pathFilter test room startRoom p o) (each (pathFilter test room startRoom) ps) _ e in
       let one = path-points p o (s .1) in
       let more = each-points ps (s .0) (s .2) in
       (more .0 ∙ ap (λ (l : List Vector). l ++ keptOf test ps) (one .0) ∙ append-assoc (o .vertices) (kept test p) (keptOf test ps), λ u m. by u (one .1) (more .1) m)

@@ -17,8 +17,11 @@ use Rattle.paths.specs.Paths.{Paths, pathsWith, noPaths, push, extend, p
 use Rattle.paths.proofs.Runs.{front-snoc}
 
 -- ---- answers
-no-answer : {A B : Type 0} {x : A} (e : Refusal) → refused e ≡ answered x → B
+pub no-answer : {A B : Type 0} {x : A} (e : Refusal) → refused e ≡ answered x → B
 no-answer e q = let z : _≡_ {A = ℕ} 0 1 = cc in absurd (omega arith)
+
+pub same-answer : {A : Type 0} {x y : A} → _≡_ {A = Answer A} (answered x) (answered y) → x ≡ y
+same-answer e = cc
 
 -- what came before an answer was answered too
 pub next-answered : {A B : Type 0} (a : Answer A) (f : A → Answer B) (y : B) → next a f ≡ answered y → (x : A) × (a ≡ answered x) × (f x ≡ answered y)

@@ -12,7 +12,7 @@ use Rattle.geometry.specs.declared.vector.Vector.{Vector}
 use Rattle.rows.specs.Starts.{nextStart, rising}
 use Rattle.paths.specs.Answers.{Answer, answered, next}
 use Rattle.paths.specs.Paths.{Paths, pathsWith, noPaths, push, extend, opened, closedStarts, closed, front, onePath, each}
-use Rattle.paths.proofs.Adding.{next-answered, push-answered, push-fits}
+use Rattle.paths.proofs.Adding.{same-answer, next-answered, push-answered, push-fits}
 
 -- ---- starts that rise among n points
 abbrev Rises : ℕ → List ℕ → Type 0
@@ -66,9 +66,6 @@ laid-rising {p = p} h = rises-rising (length (p .vertices)) (p .starts) (h .rise
 pub laid-low : {room startRoom : ℕ} {p : Paths} → Laid room startRoom p → (j : ℕ) → j < length (p .starts) → getD (p .starts) j 0 ≤ length (p .vertices)
 laid-low {p = p} h = rises-low (length (p .vertices)) (p .starts) (h .rises)
 
-same : {A : Type 0} {x y : A} → _≡_ {A = Answer A} (answered x) (answered y) → x ≡ y
-same e = cc
-
 module _ {room startRoom : ℕ} where
   pub laid-none : Laid room startRoom noPaths
   laid-none = record { rises = omega arith; points-fit = omega arith; starts-fit = omega arith }
@@ -79,7 +76,7 @@ module _ {room startRoom : ℕ} where
       let n = length (o .vertices) in
       let w = next-answered (push startRoom (o .starts) n) (λ (ss : List ℕ). answered (pathsWith (o .vertices) ss)) q e in
       let a = push-answered startRoom (o .starts) n (w .0) (w .1) in
-      subst (Laid room startRoom) (same (w .2)) (record { rises = subst (Rises n) (sym a) (rises-snoc n (o .starts) (h .rises)); points-fit = h .points-fit; starts-fit = push-fits startRoom (o .starts) n (w .0) (w .1) })
+      subst (Laid room startRoom) (same-answer (w .2)) (record { rises = subst (Rises n) (sym a) (rises-snoc n (o .starts) (h .rises)); points-fit = h .points-fit; starts-fit = push-fits startRoom (o .starts) n (w .0) (w .1) })
 
   pub closed-laid : (o : Paths) → Laid room startRoom o → Laid room startRoom (closed o)
   unfolding closed closedStarts front
@@ -97,7 +94,7 @@ module _ {room startRoom : ℕ} where
 
   pub extended-laid : (ws : List Vector) (o : Paths) (vs : List Vector) → extend room (o .vertices) ws ≡ answered vs → Laid room startRoom o → Laid room startRoom (pathsWith vs (o .starts))
   unfolding extend
-  extended-laid [] o vs e h = subst (λ (us : List Vector). Laid room startRoom (pathsWith us (o .starts))) (same e) h
+  extended-laid [] o vs e h = subst (λ (us : List Vector). Laid room startRoom (pathsWith us (o .starts))) (same-answer e) h
   extended-laid (v ∷ ws) o vs e h =
       let w = next-answered (push room (o .vertices) v) (λ (us : List Vector). extend room us ws) vs e in
       extended-laid ws (pathsWith (w .0) (o .starts)) vs (w .2) (pushed-laid v o (w .0) (w .1) h)
@@ -112,13 +109,13 @@ module _ {room startRoom : ℕ} where
   one-laid made p o q e h =
       let a = next-answered (opened startRoom o) (λ (u : Paths). next (extend room (u .vertices) (made p)) (λ (vs : List Vector). answered (closed (pathsWith vs (u .starts))))) q e in
       let b = next-answered (extend room (a .0 .vertices) (made p)) (λ (vs : List Vector). answered (closed (pathsWith vs (a .0 .starts)))) q (a .2) in
-      subst (Laid room startRoom) (same (b .2)) (closed-laid (pathsWith (b .0) (a .0 .starts)) (extended-laid (made p) (a .0) (b .0) (b .1) (opened-laid o (a .0) (a .1) h)))
+      subst (Laid room startRoom) (same-answer (b .2)) (closed-laid (pathsWith (b .0) (a .0 .starts)) (extended-laid (made p) (a .0) (b .0) (b .1) (opened-laid o (a .0) (a .1) h)))
 
   -- all paths, by what each does
   pub each-laid : (f : List Vector → Paths → Answer Paths) → ((p : List Vector) (o q : Paths) → f p o ≡ answered q → Laid room startRoom o → Laid room startRoom q)
       → (ps : List (List Vector)) (o q : Paths) → each f ps o ≡ answered q → Laid room startRoom o → Laid room startRoom q
   unfolding each
-  each-laid f keeps [] o q e h = subst (Laid room startRoom) (same e) h
+  each-laid f keeps [] o q e h = subst (Laid room startRoom) (same-answer e) h
   each-laid f keeps (p ∷ ps) o q e h =
       let w = next-answered (f p o) (each f ps) q e in
       each-laid f keeps ps (w .0) q (w .2) (keeps p o (w .0) (w .1) h)

@@ -43,7 +43,7 @@ use Rattle.paths.specs.Judged.{pointsOk}
 use Rattle.paths.specs.declared.Counts.{Counts}
 use Rattle.paths.specs.declared.Counts.the-variants.{Both}
 use Rattle.paths.proofs.Closing.{finished-held}
-use Rattle.paths.proofs.Adding.{next-answered}
+use Rattle.paths.proofs.Adding.{no-answer, same-answer, next-answered}
 use Rattle.rdp.specs.Rdp.{thresholdOk}
 use Rattle.rdp.specs.Demand.{Accepted, Simplifies}
 use Rattle.simplify.specs.Simplify.{simplifyPaths}
@@ -189,19 +189,13 @@ others-bring-nothing-back s s′ n is i j same drawn′ v point c apart directio
     covered-point-dropped D point put left (solidIn s′ j) (covers-alike s s′ n (D .count) is (D .accepted) i j same (v .eye) point c) apart direction (j, drawn′, refl)
 
 -- ---- simplification
-clash : {k : Refusal} {x : Paths} → _≡_ {A = Answer Paths} (refused k) (answered x) → ⊥
-clash e = let z : _≡_ {A = ℕ} 0 1 = cc in omega arith
-
-same-paths : {x y : Paths} → _≡_ {A = Answer Paths} (answered x) (answered y) → x ≡ y
-same-paths e = cc
-
 handed-over : (p : Paths) {o : Paths} → handed p ≡ answered o → (pointsOk (p .vertices) ≡ true) × (p ≡ o)
 unfolding handed
 handed-over p {o} e = go (pointsOk (p .vertices)) e
   where
     go : (b : Bool) → cond b (answered p) (refused Point) ≡ answered o → (b ≡ true) × (p ≡ o)
-    go true e = (refl, same-paths e)
-    go false e = absurd (clash e)
+    go true e = (refl, same-answer e)
+    go false e = no-answer Point e
 
 millionth-ok : T (thresholdOk millionth)
 unfolding thresholdOk ofBits le
@@ -223,7 +217,7 @@ module _ {s : Scene} {v : View} {w : Places} {q : Paths} (D : Drawing s v w q) w
   -- At step 0 nothing is simplified.
   pub unsimplified-so : stepping v ≡ false → D .left ≡ D .passed
   unsimplified-so h =
-      sym (same-paths (sym (ap (λ (b : Bool). cond b (simplifiedLines millionth (w .points) (w .starts) (D .passed)) (answered (D .passed))) h) ∙ D .simplifies))
+      sym (same-answer (sym (ap (λ (b : Bool). cond b (simplifiedLines millionth (w .points) (w .starts) (D .passed)) (answered (D .passed))) h) ∙ D .simplifies))
 
 -- ---- the sheet
 module _ {A B : Type 0} (f : A → B) where
