@@ -1,2 +1,3 @@
 pub mod Nested
 pub mod Lengths
+pub mod Segments

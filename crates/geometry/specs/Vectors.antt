@@ -100,3 +100,15 @@ unfoldable pub segmentDistance : Vector → Vector → Vector → Float
 segmentDistance p v w =
     cond (eq (distanceSquared v w) zeroF) (distanceOf p v)
     (footDistance p v w (dot (subV p v) (subV w v) ⊘ distanceSquared v w))
+
+-- the squares of the two, whose roots they are (`segment-root` of proofs/Segments.antt)
+unfoldable pub footSquare : Vector → Vector → Vector → Float → Float
+footSquare p v w t =
+    cond (lt t zeroF) (distanceSquared p v)
+    (cond (lt oneF t) (distanceSquared p w)
+    (distanceSquared (addV v (mulScalar (subV w v) t)) p))
+
+unfoldable pub segmentSquare : Vector → Vector → Vector → Float
+segmentSquare p v w =
+    cond (eq (distanceSquared v w) zeroF) (distanceSquared p v)
+    (footSquare p v w (dot (subV p v) (subV w v) ⊘ distanceSquared v w))

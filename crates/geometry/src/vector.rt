@@ -232,24 +232,31 @@ impl Vector {
     pub fn segment_distance(self, v: Vector, w: Vector) -> f64
         ensures { λ r. ⌜ r ≡ Vectors.segmentDistance self v w ⌝ }
     {
-        let l2 = v.distance_squared(w);
-        if l2 == 0.0 {
-            return self.gap(v);
-        }
-        self.foot_distance(v, w, self.sub(v).dot(w.sub(v)) / l2)
+        sqrt::root(self.segment_square(v, w))
     }
 
-    // The distance from the segment where the foot of the perpendicular lies at t, from 0 at v to 1 at w.
-    fn foot_distance(self, v: Vector, w: Vector, t: f64) -> f64
-        ensures { λ r. ⌜ r ≡ Vectors.footDistance self v w t ⌝ }
+    // The square of the distance from the segment, for callers that can do without most of the roots.
+    pub fn segment_square(self, v: Vector, w: Vector) -> f64
+        ensures { λ r. ⌜ r ≡ Vectors.segmentSquare self v w ⌝ }
+    {
+        let l2 = v.distance_squared(w);
+        if l2 == 0.0 {
+            return self.distance_squared(v);
+        }
+        self.foot_square(v, w, self.sub(v).dot(w.sub(v)) / l2)
+    }
+
+    // The same where the foot of the perpendicular lies at t, from 0 at v to 1 at w.
+    fn foot_square(self, v: Vector, w: Vector, t: f64) -> f64
+        ensures { λ r. ⌜ r ≡ Vectors.footSquare self v w t ⌝ }
     {
         if t < 0.0 {
-            return self.gap(v);
+            return self.distance_squared(v);
         }
         if t > 1.0 {
-            return self.gap(w);
+            return self.distance_squared(w);
         }
-        v.add(w.sub(v).mul_scalar(t)).gap(self)
+        v.add(w.sub(v).mul_scalar(t)).distance_squared(self)
     }
 }
 

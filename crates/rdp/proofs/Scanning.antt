@@ -10,11 +10,14 @@ use native.Mathlib.Omega.{arith}
 use lib.Dec.{T}
 use lib.ListN.{length}
 use lib.Seq.{slice, slice-cons, slice-empty, length-slice}
-use lib.Ieee.{Float, lt, le}
+use lib.Ieee.{Float, lt, le, ofBits}
 use Rattle.floats.specs.Arith.{zeroF}
 use Rattle.floats.specs.Numbers.{number}
 use Rattle.floats.proofs.Order.{le-refl, le-trans, not-gt→le, lt→le, le-number-r}
-use Rattle.geometry.specs.Vectors.{segmentDistance}
+use Rattle.sqrt.specs.Root.{sqrtOf}
+use Rattle.sqrt.proofs.Monotone.{sqrt-above}
+use Rattle.geometry.specs.Vectors.{segmentDistance, segmentSquare}
+use Rattle.geometry.proofs.Segments.{segment-root}
 use Rattle.geometry.specs.declared.vector.Vector.{Vector}
 use Rattle.paths.specs.Ends.{nowhere}
 use Rattle.rdp.specs.declared.Far.{Far}
@@ -31,21 +34,35 @@ module _ (p : List Vector) where
   scanning-start h = record { upto = h; left = refl }
 
   module _ (f : Far) (i : ℕ) (h : Scanning p f i) where
-    pub scanning-turn : (v a b : Vector) (d : Float) (g : Far) → i + 1 < length p → a ≡ firstOf p → b ≡ lastOf p → v ≡ vertex p i → d ≡ segmentDistance v a b → g ≡ farther f i d → Scanning p g (i + 1)
+    pub scanning-turn : (v a b : Vector) (q : Float) (g : Far) → i + 1 < length p → a ≡ firstOf p → b ≡ lastOf p → v ≡ vertex p i → q ≡ segmentSquare v a b → g ≡ farther f i (sqrtOf q) → Scanning p g (i + 1)
     unfolding farthestFrom
-    scanning-turn v a b d g l ea eb ev ed eg =
+    scanning-turn v a b q g l ea eb ev eq eg =
         let s : slice i (length p - 1) p ≡ vertex p i ∷ slice (i + 1) (length p - 1) p = rw add-one (slice-cons i (length p - 1) p nowhere (omega arith) (omega arith)) in
         let e : farthestFrom (firstOf p) (lastOf p) i (slice i (length p - 1) p) f
         ≡ farthestFrom (firstOf p) (lastOf p) (i + 1) (slice (i + 1) (length p - 1) p) (farther f i (segmentDistance (vertex p i) (firstOf p) (lastOf p)))
         = ap (λ (t : List Vector). farthestFrom (firstOf p) (lastOf p) i t f) s in
-        let q : g ≡ farther f i (segmentDistance (vertex p i) (firstOf p) (lastOf p)) = rw (eg, ed, ea, eb, ev) in
-        record { upto = omega arith; left = rw q (sym e ∙ h .left) }
+        let t : g ≡ farther f i (segmentDistance (vertex p i) (firstOf p) (lastOf p)) = rw (eg, eq, ea, eb, ev, segment-root (vertex p i) (firstOf p) (lastOf p)) in
+        record { upto = omega arith; left = rw t (sym e ∙ h .left) }
 
     pub scanning-end : length p ≤ i + 1 → f ≡ farthestOf p
     unfolding farthestFrom
     scanning-end l =
         let e : length p - 1 ≡ i = omega (arith, h .upto) in
         sym (rw (e, slice-empty i p)) ∙ h .left
+
+-- ---- the farthest so far and the square whose root its distance is
+pub root-start : zeroF ≡ sqrtOf zeroF
+unfolding sqrtOf ofBits
+root-start = refl
+
+-- a square that is not greater changes nothing
+pub stays : (f : Far) (i : ℕ) (s q : Float) → f .distance ≡ sqrtOf s → lt s q ≡ false → f ≡ farther f i (sqrtOf q)
+unfolding farther
+stays f i s q r e = by (lt (f .distance) (sqrtOf q)) (λ (t : T (lt (f .distance) (sqrtOf q))). sqrt-above s q (rw (← r) t))
+  where
+    by : (t : Bool) → (T t → T (lt s q)) → f ≡ cond t (record { index = i; distance = sqrtOf q }) f
+    by true k = absurd (subst T e (k tt))
+    by false k = refl
 
 -- ---- where the farthest stands: nowhere new, or among the vertices scanned
 abbrev Found : ℕ → ℕ → Far → Far → Type 0

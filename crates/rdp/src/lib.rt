@@ -3,6 +3,7 @@ ghost use mathlib.Core.Path.{_≡_};
 ghost use Prim.Native.Nat.{_+_, _*_, _≤_};
 ghost use lib.ListN.{length};
 ghost use lib.Seq.{slice};
+ghost use Rattle.sqrt.specs.Root.{sqrtOf};
 ghost use Rattle.paths.specs.Ends.{allPoints};
 ghost use Rattle.rdp.specs.Rdp as Rdp;
 ghost use Rattle.rdp.specs.Rdp.{farthestOf, thresholdOk};
@@ -13,16 +14,32 @@ pub struct Far {
     pub distance: f64,
 }
 
-fn farther(f: Far, i: usize, d: f64) -> Far
-    ensures { λ r. ⌜ r ≡ Rdp.farther f i d ⌝ }
+// The farthest vertex so far, and the square whose root its distance is.
+struct Best {
+    far: Far,
+    square: f64,
+}
+
+// The vertex at place i, the square of whose distance is q, takes over if it is farther. No root is
+// greater but that of a greater square; of such a square it may still be the same.
+fn tried(best: Best, i: usize, q: f64) -> Best
+    requires { ⌜ best .far .distance ≡ sqrtOf (best .square) ⌝ }
+    ensures far { λ r. ⌜ r .far ≡ Rdp.farther (best .far) i (sqrtOf q) ⌝ }
+    ensures root { λ r. ⌜ r .far .distance ≡ sqrtOf (r .square) ⌝ }
 {
+    if !(q > best.square) {
+        return best;
+    }
+    let d = sqrt::root(q);
+    let f = best.far;
     if d > f.distance {
-        return Far {
+        let far = Far {
             index: i,
             distance: d,
         };
+        return Best { far, square: q };
     }
-    f
+    best
 }
 
 // The first farthest vertex between the ends of the path from `from` up to `end`, from the segment
@@ -34,18 +51,19 @@ pub fn farthest(path: &[f64], from: usize, end: usize) -> Far
     let a = rows::read_point(path, from);
     let b = rows::read_point(path, end - 1);
     let last = end - from - 1;
-    let mut f = Far {
+    let far = Far {
         index: 0,
         distance: 0.0,
     };
+    let mut best = Best { far, square: 0.0 };
     let mut i = 1;
     while i < last {
         let p = rows::read_point(path, from + i);
-        let d = p.segment_distance(a, b);
-        f = farther(f, i, d);
+        let q = p.segment_square(a, b);
+        best = tried(best, i, q);
         i += 1;
     }
-    f
+    best.far
 }
 
 // Finite and not negative.

@@ -1,4 +1,4 @@
--- The computed square root keeps the order, is a number from zero on, and halves the exponent of a bound. Assumes nothing.
+-- The computed square root keeps the order, is a number from zero on and nowhere else, and halves the exponent of a bound. Assumes nothing.
 use mathlib.Core.Path.{_≡_, refl, sym, ap, _∙_, subst}
 use mathlib.Core.Logic.{inl, inr}
 use mathlib.Core.Bool.{Bool, true, false, _&&_}
@@ -8,7 +8,7 @@ use native.Mathlib.Omega.{arith}
 use lib.IntN.{ℤ}
 use lib.Dec.{T, ltb, leb, eqb, leb→le, ltb→lt}
 use lib.Pow.{pow-add, pow-pos, pow-mono}
-use lib.Ieee.{Float, nan, inf, fin, binary64, up, down, size, odd, le, fits, ofBits}
+use lib.Ieee.{Float, nan, inf, fin, binary64, up, down, size, odd, lt, le, fits, ofBits}
 use lib.Ieee.Digits.{size-lt, size-le, size-reaches}
 use lib.Ieee.Nearest.{div-mono}
 use lib.Ieee.Fits.{up-pos, down-pos}
@@ -18,7 +18,7 @@ use lib.Ieee.Scale.{finite}
 use lib.Ieee.Positive.{num, den, den-pos, value→cross, positive, positive-finite, first-pos}
 use Rattle.floats.specs.Arith.{zeroF}
 use Rattle.floats.specs.Numbers.{number}
-use Rattle.floats.proofs.Order.{finite-number, le-top, le-or-lt}
+use Rattle.floats.proofs.Order.{finite-number, le-top, le-or-lt, le-or-gt, le-not-gt, lt-number-l, lt-number-r, le-number-r, cross→le}
 use Rattle.floats.proofs.Order as Order
 use Rattle.floats.proofs.Nonneg.{unsigned, le→sizes, sizes→le, value-nonneg, positive-num, positive-nonneg}
 use Rattle.floats.proofs.Bounds.{Small, of-num, small-num, small-finite, value-finite}
@@ -178,6 +178,23 @@ sqrt-mono (fin s m e) nan a h = absurd h
 sqrt-mono (fin s m e) (inf true) a h = absurd h
 sqrt-mono (fin s m e) (inf false) a h = le-top (sqrtOf (fin s m e)) (sqrt-number (fin s m e) a)
 sqrt-mono (fin s m e) (fin t n d) a h = sqrt-mono-fin (fin s m e) (fin t n d) tt tt a h
+
+-- a root that is a number is that of a float from zero on
+pub sqrt-nonneg : (x : Float) → T (number (sqrtOf x)) → T (le zeroF x)
+unfolding sqrtOf le ofBits
+sqrt-nonneg nan h = absurd h
+sqrt-nonneg (inf true) h = absurd h
+sqrt-nonneg (inf false) h = tt
+sqrt-nonneg (fin true zero e) h = cross→le zeroF (fin true zero e) tt tt (omega arith)
+sqrt-nonneg (fin true (suc m) e) h = absurd h
+sqrt-nonneg (fin false m e) h = cross→le zeroF (fin false m e) tt tt (omega arith)
+
+-- a greater root is the root of a greater float
+pub sqrt-above : (x y : Float) → T (lt (sqrtOf x) (sqrtOf y)) → T (lt x y)
+sqrt-above x y h =
+    let a = sqrt-nonneg x (lt-number-l (sqrtOf x) (sqrtOf y) h) in
+    let b = sqrt-nonneg y (lt-number-r (sqrtOf x) (sqrtOf y) h) in
+    elim (le-or-gt y x (le-number-r zeroF y b) (le-number-r zeroF x a)) [ inl i ↦ absurd (le-not-gt (sqrtOf y) (sqrtOf x) (sqrt-mono y x b i) h) | inr i ↦ i ]
 
 pub sqrt-zero : (s : Bool) (e : ℤ) → sqrtOf (fin s 0 e) ≡ fin s 0 e
 unfolding sqrtOf

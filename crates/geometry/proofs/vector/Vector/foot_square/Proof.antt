@@ -1,0 +1,18 @@
+use Rattle.geometry.specs.Vectors.{footSquare}
+use Rattle.geometry.proofs.vector.Vector.foot_square.Statement.{statement}
+use Rattle.geometry.proofs.vector.Vector.foot_square.Tie as tie
+
+returns : tie.Need-returns
+unfolding footSquare
+returns c = simp (c .before .if1 .taken, ← c .distance-squared .ensures)
+
+returns-2 : tie.Need-returns-2
+unfolding footSquare
+returns-2 c = simp (c .before .before .if1 .left, c .before .if2 .taken, ← c .distance-squared2 .ensures)
+
+returns-3 : tie.Need-returns-3
+unfolding footSquare
+returns-3 c = simp (c .before .before .before .before .before .if1 .left, c .before .before .before .before .if2 .left, ← c .before .before .before .sub .ensures, ← c .before .before .mul-scalar .ensures, ← c .before .add .ensures, ← c .distance-squared3 .ensures)
+
+pub foot-square-spec : {M : Type 1} → statement M
+foot-square-spec = tie.close (tie.spec (λ c κs. tt) returns (λ c κs. tt) returns-2 (λ c κs. tt) (λ c κs. tt) (λ c κs. tt) (λ c κs. tt) returns-3)
