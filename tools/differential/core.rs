@@ -5,37 +5,14 @@ use crate::host::{self, raw};
 use crate::scene_calls::{Found, SceneCalls};
 use oracle::Scene;
 
-#[link(name = "host", kind = "static")]
-unsafe extern "C" {
-    safe fn larnt_sqrt(x: f64) -> f64;
-    safe fn larnt_box_test(b: &[f64; 6], ray: &[f64; 6], span: &mut [f64; 2]);
-    safe fn larnt_project(m: &[f64; 16], p: &[f64; 3], projected: &mut [f64; 3]);
-    safe fn larnt_inverse(m: &[f64; 16], inverse: &mut [f64; 16]) -> f64;
-    safe fn larnt_solid_hit(
-        kind: u32,
-        n: &[f64; 16],
-        ray: &[f64; 6],
-        t: &mut f64,
-        ok: &mut bool,
-    ) -> u32;
-    safe fn larnt_solid_box(kind: u32, n: &[f64; 16], b: &mut [f64; 6]) -> u32;
-    safe fn larnt_solid_contains(
-        kind: u32,
-        n: &[f64; 16],
-        p: &[f64; 3],
-        f: f64,
-        inside: &mut bool,
-    ) -> u32;
-}
-
 pub const CORE: Calls = Calls {
-    sqrt: larnt_sqrt,
-    box_test: larnt_box_test,
-    project: larnt_project,
-    inverse: larnt_inverse,
-    solid_hit: larnt_solid_hit,
-    solid_box: larnt_solid_box,
-    solid_contains: larnt_solid_contains,
+    sqrt: raw::larnt_sqrt,
+    box_test: raw::larnt_box_test,
+    project: raw::larnt_project,
+    inverse: raw::larnt_inverse,
+    solid_hit: raw::larnt_solid_hit,
+    solid_box: raw::larnt_solid_box,
+    solid_contains: raw::larnt_solid_contains,
 };
 
 /// The same through the functions that a host in Rust uses.
@@ -97,7 +74,8 @@ extern "C" fn host_solid_contains(
     number
 }
 
-fn numbered<T: Default>(result: Result<T, u32>) -> (u32, T) {
+/// A result as a call of the header gives it: its number, and what is filled.
+pub fn numbered<T: Default>(result: Result<T, u32>) -> (u32, T) {
     match result {
         Ok(value) => (0, value),
         Err(number) => (number, T::default()),
@@ -110,7 +88,7 @@ pub const CORE_SCENES: SceneCalls =
 pub const HOST_SCENES: SceneCalls =
     SceneCalls { check: host_check, own_hit: host_own_hit, own_contains: host_own_contains };
 
-/// A direct call on a scene.
+/// A direct call on a scene, for every layer.
 macro_rules! direct {
     ($call:ident, $s:ident, $($more:expr),*) => {
         unsafe {
@@ -130,6 +108,7 @@ macro_rules! direct {
         }
     };
 }
+pub(crate) use direct;
 
 fn core_check(s: &Scene, found: &mut Found) -> u32 {
     let Found { inverses, boxes, drawn, count } = found;
@@ -145,7 +124,7 @@ fn core_own_contains(s: &Scene, i: usize, p: &[f64; 3], f: f64, inside: &mut boo
 }
 
 /// A scene as a host in Rust hands it over.
-fn lent(s: &Scene) -> host::Scene<'_> {
+pub fn lent(s: &Scene) -> host::Scene<'_> {
     host::Scene {
         numbers: &s.numbers,
         marks: &s.marks,

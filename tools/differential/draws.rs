@@ -1,6 +1,7 @@
 //! The draw: a scene and a view to a drawing, in lent slices.
 
 use crate::calls;
+use crate::core::{self, direct};
 use crate::draw_inputs::{self, Draw, Lengths, Rooms};
 use crate::harness::{Part, Run, Share, time_rounds};
 use crate::host::{self, raw};
@@ -95,51 +96,34 @@ impl Lent {
 }
 
 fn core_draw(s: &Scene, view: &[f64; 22], lent: &mut Lent) -> u32 {
-    unsafe {
-        raw::larnt_draw(
-            s.numbers.as_ptr(),
-            s.numbers.len(),
-            s.marks.as_ptr(),
-            s.marks.len(),
-            s.points.as_ptr(),
-            s.points.len(),
-            s.starts.as_ptr(),
-            s.starts.len(),
-            s.owners.as_ptr(),
-            s.owners.len(),
-            view,
-            lent.out.as_mut_ptr(),
-            lent.out.len(),
-            lent.begins.as_mut_ptr(),
-            lent.begins.len(),
-            lent.work.as_mut_ptr(),
-            lent.work.len(),
-            lent.work_starts.as_mut_ptr(),
-            lent.work_starts.len(),
-            lent.chopped.as_mut_ptr(),
-            lent.chopped.len(),
-            lent.chopped_starts.as_mut_ptr(),
-            lent.chopped_starts.len(),
-            lent.hulls.as_mut_ptr(),
-            lent.hulls.len(),
-            lent.records.as_mut_ptr(),
-            lent.records.len(),
-            lent.order.as_mut_ptr(),
-            lent.order.len(),
-            &mut lent.points,
-            &mut lent.paths,
-        )
-    }
+    direct!(
+        larnt_draw,
+        s,
+        view,
+        lent.out.as_mut_ptr(),
+        lent.out.len(),
+        lent.begins.as_mut_ptr(),
+        lent.begins.len(),
+        lent.work.as_mut_ptr(),
+        lent.work.len(),
+        lent.work_starts.as_mut_ptr(),
+        lent.work_starts.len(),
+        lent.chopped.as_mut_ptr(),
+        lent.chopped.len(),
+        lent.chopped_starts.as_mut_ptr(),
+        lent.chopped_starts.len(),
+        lent.hulls.as_mut_ptr(),
+        lent.hulls.len(),
+        lent.records.as_mut_ptr(),
+        lent.records.len(),
+        lent.order.as_mut_ptr(),
+        lent.order.len(),
+        &mut lent.points,
+        &mut lent.paths
+    )
 }
 
 fn host_draw(s: &Scene, view: &[f64; 22], lent: &mut Lent) -> u32 {
-    let scene = host::Scene {
-        numbers: &s.numbers,
-        marks: &s.marks,
-        points: &s.points,
-        starts: &s.starts,
-        owners: &s.owners,
-    };
     let work = host::Work {
         work: &mut lent.work,
         work_starts: &mut lent.work_starts,
@@ -149,7 +133,7 @@ fn host_draw(s: &Scene, view: &[f64; 22], lent: &mut Lent) -> u32 {
         records: &mut lent.records,
         order: &mut lent.order,
     };
-    let result = host::draw(scene, view, &mut lent.out, &mut lent.begins, work);
+    let result = host::draw(core::lent(s), view, &mut lent.out, &mut lent.begins, work);
     (lent.points, lent.paths) = result.unwrap_or_default();
     result.err().unwrap_or(0)
 }

@@ -1,6 +1,7 @@
 //! The calls on the tree of a scene, what they answer as words, and the oracle's own answers.
 
 use crate::calls::alike;
+use crate::core::{direct, lent, numbered};
 use crate::host::{self, raw};
 use crate::scene_calls::{Found, MOST, UNFILLED, Words, copy, number, put, put_floats, unfilled};
 use crate::tree_inputs::{Build, Rays};
@@ -47,28 +48,7 @@ pub const CORE: TreeCalls =
 pub const HOST: TreeCalls =
     TreeCalls { build: host_build, intersect: host_intersect, visible: host_visible };
 
-/// A direct call on a scene.
-macro_rules! direct {
-    ($call:ident, $s:ident, $($more:expr),*) => {
-        unsafe {
-            raw::$call(
-                $s.numbers.as_ptr(),
-                $s.numbers.len(),
-                $s.marks.as_ptr(),
-                $s.marks.len(),
-                $s.points.as_ptr(),
-                $s.points.len(),
-                $s.starts.as_ptr(),
-                $s.starts.len(),
-                $s.owners.as_ptr(),
-                $s.owners.len(),
-                $($more),*
-            )
-        }
-    };
-}
-
-/// The same on its tree too.
+/// A direct call on a scene and its tree.
 macro_rules! on_rows {
     ($call:ident, $s:ident, $rows:ident, $($more:expr),*) => {
         direct!(
@@ -106,24 +86,6 @@ fn core_intersect(s: &Scene, rows: &Rows, ray: &[f64; 6], t: &mut f64, ok: &mut 
 
 fn core_visible(s: &Scene, rows: &Rows, eye: &[f64; 3], point: &[f64; 3], seen: &mut bool) -> u32 {
     on_rows!(larnt_visible, s, rows, eye, point, seen)
-}
-
-/// A scene as a host in Rust hands it over.
-fn lent(s: &Scene) -> host::Scene<'_> {
-    host::Scene {
-        numbers: &s.numbers,
-        marks: &s.marks,
-        points: &s.points,
-        starts: &s.starts,
-        owners: &s.owners,
-    }
-}
-
-fn numbered<T: Default>(result: Result<T, u32>) -> (u32, T) {
-    match result {
-        Ok(value) => (0, value),
-        Err(number) => (number, T::default()),
-    }
 }
 
 fn host_build(s: &Scene, rows: &mut Rows) -> u32 {

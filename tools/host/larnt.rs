@@ -10,117 +10,20 @@ pub mod raw {
         pub safe fn larnt_box_test(b: &[f64; 6], ray: &[f64; 6], span: &mut [f64; 2]);
         pub safe fn larnt_project(m: &[f64; 16], p: &[f64; 3], projected: &mut [f64; 3]);
         pub safe fn larnt_inverse(m: &[f64; 16], inverse: &mut [f64; 16]) -> f64;
-        pub safe fn larnt_solid_hit(kind: u32, n: &[f64; 16], ray: &[f64; 6], t: &mut f64, ok: &mut bool) -> u32;
-        pub safe fn larnt_solid_box(kind: u32, n: &[f64; 16], b: &mut [f64; 6]) -> u32;
-        pub safe fn larnt_solid_contains(kind: u32, n: &[f64; 16], p: &[f64; 3], f: f64, inside: &mut bool) -> u32;
-        pub fn larnt_check(
-            numbers: *const f64,
-            numbers_count: usize,
-            marks: *const u32,
-            marks_count: usize,
-            points: *const f64,
-            points_count: usize,
-            starts: *const usize,
-            starts_count: usize,
-            owners: *const u32,
-            owners_count: usize,
-            inverses: &mut [f64; 16384],
-            boxes: &mut [f64; 6144],
-            drawn: &mut [u32; 1024],
-            count: &mut usize,
-        ) -> u32;
-        pub fn larnt_own_hit(
-            numbers: *const f64,
-            numbers_count: usize,
-            marks: *const u32,
-            marks_count: usize,
-            points: *const f64,
-            points_count: usize,
-            starts: *const usize,
-            starts_count: usize,
-            owners: *const u32,
-            owners_count: usize,
-            entry: usize,
+        pub safe fn larnt_solid_hit(
+            kind: u32,
+            n: &[f64; 16],
             ray: &[f64; 6],
             t: &mut f64,
             ok: &mut bool,
         ) -> u32;
-        pub fn larnt_own_contains(
-            numbers: *const f64,
-            numbers_count: usize,
-            marks: *const u32,
-            marks_count: usize,
-            points: *const f64,
-            points_count: usize,
-            starts: *const usize,
-            starts_count: usize,
-            owners: *const u32,
-            owners_count: usize,
-            entry: usize,
+        pub safe fn larnt_solid_box(kind: u32, n: &[f64; 16], b: &mut [f64; 6]) -> u32;
+        pub safe fn larnt_solid_contains(
+            kind: u32,
+            n: &[f64; 16],
             p: &[f64; 3],
             f: f64,
             inside: &mut bool,
-        ) -> u32;
-        pub fn larnt_build(
-            numbers: *const f64,
-            numbers_count: usize,
-            marks: *const u32,
-            marks_count: usize,
-            points: *const f64,
-            points_count: usize,
-            starts: *const usize,
-            starts_count: usize,
-            owners: *const u32,
-            owners_count: usize,
-            hulls: *mut f64,
-            hulls_count: usize,
-            records: *mut u32,
-            records_count: usize,
-            order: *mut u32,
-            order_count: usize,
-            count: &mut usize,
-        ) -> u32;
-        pub fn larnt_intersect(
-            numbers: *const f64,
-            numbers_count: usize,
-            marks: *const u32,
-            marks_count: usize,
-            points: *const f64,
-            points_count: usize,
-            starts: *const usize,
-            starts_count: usize,
-            owners: *const u32,
-            owners_count: usize,
-            hulls: *const f64,
-            hulls_count: usize,
-            records: *const u32,
-            records_count: usize,
-            order: *const u32,
-            order_count: usize,
-            ray: &[f64; 6],
-            t: &mut f64,
-            ok: &mut bool,
-        ) -> u32;
-        pub fn larnt_visible(
-            numbers: *const f64,
-            numbers_count: usize,
-            marks: *const u32,
-            marks_count: usize,
-            points: *const f64,
-            points_count: usize,
-            starts: *const usize,
-            starts_count: usize,
-            owners: *const u32,
-            owners_count: usize,
-            hulls: *const f64,
-            hulls_count: usize,
-            records: *const u32,
-            records_count: usize,
-            order: *const u32,
-            order_count: usize,
-            eye: &[f64; 3],
-            p: &[f64; 3],
-            seen: &mut bool,
         ) -> u32;
         pub fn larnt_chop(
             view: &[f64; 22],
@@ -148,17 +51,80 @@ pub mod raw {
             points_out: &mut usize,
             paths_out: &mut usize,
         ) -> u32;
-        pub fn larnt_draw(
-            numbers: *const f64,
-            numbers_count: usize,
-            marks: *const u32,
-            marks_count: usize,
-            points: *const f64,
-            points_count: usize,
-            starts: *const usize,
-            starts_count: usize,
-            owners: *const u32,
-            owners_count: usize,
+    }
+
+    /// The calls on a scene, which stands first in each: five slices, each a pointer and a count.
+    macro_rules! on_scenes {
+        ($(fn $call:ident($($more:ident: $kind:ty,)*);)*) => {
+            unsafe extern "C" {
+                $(pub fn $call(
+                    numbers: *const f64,
+                    numbers_count: usize,
+                    marks: *const u32,
+                    marks_count: usize,
+                    points: *const f64,
+                    points_count: usize,
+                    starts: *const usize,
+                    starts_count: usize,
+                    owners: *const u32,
+                    owners_count: usize,
+                    $($more: $kind,)*
+                ) -> u32;)*
+            }
+        };
+    }
+
+    on_scenes! {
+        fn larnt_check(
+            inverses: &mut [f64; 16384],
+            boxes: &mut [f64; 6144],
+            drawn: &mut [u32; 1024],
+            count: &mut usize,
+        );
+        fn larnt_own_hit(
+            entry: usize,
+            ray: &[f64; 6],
+            t: &mut f64,
+            ok: &mut bool,
+        );
+        fn larnt_own_contains(
+            entry: usize,
+            p: &[f64; 3],
+            f: f64,
+            inside: &mut bool,
+        );
+        fn larnt_build(
+            hulls: *mut f64,
+            hulls_count: usize,
+            records: *mut u32,
+            records_count: usize,
+            order: *mut u32,
+            order_count: usize,
+            count: &mut usize,
+        );
+        fn larnt_intersect(
+            hulls: *const f64,
+            hulls_count: usize,
+            records: *const u32,
+            records_count: usize,
+            order: *const u32,
+            order_count: usize,
+            ray: &[f64; 6],
+            t: &mut f64,
+            ok: &mut bool,
+        );
+        fn larnt_visible(
+            hulls: *const f64,
+            hulls_count: usize,
+            records: *const u32,
+            records_count: usize,
+            order: *const u32,
+            order_count: usize,
+            eye: &[f64; 3],
+            p: &[f64; 3],
+            seen: &mut bool,
+        );
+        fn larnt_draw(
             view: &[f64; 22],
             out: *mut f64,
             out_count: usize,
@@ -180,7 +146,7 @@ pub mod raw {
             order_count: usize,
             points_out: &mut usize,
             paths_out: &mut usize,
-        ) -> u32;
+        );
     }
 }
 
