@@ -13,6 +13,7 @@ use Rattle.rows.specs.Rows.{row, view, flat, padded}
 use Rattle.rows.specs.Points.{boxOfRow, boxRow}
 use Rattle.rows.specs.Entries.{numbersOf, numbersRow}
 use Rattle.rows.proofs.RowLaws.{view-flat, length-flat, getD-view}
+use Rattle.scene.specs.Entries.{entryAt, ownEntry}
 use Rattle.measures.specs.Each.{listTo}
 use Rattle.measures.proofs.EachLaws.{length-to, list-at}
 use Rattle.parts.specs.Drawn.{drawn}
@@ -23,7 +24,7 @@ use Rattle.accept.specs.Checks.{Scene, entriesOf, lengthsAgree, checkOf,
 use Rattle.accept.specs.declared.Verdict.{Verdict}
 use Rattle.accept.specs.declared.Verdict.the-variants.{Accepted}
 use Rattle.accept.proofs.CheckLaws.{lengths-few, lengths-numbers, is-lengths, not-accepted}
-use Rattle.accept.proofs.Reading.{stored-solid}
+use Rattle.accept.proofs.Reading.{any-entry, stored-solid}
 
 -- a list that is left where the verdict accepts
 pub left-is : {A : Type 0} (z : A) {v : Verdict} (n : ℕ) → v ≡ Accepted n → (L : ℕ) (xs : List A) {ys : List A} → ys ≡ padded z L (ifAccepted v xs) → ys ≡ padded z L xs
@@ -59,13 +60,19 @@ module _ (s : Scene) (n : ℕ) (is : checkOf s ≡ Accepted n) where
   pub accepted-numbers : entriesOf s * 16 ≡ length (s .numbers)
   accepted-numbers = lengths-numbers s refl (agrees (lengthsAgree s) refl)
 
-  -- the solids read with the inverses that are left are the scene's own
+  -- the entries and the solids read with the inverses that are left are the scene's own
   module _ (L : ℕ) (vs : List Float) (left : vs ≡ padded zeroF L (inversesOf s)) where
+    room : entriesOf s * 16 ≤ length vs
+    room = long-enough 16 numbersOf numbersRow (λ b. refl) (λ b. refl) zeroF L (inverseAt (s .numbers) (s .marks)) (entriesOf s) left
+
+    held : view 16 numbersOf (entriesOf s) vs ≡ listTo (inverseAt (s .numbers) (s .marks)) (entriesOf s)
+    held = read-back 16 numbersOf numbersRow (λ b. refl) (λ b. refl) zeroF L (inverseAt (s .numbers) (s .marks)) (entriesOf s) left
+
+    pub own-entry : (i : ℕ) → entryAt (s .numbers) vs (s .marks) i ≡ ownEntry (s .numbers) (s .marks) i
+    own-entry i = any-entry (s .numbers) vs (s .marks) (omega (arith, accepted-numbers)) room held i
+
     pub own-solid : (i : ℕ) → decode 8 (s .numbers) vs (s .marks) i ≡ solidOf (s .numbers) (s .marks) i
-    own-solid i =
-        stored-solid (s .numbers) vs (s .marks) (omega (arith, accepted-numbers))
-        (long-enough 16 numbersOf numbersRow (λ b. refl) (λ b. refl) zeroF L (inverseAt (s .numbers) (s .marks)) (entriesOf s) left)
-        (read-back 16 numbersOf numbersRow (λ b. refl) (λ b. refl) zeroF L (inverseAt (s .numbers) (s .marks)) (entriesOf s) left) 8 i
+    own-solid i = stored-solid (s .numbers) vs (s .marks) (omega (arith, accepted-numbers)) room held 8 i
 
   -- the box that is left of entry i is its own
   module _ (L : ℕ) (bs : List Float) (left : bs ≡ padded zeroF L (boxesOf s)) where

@@ -142,10 +142,14 @@ module _ (ns vs : List Float) (ms : List ℕ) (fit : entries ms * 16 ≤ length 
   no-entry i h true false x y = rw (le-ltb i (entries ms) h)
   no-entry i h false b x y = refl
 
-  any-entry : (i : ℕ) (t : Bool) → ltb i (entries ms) ≡ t → entryAt ns vs ms i ≡ ownEntry ns ms i
+  -- each entry, or none, is read with them as with its own
+  pub any-entry : (i : ℕ) → entryAt ns vs ms i ≡ ownEntry ns ms i
   unfolding entryAt ownEntry
-  any-entry i true e = stored-entry i (ltb-true i (entries ms) e)
-  any-entry i false e = no-entry i (ltb-false i (entries ms) e) (ltb i (length ns / 16)) (ltb i (length vs / 16)) _ _
+  any-entry i = by (ltb i (entries ms)) refl
+    where
+      by : (t : Bool) → ltb i (entries ms) ≡ t → entryAt ns vs ms i ≡ ownEntry ns ms i
+      by true e = stored-entry i (ltb-true i (entries ms) e)
+      by false e = no-entry i (ltb-false i (entries ms) e) (ltb i (length ns / 16)) (ltb i (length vs / 16)) _ _
 
   all-parts : (P : ℕ → Type 0) → ((k : ℕ) → P k) → (e : Entry) → Each P e
   all-parts P f (SimpleEntry s) = tt
@@ -158,5 +162,5 @@ module _ (ns vs : List Float) (ms : List ℕ) (fit : entries ms * 16 ≤ length 
   unfolding read
   stored-solid zero i = refl
   stored-solid (suc d) i =
-      ap (shapeOf (read d (entryAt ns vs ms))) (any-entry i (ltb i (entries ms)) refl)
+      ap (shapeOf (read d (entryAt ns vs ms))) (any-entry i)
       ∙ shape-as (read d (entryAt ns vs ms)) (read d (ownEntry ns ms)) (ownEntry ns ms i) (all-parts (λ k. read d (entryAt ns vs ms) k ≡ read d (ownEntry ns ms) k) (λ k. stored-solid d k) (ownEntry ns ms i))

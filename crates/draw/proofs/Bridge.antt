@@ -1,47 +1,37 @@
 -- What the check leaves of an accepted scene is drawn as the scene itself. Assumes nothing.
-use Prim.Native.Nat.{ℕ, zero, suc, _+_, _-_, _*_, _/_, _<_, _≤_}
+use Prim.Native.Nat.{ℕ, _≤_}
 use mathlib.Core.Path.{_≡_, refl, sym, ap, ap₂, subst, fun-ext, _∙_}
 use mathlib.Core.List.{List, [], _∷_}
-use mathlib.Core.Bool.{Bool, true, false, _&&_, cond}
-use native.Mathlib.Omega.{arith}
-use lib.ListN.{length, take, replicate, length-append}
-use lib.Dec.{ltb, leb}
+use mathlib.Core.Bool.{_&&_, cond}
+use lib.ListN.{length, take}
+use lib.Dec.{leb}
 use lib.Ieee.{Float}
-use borrow.Author.Tests.{le-ltb, ltb-true, ltb-false}
 use Rattle.floats.specs.Arith.{zeroF}
 use Rattle.geometry.specs.declared.ray.Ray.{Ray}
 use Rattle.geometry.specs.declared.bounding_box.BBox.{BBox}
-use Rattle.rows.specs.Rows.{view, padded}
-use Rattle.rows.specs.Entries.{numbersOf, numbersRow}
-use Rattle.rows.specs.declared.Numbers.{Numbers}
-use Rattle.rows.proofs.RowLaws.{view-flat, length-flat}
-use Rattle.scene.specs.Entries.{entryAt, ownEntry}
+use Rattle.rows.specs.Rows.{padded}
+use Rattle.scene.specs.Entries.{ownEntry}
 use Rattle.scene.specs.declared.entry.Entry.{Entry}
-use Rattle.scene.specs.declared.entry.Entry.the-variants.{None}
 use Rattle.scene.specs.declared.refusal.Refusal.the-variants.{Room}
 use Rattle.shape.specs.Shapes.{Shape, shapeBox, shapeHit}
 use Rattle.nodes.specs.Trees.{Tree, layout}
 use Rattle.nodes.specs.declared.Node.{Node}
 use Rattle.sort.specs.Sort.{Each}
-use Rattle.sort.proofs.EachLaws.{each-append, each-map}
+use Rattle.sort.proofs.EachLaws.{each-map}
 use Rattle.tree.specs.Build.{Fits, boxAt, nodesFor}
 use Rattle.tree.proofs.Agreement.{same-tree}
 use Rattle.walk.specs.Walks.{nothing, visit}
 use Rattle.walk.specs.declared.Found.{Found}
 use Rattle.parts.specs.Parts.{entries, namedBefore}
-use Rattle.parts.specs.Drawn.{unnamed, drawn}
-use Rattle.measures.specs.Each.{listTo}
-use Rattle.measures.proofs.EachLaws.{length-to}
-use Rattle.accept.specs.Placings.{inverseAt}
+use Rattle.parts.specs.Drawn.{drawn}
 use Rattle.accept.specs.Extents.{ownBox}
 use Rattle.accept.specs.Checks.{Scene, entriesOf, checkOf, inversesOf, boxesOf}
 use Rattle.accept.specs.declared.Verdict.the-variants.{Accepted}
-use Rattle.accept.proofs.Reading.{stored-entry}
-use Rattle.accept.proofs.Left.{accepted-numbers, own-box}
+use Rattle.accept.proofs.Left.{own-entry, own-box}
 use Rattle.queries.specs.Queries.{plantedOf}
 use Rattle.queries.specs.declared.Built.{Built}
 use Rattle.queries.specs.declared.Built.the-variants.{Nodes, Refused as NotBuilt}
-use Rattle.queries.proofs.Plants.{accepted-many, accepted-fits}
+use Rattle.queries.proofs.Plants.{each-unnamed, accepted-many, accepted-fits}
 use Rattle.paths.specs.Answers.{Answer, answered, next}
 use Rattle.paths.specs.Paths.{Paths, noPaths}
 use Rattle.view.specs.Views.{viewport, argsOf}
@@ -96,54 +86,14 @@ module _ (box box′ : ℕ → BBox) where
         ap (λ (f : Paths → Answer Paths). next (collectedAll (argsOf v) (w .lines) lined ids noPaths) (λ (p : Paths). next (f p) (λ (s : Paths). answered (mapped (viewport (v .width) (v .height)) s))))
         (fun-ext (λ (p : Paths). staged-alike (λ (i : ℕ). bare (lined i)) p))
 
--- ---- drawn entries are entries
-each-unnamed : (P : ℕ → Type 0) (g : ℕ → Bool) (n : ℕ) → ((i : ℕ) → i < n → P i) → Each P (unnamed g n)
-unfolding unnamed Each
-each-unnamed P g zero h = tt
-each-unnamed P g (suc n) h = each-append P (unnamed g n) (cond (g n) [] (n ∷ [])) (each-unnamed P g n (λ i l. h i (omega arith))) (last (g n))
-  where
-    last : (t : Bool) → Each P (cond t [] (n ∷ []))
-    last true = tt
-    last false = (h n (omega arith), tt)
-
--- ---- where there is no entry, none is read
-no-entry : (i n : ℕ) → n ≤ i → (a b : Bool) (x y : Entry) → cond (a && (b && ltb i n)) x None ≡ cond (a && ltb i n) y None
-no-entry i n h true true x y = rw (le-ltb i n h)
-no-entry i n h true false x y = rw (le-ltb i n h)
-no-entry i n h false b x y = refl
-
+-- ---- what the check leaves
 module _ (s : Scene) (n : ℕ) (is : checkOf s ≡ Accepted n) where
   module _ (L : ℕ) (vs : List Float) (left : vs ≡ padded zeroF L (inversesOf s)) where
-    abbrev inverses : List Numbers
-    inverses = listTo (inverseAt (s .numbers) (s .marks)) (entriesOf s)
-
-    abbrev zeros : List Float
-    zeros = replicate (L - length (inversesOf s)) zeroF
-
-    inverses-read : view 16 numbersOf (entriesOf s) vs ≡ inverses
-    unfolding padded
-    inverses-read =
-        ap (view 16 numbersOf (entriesOf s)) left
-        ∙ sym (ap (λ (m : ℕ). view 16 numbersOf m (padded zeroF L (inversesOf s))) (length-to (inverseAt (s .numbers) (s .marks)) (entriesOf s)))
-        ∙ view-flat 16 numbersOf numbersRow (λ b. refl) (λ b. refl) inverses zeros
-
-    inverses-long : entriesOf s * 16 ≤ length vs
-    unfolding padded
-    inverses-long =
-        let e : length vs ≡ length (inversesOf s) + length zeros = ap length left ∙ length-append (inversesOf s) zeros in
-        let w : length (inversesOf s) ≡ entriesOf s * 16 = length-flat 16 numbersOf numbersRow (λ b. refl) inverses ∙ ap (λ (m : ℕ). m * 16) (length-to (inverseAt (s .numbers) (s .marks)) (entriesOf s)) in
-        omega (arith, e, w)
-
-    entry-is : (i : ℕ) (t : Bool) → ltb i (entriesOf s) ≡ t → entryAt (s .numbers) vs (s .marks) i ≡ ownEntry (s .numbers) (s .marks) i
-    unfolding entryAt ownEntry
-    entry-is i true e = stored-entry (s .numbers) vs (s .marks) (omega (arith, accepted-numbers s n is)) inverses-long inverses-read i (ltb-true i (entriesOf s) e)
-    entry-is i false e = no-entry i (entriesOf s) (ltb-false i (entriesOf s) e) (ltb i (length (s .numbers) / 16)) (ltb i (length vs / 16)) _ _
-
     -- the drawn values read with the inverses that are left are the scene's own
     pub own-lined : linedAt 8 (s .numbers) vs (s .marks) (s .points) (s .starts) (s .owners) ≡ linedIn s
     own-lined =
         ap (λ (at : ℕ → Entry). readLined 8 at (ownLines (s .marks) (s .points) (s .starts) (s .owners)))
-        (fun-ext (λ (i : ℕ). entry-is i (ltb i (entriesOf s)) refl))
+        (fun-ext (λ (i : ℕ). own-entry s n is L vs left i))
 
   module _ (L : ℕ) (bs : List Float) (left : bs ≡ padded zeroF L (boxesOf s)) where
     -- and the boxes of the drawn entries are their own

@@ -86,7 +86,7 @@ module _ (box : ℕ → BBox) (ids : List ℕ) (places B M O : ℕ) where
   crowded h a b c = record { answer = rw (lt-leb (length ids) O h); boxes = a; marks = b; solids = c }
 
 -- ---- what an accepted scene has
-each-unnamed : (P : ℕ → Type 0) (g : ℕ → Bool) (n : ℕ) → ((i : ℕ) → i < n → P i) → Each P (unnamed g n)
+pub each-unnamed : (P : ℕ → Type 0) (g : ℕ → Bool) (n : ℕ) → ((i : ℕ) → i < n → P i) → Each P (unnamed g n)
 unfolding unnamed Each
 each-unnamed P g zero h = tt
 each-unnamed P g (suc n) h = each-append P (unnamed g n) (cond (g n) [] (n ∷ [])) (each-unnamed P g n (λ i l. h i (omega arith))) (last (g n))
