@@ -1,8 +1,8 @@
--- Halving, and the loop over the segments of a path. Assumes nothing.
+-- Halving, the loop over the second halves of a segment, and the one over the segments of a path. Assumes nothing.
 use mathlib.Core.Path.{_≡_, refl, sym, ap, _∙_, subst}
 use mathlib.Core.Bool.{Bool, true, false}
 use mathlib.Core.List.{List}
-use Prim.Native.Nat.{ℕ, zero, suc, _+_, _-_, _*_, _≤_, _<_}
+use Prim.Native.Nat.{ℕ, zero, suc, _+_, _-_, _*_, _/_, _≤_, _<_}
 use native.Mathlib.Numerals.{sub-one}
 use native.Mathlib.Omega.{arith}
 use lib.ListN.{length}
@@ -22,7 +22,7 @@ use Rattle.paths.specs.declared.Count.the-variants.{At, Refused}
 use Rattle.paths.specs.declared.Counts.{Counts}
 use Rattle.paths.specs.declared.Verdict.{Verdict}
 use Rattle.paths.specs.declared.Verdict.the-variants.{Fine, Refused as NotFine}
-use Rattle.paths.proofs.Ending.{ends-at, ends-refused, refuses, answers}
+use Rattle.paths.proofs.Ending.{ends-at, ends-refused, ends-as, refuses, answers}
 use Rattle.paths.proofs.Parts.{part-cons}
 use Rattle.paths.proofs.Judging.{unless-refused, unless-fine}
 use Rattle.view.specs.Views.{viewOk, argsOf}
@@ -34,19 +34,57 @@ use Rattle.chop.specs.Chop.{screenOf, spotOf, middleOf, stops, pushOr, s
 
 -- ---- a segment, by what the stop rule says
 module _ (s : Screen) (room : ℕ) (a b : Spot) (vs : List Vector) (t : Bool) (et : t ≡ stops s a b) where
-  pub stop-here : (depth : ℕ) → t ≡ true → subdivide s room depth a b vs ≡ push room vs (b .at)
+  stop-here : (depth : ℕ) → t ≡ true → subdivide s room depth a b vs ≡ push room vs (b .at)
   unfolding subdivide pushOr
   stop-here zero e = rw (← et, e)
   stop-here (suc depth) e = rw (← et, e)
 
-  pub too-deep : (depth : ℕ) → t ≡ false → depth ≡ 0 → subdivide s room depth a b vs ≡ refused Halvings
+  too-deep : (depth : ℕ) → t ≡ false → depth ≡ 0 → subdivide s room depth a b vs ≡ refused Halvings
   unfolding subdivide pushOr
   too-deep depth e z = rw (z, ← et, e)
 
-  pub halve : (depth : ℕ) (m : Spot) → t ≡ false → (depth ≡ 0 → ⊥) → m ≡ middleOf s a b → subdivide s room depth a b vs ≡ next (subdivide s room (depth - 1) a m vs) (subdivide s room (depth - 1) m b)
+  halve : (depth : ℕ) (m : Spot) → t ≡ false → (depth ≡ 0 → ⊥) → m ≡ middleOf s a b → subdivide s room depth a b vs ≡ next (subdivide s room (depth - 1) a m vs) (subdivide s room (depth - 1) m b)
   unfolding subdivide pushOr
   halve zero m e z em = absurd (z refl)
   halve (suc depth) m e z em = rw (← et, e, sub-one, em)
+
+-- ---- a segment, its second halves in a loop: what is left of it answers as the whole does
+pub record Subdividing (s : Screen) (a b : Spot) (depth : ℕ) (out₀ : List Float) (n : ℕ) (out : List Float) (from : Spot) (left m : ℕ) : Type 0 where
+  pub same : length out ≡ length out₀
+  pub upto : left ≤ depth
+  pub fits : m * 3 ≤ length out
+  pub rest : subdivide s (places out₀) left from b (points m out) ≡ subdivide s (places out₀) depth a b (points n out₀)
+
+module _ (s : Screen) (a b : Spot) (depth : ℕ) (out₀ : List Float) (n : ℕ) where
+  pub subdividing-start : n * 3 ≤ length out₀ → Subdividing s a b depth out₀ n out₀ a depth n
+  subdividing-start f = record { same = refl; upto = omega arith; fits = f; rest = refl }
+
+  module _ (out : List Float) (from : Spot) (left m : ℕ) (h : Subdividing s a b depth out₀ n out from left m) (t : Bool) (et : t ≡ stops s from b) where
+    -- the room is what it was at the start
+    as-rest : {x : Answer (List Vector)} → subdivide s (places out) left from b (points m out) ≡ x → subdivide s (places out₀) depth a b (points n out₀) ≡ x
+    as-rest e = sym (h .rest) ∙ ap (λ (l : ℕ). subdivide s (l / 3) left from b (points m out)) (sym (h .same)) ∙ e
+
+    pub subdividing-end : t ≡ true → (zs : List Float) {r : Count} → Ends (push (places out) (points m out) (b .at)) zs r → Ends (subdivide s (places out₀) depth a b (points n out₀)) zs r
+    subdividing-end e zs w = ends-as (as-rest (stop-here s (places out) from b (points m out) t et left e)) w
+
+    pub subdividing-deep : t ≡ false → left ≡ 0 → Ends (subdivide s (places out₀) depth a b (points n out₀)) out (Refused Halvings)
+    subdividing-deep e z = refuses out (as-rest (too-deep s (places out) from b (points m out) t et left e z))
+
+    module _ (e : t ≡ false) (z : left ≡ 0 → ⊥) (mid : Spot) (em : mid ≡ middleOf s from b) (out′ : List Float) {r : Count} (w : Ends (subdivide s (places out) (left - 1) from mid (points m out)) out′ r) where
+      halves : subdivide s (places out₀) depth a b (points n out₀) ≡ next (subdivide s (places out) (left - 1) from mid (points m out)) (subdivide s (places out) (left - 1) mid b)
+      halves = as-rest (halve s (places out) from b (points m out) t et left mid e z em)
+
+      pub subdividing-turn : {q : ℕ} → length out′ ≡ length out → r ≡ At q → Subdividing s a b depth out₀ n out′ mid (left - 1) q
+      subdividing-turn {q} k p = record {
+        same = k ∙ h .same;
+        upto = omega (arith, h .upto);
+        fits = w .fits q p;
+        rest = ap (λ (l : ℕ). subdivide s (l / 3) (left - 1) mid b (points q out′)) (sym (h .same))
+            ∙ sym (halves ∙ ap (λ (x : Answer (List Vector)). next x (subdivide s (places out) (left - 1) mid b)) (ends-at w p));
+      }
+
+      pub subdividing-refused : {k : Refusal} → r ≡ Refused k → Ends (subdivide s (places out₀) depth a b (points n out₀)) out′ (Refused k)
+      subdividing-refused p = refuses out′ (halves ∙ ap (λ (x : Answer (List Vector)). next x (subdivide s (places out) (left - 1) mid b)) (ends-refused w p))
 
 -- ---- a path, segment by segment: what is left to chop answers as the whole does
 pub record Chopping (s : Screen) (path out₀ : List Float) (first : Spot) (from end n : ℕ) (out : List Float) (a : Spot) (i m : ℕ) : Type 0 where

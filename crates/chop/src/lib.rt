@@ -106,6 +106,7 @@ fn stops(s: Screen, a: Spot, b: Spot) -> bool
 }
 
 // The ends of the pieces of a segment go after the first n points; `depth` nested halvings are left.
+// The first half is chopped by a call, the second by the next turn.
 fn recursive_subdivide(
     s: Screen,
     a: Spot,
@@ -117,19 +118,26 @@ fn recursive_subdivide(
     requires { ⌜ n * 3 ≤ length (now out) ⌝ }
     ensures { λ r. ⌜ Ends (Chop.subdivide s (places (now (out .entry))) depth a b (points n (now (out .entry)))) (now (out .exit)) r ⌝ }
 {
-    if stops(s, a, b) {
-        let p = b.at;
-        return paths::push(out, n, p);
+    let mut from = a;
+    let mut left = depth;
+    let mut m = n;
+    while !stops(s, from, b) {
+        if left == 0 {
+            return Count::Refused(Refusal::Halvings);
+        }
+        left -= 1;
+        let mid = middle(s, from, b);
+        let r = recursive_subdivide(s, from, mid, left, out, m);
+        match r {
+            Count::Refused(k) => return Count::Refused(k),
+            Count::At(q) => {
+                m = q;
+            }
+        }
+        from = mid;
     }
-    if depth == 0 {
-        return Count::Refused(Refusal::Halvings);
-    }
-    let m = middle(s, a, b);
-    let r = recursive_subdivide(s, a, m, depth - 1, out, n);
-    match r {
-        Count::Refused(k) => Count::Refused(k),
-        Count::At(q) => recursive_subdivide(s, m, b, depth - 1, out, q),
-    }
+    let p = b.at;
+    paths::push(out, m, p)
 }
 
 // The segments that lead to the points from `from` up to `end`, from the spot before them.
