@@ -378,6 +378,7 @@ impl Matrix {
             + a.x03 * a.x12 * a.x21 * a.x30
     }
 
+    // The rows of the adjugate over d: by themselves, since the check of a function grows faster than it.
     fn adjugate_row0(self, d: f64) -> Row
         ensures { λ r. ⌜ r ≡ Matrices.row0 (Matrices.adjugateOver self d) ⌝ }
     {
