@@ -1,7 +1,7 @@
 /* The calls that libhost.a exports (`rt staticlib host`). Nothing checks these declarations against
    crates/host/src/lib.rt: whoever changes the one changes the other. The pointers must not be null,
-   not even those of no elements, and what is filled must not overlap what is read. Matrices stand by
-   rows. */
+   not even those of no elements, and what is filled must overlap neither what is read nor anything
+   else that is filled. Matrices stand by rows. */
 #ifndef LARNT_H
 #define LARNT_H
 

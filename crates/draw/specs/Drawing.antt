@@ -1,14 +1,15 @@
 -- The steps of a draw that is answered, each with its result.
-use Prim.Native.Nat.{ℕ}
+use Prim.Native.Nat.{ℕ, _≤_}
 use mathlib.Core.Path.{_≡_, refl, sym, ap, fun-ext, subst, _∙_}
 use mathlib.Core.Bool.{Bool, true, false, cond}
 use mathlib.Core.List.{map}
 use native.Mathlib.Omega.{arith}
-use lib.ListN.{length-map}
+use lib.ListN.{length, length-map}
 use lib.Ieee.{Float}
 use Rattle.geometry.specs.declared.vector.Vector.{Vector}
 use Rattle.geometry.specs.declared.bounding_box.BBox.{BBox}
 use Rattle.matrix.specs.Matrices.{mulPosition}
+use Rattle.rows.specs.Starts.{rising}
 use Rattle.scene.specs.Entries.{ownEntry}
 use Rattle.scene.specs.declared.refusal.Refusal.{Refusal}
 use Rattle.scene.specs.declared.refusal.Refusal.the-variants.{View as BadView}
@@ -25,7 +26,7 @@ use Rattle.queries.specs.declared.Built.the-variants.{Nodes, Refused as NotBuil
 use Rattle.paths.specs.Answers.{Answer, answered, refused, next}
 use Rattle.paths.specs.Paths.{Paths, noPaths}
 use Rattle.paths.proofs.Adding.{no-answer, same-answer, next-answered}
-use Rattle.paths.proofs.Laying.{Laid, moved-laid}
+use Rattle.paths.proofs.Laying.{Laid, laid-rising, moved-laid}
 use Rattle.simplify.specs.Simplify.{simplifyPaths}
 use Rattle.simplify.proofs.Laying.{simplify-laid}
 use Rattle.filter.proofs.Laying.{filter-laid}
@@ -49,7 +50,7 @@ boxIn s = ownBox (s .numbers) (s .marks)
 abbrev pub seenIn : Scene → Vector → Vector → Sight
 seenIn s = seenBy (solidIn s) (boxIn s) (drawn (s .marks))
 
--- The draw of a scene that is answered with the paths q, step by step. Step 2 and step 5 do nothing unless step > 0; then the filter has the room of the lines.
+-- Document 01's answered, of a draw: the scene is drawn with the paths q, step by step. Step 2 and step 5 do nothing unless step > 0; then the filter has the room of the lines.
 pub record Drawing (s : Scene) (v : View) (w : Places) (q : Paths) : Type 0 where
   -- numbers 2 to 8 are not met
   pub count : ℕ
@@ -142,10 +143,9 @@ simplified-laid t room startRoom p {o} e =
     let a = next-answered (handed p) (λ (q : Paths). simplifyPaths t (q .vertices) (q .starts) room startRoom) o e in
     simplify-laid t (a .0 .vertices) (a .0 .starts) room startRoom (a .2)
 
--- The drawing's starts rise, and it has no more points and starts than places.
-pub drawing-laid : {s : Scene} {v : View} {w : Places} {q : Paths} → Drawing s v w q → Laid (w .points) (w .starts) q
+result-laid : {s : Scene} {v : View} {w : Places} {q : Paths} → Drawing s v w q → Laid (w .points) (w .starts) q
 unfolding mapped
-drawing-laid {s} {v} {w} D =
+result-laid {s} {v} {w} D =
     let m = mulPosition (viewport (v .width) (v .height)) in
     subst (Laid (w .points) (w .starts)) (sym (D .maps)) (moved-laid (D .left) (map m (D .left .vertices)) (length-map (D .left .vertices) m) (by (stepping v) (D .filters) (D .simplifies)))
   where
@@ -153,3 +153,7 @@ drawing-laid {s} {v} {w} D =
         → cond b (simplifiedLines millionth (w .points) (w .starts) (D .passed)) (answered (D .passed)) ≡ answered (D .left) → Laid (w .points) (w .starts) (D .left)
     by true f e = simplified-laid millionth (w .points) (w .starts) (D .passed) e
     by false f e = subst (Laid (w .points) (w .starts)) (same-answer e) (filter-laid (clipFilter (v .matrix) (seenIn s (v .eye))) (D .lines .vertices) (D .lines .starts) f)
+
+-- No start of a drawing is beyond the next one, nor the last one beyond the points; and it has no more points and starts than places.
+pub drawing-laid : {s : Scene} {v : View} {w : Places} {q : Paths} → Drawing s v w q → (rising (length (q .vertices)) (q .starts) ≡ true) × (length (q .vertices) ≤ w .points) × (length (q .starts) ≤ w .starts)
+drawing-laid D = let h = result-laid D in (laid-rising h, h .points-fit, h .starts-fit)

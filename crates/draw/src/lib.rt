@@ -104,10 +104,8 @@ fn clear_work(
     rows::clear_marks(order, 0);
 }
 
-// A scene drawn for a view: the paths on the sheet in `out` and `begins`, and then zeros, with how many
-// points and paths there are; or why it is refused, and zeros throughout. The work slices are zeros
-// afterwards: `work` and `work_starts` have eight equal vectors of lines, `chopped` and `cuts` the result
-// of a chop, `hulls`, `records` and `order` the tree.
+// A scene drawn for a view, in `out` and `begins`, or why it is refused; the work slices end as zeros.
+// `work` has eight equal vectors of lines, `chopped` the result of a chop, the last three the tree.
 pub fn draw(
     numbers: &[f64],
     marks: &[u32],

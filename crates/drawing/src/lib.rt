@@ -180,7 +180,7 @@ fn lesser(a: usize, b: usize) -> usize
     if b < a { b } else { a }
 }
 
-// The text of what a draw left; counts beyond the slices are drawn in.
+// The text of what a draw left; counts beyond the slices are cut down to them.
 fn put_text(text: &mut [u8], points: &[f64], starts: &[usize], c: Counts) -> Count
     ensures { λ r. ⌜ Writes (textOf c (now (points .entry)) (now (starts .entry))) (now (text .entry)) (At 0) (now (text .exit)) r ⌝ }
 {

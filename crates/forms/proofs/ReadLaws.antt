@@ -23,7 +23,7 @@ use Rattle.openings.specs.declared.Next.{Next}
 use Rattle.openings.specs.declared.Next.the-variants.{To, No}
 use Rattle.openings.specs.declared.Viewed.{Viewed}
 use Rattle.openings.specs.declared.Viewed.the-variants.{Seen, Unseen}
-use Rattle.forms.specs.Texts.{Yard, linesLeft, whole, formsIn, nothing, yardIn, yardOf}
+use Rattle.forms.specs.Texts.{Yard, linesLeft, wholeLine, formsIn, nothing, yardIn, yardOf}
 use Rattle.forms.specs.Answers.{roomy, readOf, answerOf, sceneRead}
 use Rattle.forms.specs.Held.{lineAs, sceneAs, readingAs, WithinReading, Fits}
 use Rattle.forms.specs.declared.Line.{Line}
@@ -44,12 +44,12 @@ module _ (s : List ℕ) where
     yard-empty f = rw (le-leb (length s) 65536 short, line, f)
 
     module _ {a e : ℕ} (f : l ≡ At a e) (v : Viewed) (viewed : viewedAs (part a e s) v ≡ viewIn (left (part a e s) 0)) where
-      next : yardOf s ≡ andThen (whole (viewedAs (part a e s) v)) (λ x _. andThen (formsIn nothing (linesLeft s (e + 1))) (λ y ts. got (record { view = x; scene = y }) ts))
+      next : yardOf s ≡ andThen (wholeLine (viewedAs (part a e s) v)) (λ x _. andThen (formsIn nothing (linesLeft s (e + 1))) (λ y ts. got (record { view = x; scene = y }) ts))
       unfolding yardOf yardIn lineAs
       next = rw (le-leb (length s) 65536 short, line, f, viewed)
 
       pub yard-unseen : v ≡ Unseen → no ≡ yardOf s
-      unfolding viewedAs whole andThen
+      unfolding viewedAs wholeLine andThen
       yard-unseen p = sym (next ∙ rw p)
 
       module _ {x : View} {k : ℕ} (p : v ≡ Seen x k) {b : Bool} (over : b ≡ isOver (left (part a e s) k)) where

@@ -17,7 +17,7 @@ use Rattle.openings.specs.declared.Cursor.{Cursor}
 use Rattle.openings.specs.declared.Next.{Next}
 use Rattle.openings.specs.declared.Next.the-variants.{To, No}
 use Rattle.nested.specs.Forms.{form}
-use Rattle.forms.specs.Texts.{linesFrom, unlessEmpty, filled, linesLeft, whole, formsIn, nothing}
+use Rattle.forms.specs.Texts.{linesFrom, unlessEmpty, filled, linesLeft, wholeLine, formsIn, nothing}
 use Rattle.forms.specs.Held.{lineAs, Lies, sceneAs}
 use Rattle.forms.specs.declared.Line.{Line}
 use Rattle.forms.specs.declared.Line.the-variants.{At, Over}
@@ -96,13 +96,13 @@ unfolding Lies
 line-lies n at i p = rw p at i
 
 -- ---- a form that is the whole of its line
-pub whole-over : {A : Type 0} (a : A) (ts : List Token) → isOver ts ≡ true → whole (got a ts) ≡ got a []
-unfolding isOver whole
+pub whole-over : {A : Type 0} (a : A) (ts : List Token) → isOver ts ≡ true → wholeLine (got a ts) ≡ got a []
+unfolding isOver wholeLine
 whole-over a [] e = refl
 whole-over a (t ∷ ts) e = clash e
 
-pub whole-more : {A : Type 0} (a : A) (ts : List Token) → isOver ts ≡ false → whole (got a ts) ≡ no
-unfolding isOver whole
+pub whole-more : {A : Type 0} (a : A) (ts : List Token) → isOver ts ≡ false → wholeLine (got a ts) ≡ no
+unfolding isOver wholeLine
 whole-more a [] e = clash (sym e)
 whole-more a (t ∷ ts) e = refl
 
@@ -132,12 +132,12 @@ module _ (s : List ℕ) (at : ℕ) (ns₀ : List Float) (ms₀ : List ℕ) (ps�
     module _ {a e : ℕ} (f : l ≡ At a e) (ns' : List Float) (ms' : List ℕ) (ps' : List Float) (ss' os' : List ℕ) (r : Next)
         (read : nextAs (part a e s) r ns' ms' ps' ss' os' ≡ form 512 (held (unread c) ns ms ps ss os) (left (part a e s) 0)) where
       -- the form of the next line
-      next : formsIn nothing (linesLeft s at) ≡ andThen (whole (nextAs (part a e s) r ns' ms' ps' ss' os')) (λ b _. formsIn b (linesLeft s (e + 1)))
+      next : formsIn nothing (linesLeft s at) ≡ andThen (wholeLine (nextAs (part a e s) r ns' ms' ps' ss' os')) (λ b _. formsIn b (linesLeft s (e + 1)))
       unfolding lineAs formsIn held
       next = h .same ∙ rw (line, f, read)
 
       pub formed-no : r ≡ No → sceneAs No ns' ms' ps' ss' os' ≡ formsIn nothing (linesLeft s at)
-      unfolding sceneAs nextAs whole andThen
+      unfolding sceneAs nextAs wholeLine andThen
       formed-no p = sym (next ∙ rw p)
 
       module _ {g : Cursor} (p : r ≡ To g) {b : Bool} (over : b ≡ isOver (left (part a e s) (g .at))) where

@@ -8,12 +8,12 @@ use Rattle.geometry.specs.Vectors.{vec}
 use Rattle.matrix.specs.Matrices.{identityM}
 use Rattle.scene.specs.Entries.{matrixOf}
 use Rattle.accept.specs.Checks.{sceneOf}
-use Rattle.numerals.specs.Numerals.{digitOf, digits, value, decimalFrom, decimalOf, hexFrom, hexOf, patterned, positive, negative, numberOf}
+use Rattle.numerals.specs.Numerals.{digitOf, allDigits, value, decimalFrom, decimalOf, hexFrom, hexOf, patterned, plain, negated, numberOf}
 use Rattle.tokens.specs.Tokens.{got, wordByte, marked, flush, tokensFrom, left, andThen, openIn, closeIn, wordIn, realOf, numberIn, wholeOf, countIn}
 use Rattle.openings.specs.Heads.{same, kindOf, headIn, namedIn, kindIn, numbersIn, measures, detailIn, openingIn, viewOf, viewIn}
 use Rattle.rows.specs.Rows.{padded}
-use Rattle.nested.specs.Forms.{entered, enter, enclosed, round, body, form}
-use Rattle.forms.specs.Texts.{linesFrom, unlessEmpty, filled, linesLeft, whole, formsIn, yardIn, yardOf}
+use Rattle.nested.specs.Forms.{entered, enter, enclosed, roundIn, body, form}
+use Rattle.forms.specs.Texts.{linesFrom, unlessEmpty, filled, linesLeft, wholeLine, formsIn, yardIn, yardOf}
 
 abbrev pub sample : List ℕ
 sample = 40 ∷ 118 ∷ 105 ∷ 101 ∷ 119 ∷ 32 ∷ 50 ∷ 32 ∷ 50 ∷ 32 ∷ 48 ∷ 32 ∷ 48 ∷ 32 ∷ 48 ∷ 32 ∷ 53 ∷ 32 ∷ 49 ∷ 32 ∷ 48 ∷ 32 ∷ 48 ∷ 32 ∷ 48 ∷ 32 ∷ 48 ∷ 32 ∷ 49 ∷ 32 ∷ 48 ∷ 32 ∷ 48 ∷ 32 ∷ 48 ∷ 32 ∷ 48 ∷ 32 ∷ 49 ∷ 32 ∷ 48 ∷ 32 ∷ 48 ∷ 32 ∷ 48 ∷ 32 ∷ 48 ∷ 32 ∷ 49 ∷ 41 ∷ 10 ∷ 40 ∷ 116 ∷ 114 ∷ 105 ∷ 97 ∷ 110 ∷ 103 ∷ 108 ∷ 101 ∷ 32 ∷ 48 ∷ 32 ∷ 48 ∷ 32 ∷ 48 ∷ 32 ∷ 35 ∷ 51 ∷ 70 ∷ 69 ∷ 48 ∷ 48 ∷ 48 ∷ 48 ∷ 48 ∷ 48 ∷ 48 ∷ 48 ∷ 48 ∷ 48 ∷ 48 ∷ 48 ∷ 48 ∷ 32 ∷ 48 ∷ 32 ∷ 48 ∷ 32 ∷ 48 ∷ 32 ∷ 35 ∷ 51 ∷ 70 ∷ 69 ∷ 48 ∷ 48 ∷ 48 ∷ 48 ∷ 48 ∷ 48 ∷ 48 ∷ 48 ∷ 48 ∷ 48 ∷ 48 ∷ 48 ∷ 48 ∷ 32 ∷ 48 ∷ 41 ∷ 10 ∷ []
@@ -26,5 +26,5 @@ pub sample-read : yardOf sample
           (zeroF ∷ zeroF ∷ zeroF ∷ halfF ∷ zeroF ∷ zeroF ∷ zeroF ∷ halfF ∷ zeroF ∷ zeroF ∷ zeroF ∷ zeroF ∷ zeroF ∷ zeroF ∷ zeroF ∷ zeroF ∷ [])
           (5 ∷ 0 ∷ 0 ∷ 0 ∷ []) [] [] [];
     }) []
-unfolding ofBits ofInt neg digitOf digits value decimalFrom decimalOf hexFrom hexOf patterned positive negative numberOf wordByte marked flush tokensFrom left andThen openIn closeIn wordIn realOf numberIn wholeOf countIn same kindOf headIn namedIn kindIn numbersIn measures detailIn openingIn viewOf viewIn padded entered enter enclosed round body form linesFrom unlessEmpty filled linesLeft whole formsIn yardIn yardOf matrixOf identityM
+unfolding ofBits ofInt neg digitOf allDigits value decimalFrom decimalOf hexFrom hexOf patterned plain negated numberOf wordByte marked flush tokensFrom left andThen openIn closeIn wordIn realOf numberIn wholeOf countIn same kindOf headIn namedIn kindIn numbersIn measures detailIn openingIn viewOf viewIn padded entered enter enclosed roundIn body form linesFrom unlessEmpty filled linesLeft wholeLine formsIn yardIn yardOf matrixOf identityM
 sample-read = refl

@@ -30,15 +30,15 @@ unfoldable pub linesLeft : List ℕ → ℕ → List (List Token)
 linesLeft s at = filled (linesFrom [] (drop at s))
 
 -- a form is the whole of its line
-unfoldable pub whole : {A : Type 0} → Got A → Got A
-whole no = no
-whole (got a []) = got a []
-whole (got a (t ∷ ts)) = no
+unfoldable pub wholeLine : {A : Type 0} → Got A → Got A
+wholeLine no = no
+wholeLine (got a []) = got a []
+wholeLine (got a (t ∷ ts)) = no
 
 -- the forms of these lines, added to a scene
 unfoldable pub formsIn : Scene → List (List Token) → Got Scene
 formsIn s [] = got s []
-formsIn s (l ∷ ls) = andThen (whole (form 512 s l)) (λ a _. formsIn a ls)
+formsIn s (l ∷ ls) = andThen (wholeLine (form 512 s l)) (λ a _. formsIn a ls)
 
 -- a view and a scene
 pub record Yard : Type 0 where
@@ -50,7 +50,7 @@ nothing = sceneOf [] [] [] [] []
 
 unfoldable pub yardIn : List (List Token) → Got Yard
 yardIn [] = no
-yardIn (l ∷ ls) = andThen (whole (viewIn l)) (λ v _. andThen (formsIn nothing ls) (λ s ts. got (record { view = v; scene = s }) ts))
+yardIn (l ∷ ls) = andThen (wholeLine (viewIn l)) (λ v _. andThen (formsIn nothing ls) (λ s ts. got (record { view = v; scene = s }) ts))
 
 -- what a text of at most 65,536 bytes stands for
 unfoldable pub yardOf : List ℕ → Got Yard

@@ -45,7 +45,7 @@ pub record TreeOf {S : Type 0} (box : S → BBox) (solid : ℕ → S) (entries :
   pub fine : Fine (λ (i : ℕ). box (solid i)) entries
   pub built : Built (λ (i : ℕ). box (solid i)) entries tree
 
--- The eye test on a tree of the scene: a point is hidden where it answers no.
+-- The eye test on a tree of the scene: document 01's hidden is where it answers no.
 abbrev pub seesPast : {S : Type 0} → (S → Ray → Struck) → (ℕ → S) → Tree ℕ → Vector → Vector → Sight
 seesPast hit solid tree = sees (λ (r : Ray). visit (λ (i : ℕ). hit (solid i) r) r tree 0 nothing)
 

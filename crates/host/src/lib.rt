@@ -1,5 +1,5 @@
-// The calls for a host program, by C's calling convention: each is thin over the proved one, and none
-// has a condition that its caller must meet. tools/host/larnt.h declares them.
+// The calls for a host program, by C's calling convention: each is thin over the proved one, and takes
+// any numbers. tools/host/larnt.h declares them, with what its pointers must be.
 pub mod stages;
 pub mod trees;
 

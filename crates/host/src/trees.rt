@@ -51,9 +51,8 @@ pub fn in_sight(s: Sight) -> bool
     }
 }
 
-// The tree of a scene's drawn entries: numbers 2 to 7, then 13. `hulls` holds 6 numbers a node, `records`
-// 3 marks a node, `order` the drawn entries in the leaves' order, then zeros; `count` is how many nodes
-// there are.
+// The tree of a scene's drawn entries, of `count` nodes, and then zeros: numbers 2 to 7, then 13. `hulls`
+// holds 6 numbers a node, `records` 3 marks a node, `order` the drawn entries in the leaves' order.
 #[no_mangle]
 pub extern "C" fn larnt_build(
     numbers: &[f64],

@@ -13,7 +13,7 @@ use Rattle.tokens.specs.Tokens.{Token, Got, no, got, Mark, andThen, closeIn}
 use Rattle.openings.specs.Heads.{openingIn, pointIn, namedIn, lineWord}
 use Rattle.openings.specs.Lines.{orElse, dotted, pointsIn, begun, linesIn}
 use Rattle.openings.specs.declared.Head.{Head}
-use Rattle.nested.specs.Forms.{last, entered, enter, enclosed, round, body, form}
+use Rattle.nested.specs.Forms.{last, entered, enter, enclosed, roundIn, body, form}
 
 -- ---- what holds of a reader's scene where it gives one
 unfoldable pub Holds : (Scene → Type 0) → Got Scene → Type 0
@@ -85,8 +85,8 @@ enclosed-adds : (h : Head) (p q : ℕ) (s : Scene) (ts : List Token) → Holds (
 unfolding enclosed
 enclosed-adds h p q s ts = holds-then (Adds (entriesOf s)) (closeIn ts) _ (λ m us. enter-adds h p q s us)
 
-round-adds : (h : Head) (s : Scene) (ts : List Token) → Holds (Adds (entriesOf s)) (round h s ts)
-unfolding round
+round-adds : (h : Head) (s : Scene) (ts : List Token) → Holds (Adds (entriesOf s)) (roundIn h s ts)
+unfolding roundIn
 round-adds h s ts =
     holds-after (Adds (entriesOf s)) (Adds (entriesOf s)) (enter h 0 0 s ts) _ (enter-adds h 0 0 s ts) (λ r us w.
     holds-more (Keeps (r .marks)) (Adds (entriesOf s)) (linesIn _ _ r us) (λ a e. subst (λ (ms : List ℕ). (entriesOf s + 1 ≤ length ms / 4) × (length ms / 4 ≤ 512)) (sym e) w) (lines-keep _ _ r us))
@@ -151,7 +151,7 @@ cut-adds d h a us p = holds-after (Adds (entriesOf a)) (Adds (entriesOf a)) (for
 body-agree : (d : ℕ) (h : Head) (s : Scene) (us : List Token) → ((a : Scene) (us : List Token) → Agree (entriesOf a + d + 1) (form d a us) (form (suc d) a us)) → Agree (entriesOf s + suc d + 1) (body (form d) h s us) (body (form (suc d)) h s us)
 unfolding body
 body-agree d h s us ih =
-    agree-cond (entriesOf s + suc d + 1) (leb (h .kind) 3) _ _ _ _ (agree-refl (entriesOf s + suc d + 1) (round h s us))
+    agree-cond (entriesOf s + suc d + 1) (leb (h .kind) 3) _ _ _ _ (agree-refl (entriesOf s + suc d + 1) (roundIn h s us))
     (agree-cond (entriesOf s + suc d + 1) (leb (h .kind) 5) _ _ _ _ (agree-refl (entriesOf s + suc d + 1) (enclosed h 0 0 s us))
     (agree-then (entriesOf s + d + 1) (entriesOf s + suc d + 1) (entriesOf s + 1) (form d s us) (form (suc d) s us) _ _ (ih s us) (omega arith)
     (holds-more (Adds (entriesOf s)) (λ a. entriesOf s + 1 ≤ entriesOf a) (form (suc d) s us) (λ a v. v .0) (form-adds (suc d) s us))

@@ -22,7 +22,7 @@ use Rattle.openings.specs.declared.Head.{Head}
 use Rattle.openings.specs.declared.Next.{Next}
 use Rattle.openings.specs.declared.Next.the-variants.{To, No}
 use Rattle.openings.proofs.LineLaws.{take-sets}
-use Rattle.nested.specs.Forms.{entered, enter, enclosed, round}
+use Rattle.nested.specs.Forms.{entered, enter, enclosed, roundIn}
 
 pub numbers-more : (e : ℕ) (ns : List Float) (m : Numbers) {ns' : List Float} → e < 512 → 8192 ≤ length ns → ns' ≡ setRow 16 e (numbersRow m) ns → take ((e + 1) * 16) ns' ≡ take (e * 16) ns ++ numbersRow m
 numbers-more e ns m l h w = let n : (e + 1) * 16 ≡ e * 16 + 16 = omega arith in rw (w, n) (take-sets ns (e * 16) (numbersRow m) (omega (arith, l, h)))
@@ -70,8 +70,8 @@ module _ (s : List ℕ) (c : Cursor) (h : Head) (p q : ℕ) (ns : List Float) (m
 
 -- ---- a round form
 module _ (s : List ℕ) (c : Cursor) (h : Head) (ns : List Float) (ms : List ℕ) (ps : List Float) (ss os : List ℕ) (w : Within c) (big : 2048 ≤ length ms) where
-  pub round-full : 512 ≤ c .entries → nextAs s No ns ms ps ss os ≡ round h (held c ns ms ps ss os) (left s (c .at))
-  unfolding nextAs round andThen
+  pub round-full : 512 ≤ c .entries → nextAs s No ns ms ps ss os ≡ roundIn h (held c ns ms ps ss os) (left s (c .at))
+  unfolding nextAs roundIn andThen
   round-full l = sym (rw (full s c h 0 0 ns ms big ps ss os (left s (c .at)) (w .entries) l))
 
   begins : 2048 ≤ length ss → (at : ℕ) (ns' : List Float) (ms' : List ℕ) → length (held (grown c at) ns' ms' ps ss os .starts) ≡ c .lines
@@ -81,11 +81,11 @@ module _ (s : List ℕ) (c : Cursor) (h : Head) (ns : List Float) (ms : List ℕ
   module _ (bs : 2048 ≤ length ss) (l : c .entries < 512) (ns' : List Float) (ms' : List ℕ)
       (x : take ((c .entries + 1) * 16) ns' ≡ take (c .entries * 16) ns ++ numbersRow (h .row)) (y : take ((c .entries + 1) * 4) ms' ≡ take (c .entries * 4) ms ++ (h .kind ∷ h .detail ∷ 0 ∷ 0 ∷ []))
       (owner : ℕ) (o : owner ≡ c .entries) where
-    lines-follow : round h (held c ns ms ps ss os) (left s (c .at)) ≡ linesIn owner (2048 - c .lines) (held (grown c (c .at)) ns' ms' ps ss os) (left s (c .at))
-    unfolding round andThen
+    lines-follow : roundIn h (held c ns ms ps ss os) (left s (c .at)) ≡ linesIn owner (2048 - c .lines) (held (grown c (c .at)) ns' ms' ps ss os) (left s (c .at))
+    unfolding roundIn andThen
     lines-follow =
         rw (enters s c h 0 0 ns ms big ps ss os (left s (c .at)) l, ← held-entered s c h 0 0 ns ms big ps ss os (c .at) ns' ms' x y, begins bs (c .at) ns' ms', entries-held c ns ms ps ss os (w .entries) big, o)
 
     pub round-enters : (ps' : List Float) (ss' os' : List ℕ) (r : Next) → ((ns : List Float) (ms : List ℕ) → nextAs s r ns ms ps' ss' os' ≡ linesIn owner (2048 - c .lines) (held (grown c (c .at)) ns ms ps ss os) (left s (c .at)))
-        → nextAs s r ns' ms' ps' ss' os' ≡ round h (held c ns ms ps ss os) (left s (c .at))
+        → nextAs s r ns' ms' ps' ss' os' ≡ roundIn h (held c ns ms ps ss os) (left s (c .at))
     round-enters ps' ss' os' r lines = lines ns' ms' ∙ sym lines-follow

@@ -17,7 +17,7 @@ use Rattle.openings.specs.declared.Next.{Next}
 use Rattle.openings.specs.declared.Next.the-variants.{To, No}
 use Rattle.openings.specs.declared.Opening.{Opening}
 use Rattle.openings.specs.declared.Opening.the-variants.{Of, NoOpening}
-use Rattle.nested.specs.Forms.{last, enclosed, round, body, form}
+use Rattle.nested.specs.Forms.{last, enclosed, roundIn, body, form}
 use Rattle.nested.proofs.EntryLaws.{entries-held}
 
 pub form-zero : (d : ℕ) (a : Scene) (ts : List Token) → d ≡ 0 → no ≡ form d a ts
@@ -36,7 +36,7 @@ form-as (suc d) s at a l e f = rw (sub-one, ← e, f)
 
 -- ---- after its numbers
 module _ (f : Scene → List Token → Got Scene) (h : Head) (s : Scene) (ts : List Token) where
-  pub body-round : h .kind ≤ 3 → round h s ts ≡ body f h s ts
+  pub body-round : h .kind ≤ 3 → roundIn h s ts ≡ body f h s ts
   unfolding body
   body-round l = rw (le-leb (h .kind) 3 l)
 

@@ -31,15 +31,15 @@ unfoldable pub enclosed : Head → ℕ → ℕ → Scene → List Token → Got 
 enclosed h p q s ts = andThen (closeIn ts) (λ _ us. enter h p q s us)
 
 -- a sphere, cylinder or cone: its entry, then its lines up to its closing bracket, where there are places for 2,048 in all
-unfoldable pub round : Head → Scene → List Token → Got Scene
-round h s ts = andThen (enter h 0 0 s ts) (λ r us. linesIn (entriesOf s) (2048 - length (r .starts)) r us)
+unfoldable pub roundIn : Head → Scene → List Token → Got Scene
+roundIn h s ts = andThen (enter h 0 0 s ts) (λ r us. linesIn (entriesOf s) (2048 - length (r .starts)) r us)
 
 -- ---- forms
 
 -- A form after its numbers, where f reads an inner form: inner forms become earlier entries.
 unfoldable pub body : (Scene → List Token → Got Scene) → Head → Scene → List Token → Got Scene
 body f h s ts =
-    cond (leb (h .kind) 3) (round h s ts)
+    cond (leb (h .kind) 3) (roundIn h s ts)
     (cond (leb (h .kind) 5) (enclosed h 0 0 s ts)
     (andThen (f s ts) (λ a us.
     cond (eqb (h .kind) 6) (enclosed h (last a) 0 a us)

@@ -86,7 +86,7 @@ fn round(
     owners: &mut [u32],
 ) -> Next
     requires { ⌜ Within c × Sized (now numbers) (now marks) (now points) (now starts) (now owners) ⌝ }
-    ensures { λ r. ⌜ nextAs (now (text .entry)) r (now (numbers .exit)) (now (marks .exit)) (now (points .exit)) (now (starts .exit)) (now (owners .exit)) ≡ Forms.round h (held c (now (numbers .entry)) (now (marks .entry)) (now (points .entry)) (now (starts .entry)) (now (owners .entry))) (left (now (text .entry)) (c .at)) ⌝ }
+    ensures { λ r. ⌜ nextAs (now (text .entry)) r (now (numbers .exit)) (now (marks .exit)) (now (points .exit)) (now (starts .exit)) (now (owners .exit)) ≡ Forms.roundIn h (held c (now (numbers .entry)) (now (marks .entry)) (now (points .entry)) (now (starts .entry)) (now (owners .entry))) (left (now (text .entry)) (c .at)) ⌝ }
     ensures { λ r. ⌜ WithinNext r ⌝ }
 {
     if c.entries >= 512 {

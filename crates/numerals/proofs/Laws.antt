@@ -12,7 +12,7 @@ use Rattle.sqrt.proofs.Patterns.{nan-above}
 use lib.ListN.{length, drop, getD, take, drop-of-length-le}
 use lib.Seq.{drop-cons, take-all}
 use borrow.Author.Tests.{lt-ltb, le-ltb, lt-leb, le-leb, eq-eqb, ne-eqb}
-use Rattle.numerals.specs.Numerals.{digitOf, digits, value, decimalFrom, decimalOf, hexFrom, hexOf, numberOf, patterned, negative, positive}
+use Rattle.numerals.specs.Numerals.{digitOf, allDigits, value, decimalFrom, decimalOf, hexFrom, hexOf, numberOf, patterned, negated, plain}
 use Rattle.numerals.specs.declared.Numeral.the-variants.{NoNumber}
 use Rattle.numerals.specs.declared.Whole.the-variants.{Value, Bad}
 use Rattle.numerals.specs.declared.Pattern.the-variants.{Bits, Wrong}
@@ -32,19 +32,19 @@ value-grows n (c ∷ s) = omega (arith, value-grows (n * 10 + digitOf c) s)
 
 module _ (n : ℕ) (s : List ℕ) (i d : ℕ) (l : i < length s) (e : d ≡ digitOf (getD s i 0)) where
   pub decimal-more : d < 10 → decimalFrom n (drop i s) ≡ decimalFrom (n * 10 + d) (drop (i + 1) s)
-  unfolding decimalFrom digits value
+  unfolding decimalFrom allDigits value
   decimal-more b = rw (e, add-one i, drop-cons s i 0 l, lt-ltb (digitOf (getD s i 0)) 10 (rw e at b))
 
   pub decimal-stray : 10 ≤ d → decimalFrom n (drop i s) ≡ Bad
-  unfolding decimalFrom digits value
+  unfolding decimalFrom allDigits value
   decimal-stray b = rw (drop-cons s i 0 l, ← e, le-ltb d 10 b, and-false)
 
   pub hex-more : d < 16 → hexFrom n (drop i s) ≡ hexFrom (n * 16 + d) (drop (i + 1) s)
-  unfolding hexFrom digits value
+  unfolding hexFrom allDigits value
   hex-more b = rw (e, add-one i, drop-cons s i 0 l, lt-ltb (digitOf (getD s i 0)) 16 (rw e at b))
 
   pub hex-stray : 16 ≤ d → hexFrom n (drop i s) ≡ Wrong
-  unfolding hexFrom digits value
+  unfolding hexFrom allDigits value
   hex-stray b = rw (drop-cons s i 0 l, ← e, le-ltb d 16 b)
 
 pub decimal-over : (n : ℕ) (s : List ℕ) → 1000000 < n → decimalFrom n s ≡ Bad
@@ -52,11 +52,11 @@ unfolding decimalFrom
 decimal-over n s h = rw (lt-leb (value 10 n s) 1000000 (omega (arith, value-grows n s)))
 
 pub decimal-end : (n : ℕ) (s : List ℕ) (i : ℕ) → n ≤ 1000000 → length s ≤ i → decimalFrom n (drop i s) ≡ Value n
-unfolding decimalFrom digits value
+unfolding decimalFrom allDigits value
 decimal-end n s i h l = rw (drop-of-length-le s {i = i} l, le-leb n 1000000 h)
 
 pub hex-end : (n : ℕ) (s : List ℕ) (i : ℕ) → length s ≤ i → hexFrom n (drop i s) ≡ Bits n
-unfolding hexFrom digits value
+unfolding hexFrom allDigits value
 hex-end n s i l = rw (drop-of-length-le s {i = i} l)
 
 -- i digits stand for a number below 16 ^ i
@@ -103,12 +103,12 @@ unfolding numberOf
 number-hex [] h e = absurd (h refl)
 number-hex (c ∷ s) h e = rw (rest-is c s, eq-eqb c 35 e)
 
-pub number-minus : (w : List ℕ) → (length w ≡ 0 → ⊥) → (getD w 0 0 ≡ 35 → ⊥) → getD w 0 0 ≡ 45 → numberOf w ≡ negative (decimalOf (rest w))
+pub number-minus : (w : List ℕ) → (length w ≡ 0 → ⊥) → (getD w 0 0 ≡ 35 → ⊥) → getD w 0 0 ≡ 45 → numberOf w ≡ negated (decimalOf (rest w))
 unfolding numberOf
 number-minus [] h d e = absurd (h refl)
 number-minus (c ∷ s) h d e = rw (rest-is c s, ne-eqb c 35 d, eq-eqb c 45 e)
 
-pub number-plain : (w : List ℕ) → (length w ≡ 0 → ⊥) → (getD w 0 0 ≡ 35 → ⊥) → (getD w 0 0 ≡ 45 → ⊥) → numberOf w ≡ positive (decimalOf w)
+pub number-plain : (w : List ℕ) → (length w ≡ 0 → ⊥) → (getD w 0 0 ≡ 35 → ⊥) → (getD w 0 0 ≡ 45 → ⊥) → numberOf w ≡ plain (decimalOf w)
 unfolding numberOf
 number-plain [] h d e = absurd (h refl)
 number-plain (c ∷ s) h d e = rw (ne-eqb c 35 d, ne-eqb c 45 e)

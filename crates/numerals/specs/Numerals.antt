@@ -22,9 +22,9 @@ digitOf c =
     (cond (ltb c 97) 16 (cond (ltb c 103) (c - 87) 16)))))
 
 -- whether each byte is a digit of the base
-unfoldable pub digits : ℕ → List ℕ → Bool
-digits base [] = true
-digits base (c ∷ s) = ltb (digitOf c) base && digits base s
+unfoldable pub allDigits : ℕ → List ℕ → Bool
+allDigits base [] = true
+allDigits base (c ∷ s) = ltb (digitOf c) base && allDigits base s
 
 -- the number that digits stand for, after others that stand for n
 unfoldable pub value : ℕ → ℕ → List ℕ → ℕ
@@ -33,7 +33,7 @@ value base n (c ∷ s) = value base (n * base + digitOf c) s
 
 -- A number n that digits have given so far is carried on by the digits s.
 unfoldable pub decimalFrom : ℕ → List ℕ → Whole
-decimalFrom n s = cond (leb (value 10 n s) 1000000 && digits 10 s) (Value (value 10 n s)) Bad
+decimalFrom n s = cond (leb (value 10 n s) 1000000 && allDigits 10 s) (Value (value 10 n s)) Bad
 
 -- a decimal: at least one digit, leading zeros allowed, of value at most 1,000,000
 unfoldable pub decimalOf : List ℕ → Whole
@@ -41,7 +41,7 @@ decimalOf [] = Bad
 decimalOf (c ∷ s) = decimalFrom 0 (c ∷ s)
 
 unfoldable pub hexFrom : ℕ → List ℕ → Pattern
-hexFrom n s = cond (digits 16 s) (Bits (value 16 n s)) Wrong
+hexFrom n s = cond (allDigits 16 s) (Bits (value 16 n s)) Wrong
 
 -- sixteen hexadecimal digits
 unfoldable pub hexOf : List ℕ → Pattern
@@ -52,16 +52,16 @@ unfoldable pub patterned : Pattern → Numeral
 patterned (Bits b) = float (bits b)
 patterned Wrong = NoNumber
 
-unfoldable pub positive : Whole → Numeral
-positive (Value n) = float (ofInt binary64 (pos n))
-positive Bad = NoNumber
+unfoldable pub plain : Whole → Numeral
+plain (Value n) = float (ofInt binary64 (pos n))
+plain Bad = NoNumber
 
 -- -0 reads as +0
-unfoldable pub negative : Whole → Numeral
-negative (Value n) = float (cond (eqb n 0) zeroF (neg (ofInt binary64 (pos n))))
-negative Bad = NoNumber
+unfoldable pub negated : Whole → Numeral
+negated (Value n) = float (cond (eqb n 0) zeroF (neg (ofInt binary64 (pos n))))
+negated Bad = NoNumber
 
 -- a number: # and sixteen hexadecimal digits, - and a decimal, or a decimal
 unfoldable pub numberOf : List ℕ → Numeral
 numberOf [] = NoNumber
-numberOf (c ∷ s) = cond (eqb c 35) (patterned (hexOf s)) (cond (eqb c 45) (negative (decimalOf s)) (positive (decimalOf (c ∷ s))))
+numberOf (c ∷ s) = cond (eqb c 35) (patterned (hexOf s)) (cond (eqb c 45) (negated (decimalOf s)) (plain (decimalOf (c ∷ s))))

@@ -29,14 +29,14 @@ before Drop ws = ws
 before (Refused k) ws = ws
 
 -- the points that a test keeps, as it makes them, in order
-unfoldable pub kept : (Vector → Test) → List Vector → List Vector
-kept test [] = []
-kept test (v ∷ vs) = before (test v) (kept test vs)
+unfoldable pub keptIn : (Vector → Test) → List Vector → List Vector
+keptIn test [] = []
+keptIn test (v ∷ vs) = before (test v) (keptIn test vs)
 
 -- of all paths, one path after the other
 unfoldable pub keptOf : (Vector → Test) → List (List Vector) → List Vector
 keptOf test [] = []
-keptOf test (p ∷ ps) = kept test p ++ keptOf test ps
+keptOf test (p ∷ ps) = keptIn test p ++ keptOf test ps
 
 -- each point of each path is answered
 abbrev pub AllAnswered : (Vector → Test) → List (List Vector) → Type 0
@@ -70,15 +70,15 @@ before-append (Refused k) ws = refl
 module _ (test : Vector → Test) (room startRoom : ℕ) where
   -- ---- the points of a path
   from-points : (vs : List Vector) (o : Paths) {q : Paths} → filteredFrom test room startRoom vs o ≡ answered q
-      → (q .vertices ≡ o .vertices ++ kept test vs) × ((v : Vector) → Member v vs → Answered (test v))
-  unfolding filteredFrom kept
+      → (q .vertices ≡ o .vertices ++ keptIn test vs) × ((v : Vector) → Member v vs → Answered (test v))
+  unfolding filteredFrom keptIn
   from-points [] o e = (ap (λ (p : Paths). p .vertices) (sym (same-answer e)) ∙ sym (append-nil (o .vertices)), λ v m. absurd m)
   from-points (v ∷ vs) o {q} e =
       let s = next-answered (stepped room startRoom (test v) o) (filteredFrom test room startRoom vs) _ e in
       let one = step-points room startRoom (test v) o (s .1) in
       let more = from-points vs (s .0) (s .2) in (
-        more .0 ∙ ap (λ (l : List Vector). l ++ kept test vs) (one .0) ∙ append-assoc (o .vertices) (before (test v) []) (kept test vs)
-            ∙ ap (λ (l : List Vector). o .vertices ++ l) (before-append (test v) (kept test vs)),
+        more .0 ∙ ap (λ (l : List Vector). l ++ keptIn test vs) (one .0) ∙ append-assoc (o .vertices) (before (test v) []) (keptIn test vs)
+            ∙ ap (λ (l : List Vector). o .vertices ++ l) (before-append (test v) (keptIn test vs)),
         λ u m. by u (one .1) (more .1) m,
       )
     where
@@ -87,13 +87,13 @@ module _ (test : Vector → Test) (room startRoom : ℕ) where
       by u a b (inr m) = b u m
 
   path-points : (p : List Vector) (o : Paths) {q : Paths} → pathFilter test room startRoom p o ≡ answered q
-      → (q .vertices ≡ o .vertices ++ kept test p) × ((v : Vector) → Member v p → Answered (test v))
+      → (q .vertices ≡ o .vertices ++ keptIn test p) × ((v : Vector) → Member v p → Answered (test v))
   unfolding pathFilter
   path-points p o {q} e =
       let s = next-answered (opened startRoom o) (λ (u : Paths). next (filteredFrom test room startRoom p u) (λ (r : Paths). answered (closed r))) _ e in
       let t = next-answered (filteredFrom test room startRoom p (s .0)) (λ (r : Paths). answered (closed r)) _ (s .2) in
       let f = from-points p (s .0) (t .1) in
-      (ap (λ (r : Paths). r .vertices) (sym (same-answer (t .2))) ∙ closed-points (t .0) ∙ f .0 ∙ ap (λ (l : List Vector). l ++ kept test p) (opened-points startRoom o (s .1)), f .1)
+      (ap (λ (r : Paths). r .vertices) (sym (same-answer (t .2))) ∙ closed-points (t .0) ∙ f .0 ∙ ap (λ (l : List Vector). l ++ keptIn test p) (opened-points startRoom o (s .1)), f .1)
 
   -- ---- all paths
   each-points : (ps : List (List Vector)) (o : Paths) {q : Paths} → each (pathFilter test room startRoom) ps o ≡ answered q
@@ -104,7 +104,7 @@ module _ (test : Vector → Test) (room startRoom : ℕ) where
       let s = next-answered (pathFilter test room startRoom p o) (each (pathFilter test room startRoom) ps) _ e in
       let one = path-points p o (s .1) in
       let more = each-points ps (s .0) (s .2) in
-      (more .0 ∙ ap (λ (l : List Vector). l ++ keptOf test ps) (one .0) ∙ append-assoc (o .vertices) (kept test p) (keptOf test ps), λ u m. by u (one .1) (more .1) m)
+      (more .0 ∙ ap (λ (l : List Vector). l ++ keptOf test ps) (one .0) ∙ append-assoc (o .vertices) (keptIn test p) (keptOf test ps), λ u m. by u (one .1) (more .1) m)
     where
       by : (u : List Vector) → ((v : Vector) → Member v p → Answered (test v)) → AllAnswered test ps → (p ≡ u) ⊎ Member u ps → (v : Vector) → Member v u → Answered (test v)
       by u a b (inl h) = rw (← h) a

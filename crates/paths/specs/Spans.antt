@@ -1,4 +1,4 @@
--- Where a path starts and ends among n points, drawn in so that it is a part of them whatever the starts are.
+-- Where a path starts and ends among n points, cut down so that it is a part of them whatever the starts are.
 use mathlib.Core.Bool.{cond}
 use mathlib.Core.List.{List}
 use Prim.Native.Nat.{ℕ}

@@ -104,7 +104,7 @@ fn lesser(a: usize, b: usize) -> usize
     if b < a { b } else { a }
 }
 
-// Path i of these, among n points; ends out of order or beyond the points are drawn in.
+// Path i of these, among n points; ends out of order or beyond the points are kept within them.
 pub fn span_of(starts: &[usize], i: usize, n: usize) -> Span
     requires { ⌜ i < length (now starts) ⌝ }
     ensures { λ r. ⌜ r ≡ spanOf n (now (starts .entry)) i ⌝ }

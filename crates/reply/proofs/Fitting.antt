@@ -12,12 +12,11 @@ use Rattle.accept.specs.Checks.{Scene}
 use Rattle.view.specs.declared.View.{View}
 use Rattle.paths.specs.Answers.{Answer, answered, refused}
 use Rattle.paths.specs.Paths.{Paths}
-use Rattle.paths.proofs.Laying.{laid-rising}
 use Rattle.draw.specs.Draw.{drawOf}
 use Rattle.draw.specs.Drawing.{drawn-so, drawing-laid}
 use Rattle.tokens.specs.Tokens.{Got, no, got}
 use Rattle.forms.specs.Texts.{Yard, yardOf}
-use Rattle.drawing.specs.Drawings.{fitting}
+use Rattle.drawing.specs.Drawings.{fitting, laid}
 use Rattle.drawing.proofs.Sizes.{text-fits, refused-fits}
 use Rattle.reply.specs.Reply.{enough, yardPlaces, answerText, drawnText, readText, replyOf, shown}
 
@@ -43,7 +42,7 @@ drawn-fits s v = by (drawOf s v yardPlaces) refl
     by : (a : Answer Paths) → drawOf s v yardPlaces ≡ a → length (answerText a) ≤ enough
     by (answered p) e =
         let h = drawing-laid (drawn-so s v yardPlaces e) in
-        text-fits (p .vertices) (p .starts) (h .points-fit) (h .starts-fit) (laid-rising h)
+        text-fits (p .vertices) (p .starts) (h .1) (h .2) (h .0)
     by (refused k) e = omega (arith, refused-fits (numberOf k) (number-small k))
 
 reply-fits : (text : List ℕ) → length (replyOf text) ≤ enough
@@ -61,5 +60,6 @@ all-shown text {room} h = rw (le-leb (length (replyOf text)) room (omega (arith,
 
 -- what is printed, and how much of it there is
 pub shown-whole : (text : List ℕ) (room n : ℕ) (ys : List ℕ) → (n ≤ length ys) × (take n ys ≡ shown (fitting room (replyOf text)))
-    → (enough ≤ room → take n ys ≡ replyOf text) × ((n ≤ length ys) × (take n ys ≡ shown (fitting room (replyOf text))))
-shown-whole text room n ys h = (λ e. h .1 ∙ all-shown text e, h)
+    → ys ≡ laid (fitting room (replyOf text)) room
+    → (enough ≤ room → take n ys ≡ replyOf text) × (ys ≡ laid (fitting room (replyOf text)) room) × ((n ≤ length ys) × (take n ys ≡ shown (fitting room (replyOf text))))
+shown-whole text room n ys h l = (λ e. h .1 ∙ all-shown text e, l, h)

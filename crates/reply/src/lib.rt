@@ -88,6 +88,7 @@ pub fn reply(text: &[u8], out: &mut [u8]) -> Count
 // slice of 129,039 bytes never is.
 pub fn answer(text: &[u8], out: &mut [u8]) -> usize
     ensures whole { λ n. ⌜ (enough ≤ length (now (out .entry)) → take n (now (out .exit)) ≡ replyOf (now (text .entry))) ⌝ }
+    ensures lent { λ _. ⌜ now (out .exit) ≡ laid (fitting (length (now (out .entry))) (replyOf (now (text .entry)))) (length (now (out .entry))) ⌝ }
     ensures part { λ n. ⌜ (n ≤ length (now (out .exit))) × (take n (now (out .exit)) ≡ shown (fitting (length (now (out .entry))) (replyOf (now (text .entry))))) ⌝ }
 {
     let r = reply(text, out);

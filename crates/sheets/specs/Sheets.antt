@@ -77,10 +77,11 @@ pub record Put {s : Scene} {v : View} {w : Places} {q : Paths} (D : Drawing s v 
   pub among : Member path (pathsOf (D .lines .vertices) (D .lines .starts))
   pub on : Member point path
 
--- document 01: step 4 passes the point, or drops it as hidden, by the eye test on the tree of the scene
+-- step 4 passes the point, by the eye test on the tree of the scene
 abbrev pub PassedIn : Scene → View → Vector → Type 0
 PassedIn s v = Passed (v .matrix) (seenIn s (v .eye))
 
+-- document 01's dropped as hidden: the eye test says no
 abbrev pub HiddenIn : Scene → View → Vector → Type 0
 HiddenIn s v = DroppedAsHidden (v .matrix) (seenIn s (v .eye))
 

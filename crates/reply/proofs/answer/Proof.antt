@@ -20,13 +20,13 @@ same-length : tie.Need-same-length
 same-length c = search needs
 
 returns : tie.Need-returns
-returns c = shown-whole (c .before .before .before .before .before .before .before .before .before .args .text .now) (length (c .before .before .before .before .before .before .before .before .before .args .out .now)) _ _ (shown-at _ _ (fitting (length (c .before .before .before .before .before .before .before .before .before .args .out .now)) (replyOf (c .before .before .before .before .before .before .before .before .before .args .text .now))) (c .before .before .before .before .before .reply .ensures .0) (c .before .before .before .before .before .reply .ensures .1) (c .before .r .given .1))
+returns c = shown-whole (c .before .before .before .before .before .before .before .before .before .args .text .now) (length (c .before .before .before .before .before .before .before .before .before .args .out .now)) _ _ (shown-at _ _ (fitting (length (c .before .before .before .before .before .before .before .before .before .args .out .now)) (replyOf (c .before .before .before .before .before .before .before .before .before .args .text .now))) (c .before .before .before .before .before .reply .ensures .0) (c .before .before .before .before .before .reply .ensures .1) (c .before .r .given .1)) (c .before .before .before .before .before .reply .ensures .1)
 
 same-length-2 : tie.Need-same-length-2
 same-length-2 c = search needs
 
 returns-2 : tie.Need-returns-2
-returns-2 c = shown-whole (c .before .before .before .before .before .before .before .before .args .text .now) (length (c .before .before .before .before .before .before .before .before .args .out .now)) _ (c .before .before .before .before .reply .last .1 .0) (shown-none (length (c .before .before .before .before .before .before .before .before .args .out .now)) (c .before .before .before .before .reply .last .1 .0) (fitting (length (c .before .before .before .before .before .before .before .before .args .out .now)) (replyOf (c .before .before .before .before .before .before .before .before .args .text .now))) (c .before .before .before .before .reply .ensures .0) (c .enum-told .given .1))
+returns-2 c = shown-whole (c .before .before .before .before .before .before .before .before .args .text .now) (length (c .before .before .before .before .before .before .before .before .args .out .now)) _ (c .before .before .before .before .reply .last .1 .0) (shown-none (length (c .before .before .before .before .before .before .before .before .args .out .now)) (c .before .before .before .before .reply .last .1 .0) (fitting (length (c .before .before .before .before .before .before .before .before .args .out .now)) (replyOf (c .before .before .before .before .before .before .before .before .args .text .now))) (c .before .before .before .before .reply .ensures .0) (c .enum-told .given .1)) (c .before .before .before .before .reply .ensures .1)
 
 pub answer-spec : {M : Type 1} → statement M
 answer-spec =
