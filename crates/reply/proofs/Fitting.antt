@@ -61,5 +61,5 @@ all-shown text {room} h = rw (le-leb (length (replyOf text)) room (omega (arith,
 -- what is printed, and how much of it there is
 pub shown-whole : (text : List ℕ) (room n : ℕ) (ys : List ℕ) → (n ≤ length ys) × (take n ys ≡ shown (fitting room (replyOf text)))
     → ys ≡ laid (fitting room (replyOf text)) room
-    → (enough ≤ room → take n ys ≡ replyOf text) × (ys ≡ laid (fitting room (replyOf text)) room) × ((n ≤ length ys) × (take n ys ≡ shown (fitting room (replyOf text))))
-shown-whole text room n ys h l = (λ e. h .1 ∙ all-shown text e, l, h)
+    → (enough ≤ room → take n ys ≡ replyOf text) × ((ys ≡ laid (fitting room (replyOf text)) room) × ((n ≤ length ys) × (take n ys ≡ shown (fitting room (replyOf text)))))
+shown-whole text room n ys h l = (λ e. h .1 ∙ all-shown text e, (l, h))

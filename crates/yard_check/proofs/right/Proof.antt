@@ -15,7 +15,7 @@ array-share-prefix-out : tie.Need-array-share-prefix-out
 array-share-prefix-out c = search needs
 
 slice-aggregate-same : tie.Need-slice-aggregate-same
-slice-aggregate-same c = sym (length-take-le _ _ (c .before .before .answer .ensures .2 .0))
+slice-aggregate-same c = sym (length-take-le _ _ (c .before .before .answer .ensures .1 .1 .0))
 
 same-requires : tie.Need-same-requires
 same-requires c κs = search needs
