@@ -12,38 +12,39 @@ use Rattle.geometry.specs.declared.bounding_box.BBox.{BBox}
 use Rattle.rows.specs.Rows.{padded}
 use Rattle.scene.specs.Entries.{ownEntry}
 use Rattle.scene.specs.declared.entry.Entry.{Entry}
-use Rattle.scene.specs.declared.refusal.Refusal.the-variants.{Room}
-use Rattle.shape.specs.Shapes.{Shape, shapeBox, shapeHit}
-use Rattle.nodes.specs.Trees.{Tree, layout}
-use Rattle.nodes.specs.declared.Node.{Node}
-use Rattle.sort.specs.Sort.{Each}
-use Rattle.sort.proofs.EachLaws.{each-map}
-use Rattle.tree.specs.Build.{Fits, boxAt, nodesFor}
-use Rattle.tree.proofs.Agreement.{same-tree}
-use Rattle.walk.specs.Walks.{nothing, visit}
-use Rattle.walk.specs.declared.Found.{Found}
-use Rattle.parts.specs.Parts.{entries, namedBefore}
-use Rattle.parts.specs.Drawn.{drawn}
-use Rattle.accept.specs.Extents.{ownBox}
-use Rattle.accept.specs.Checks.{Scene, entriesOf, checkOf, inversesOf, boxesOf}
-use Rattle.accept.specs.declared.Verdict.the-variants.{Accepted}
-use Rattle.accept.proofs.Left.{own-entry, own-box}
-use Rattle.queries.specs.Queries.{plantedOf}
-use Rattle.queries.specs.declared.Built.{Built}
-use Rattle.queries.specs.declared.Built.the-variants.{Nodes, Refused as NotBuilt}
-use Rattle.queries.proofs.Plants.{each-unnamed, accepted-many, accepted-fits}
+use Rattle.refusals.specs.declared.Refusal.the-variants.{Room}
+use Rattle.scene_shape.specs.Shapes.{Shape, shapeBox, shapeHit}
+use Rattle.tree_nodes.specs.Trees.{Tree, layout}
+use Rattle.tree_nodes.specs.declared.Node.{Node}
+use Rattle.lists.specs.Lists.{Each}
+use Rattle.lists.proofs.Properties.{each-map}
+use Rattle.tree_split.specs.Build.{Fits, boxAt, nodesFor}
+use Rattle.tree_split.proofs.Agreement.{same-tree}
+use Rattle.tree_walk.specs.Walks.{nothing, visit}
+use Rattle.tree_walk.specs.declared.Found.{Found}
+use Rattle.check_parts.specs.Parts.{namedBefore}
+use Rattle.scene.specs.Scenes.{Scene, entriesOf}
+use Rattle.check_parts.specs.Drawn.{drawn}
+use Rattle.check_scene.specs.Extents.{ownBox}
+use Rattle.check_scene.specs.Checks.{checkOf, inversesOf, boxesOf}
+use Rattle.check_scene.specs.declared.Verdict.the-variants.{Accepted}
+use Rattle.check_scene.proofs.Accepted.{own-entry, own-box}
+use Rattle.query_scene.specs.Queries.{plantedOf}
+use Rattle.query_scene.specs.declared.Built.{Built}
+use Rattle.query_scene.specs.declared.Built.the-variants.{Nodes, Refused as NotBuilt}
+use Rattle.query_scene.proofs.Plants.{each-unnamed, accepted-many, accepted-fits}
 use Rattle.paths.specs.Answers.{Answer, answered, next}
 use Rattle.paths.specs.Paths.{Paths, noPaths}
 use Rattle.view.specs.Views.{viewport, argsOf}
 use Rattle.view.specs.declared.View.{View}
-use Rattle.clip.specs.Clip.{clipPaths}
-use Rattle.visible.specs.Sights.{sees}
-use Rattle.collect.specs.Lined.{Lined, bare, readLined, ownLines}
-use Rattle.collect.specs.Collect.{choppedLines, collectedAll}
-use Rattle.collect.specs.Slices.{linedAt}
-use Rattle.collect.proofs.Nesting.{bare-read}
-use Rattle.render.specs.Render.{Places, stepping, nearestOf, onTree, seenLines, simplifiedLines, mapped, staged, rendered}
-use Rattle.render.specs.Slices.{Listed}
+use Rattle.draw_clip.specs.Clip.{clipPaths}
+use Rattle.tree_sight.specs.Sights.{sees}
+use Rattle.draw_collect.specs.Lined.{Lined, bare, readLined, ownLines}
+use Rattle.draw_collect.specs.Collect.{choppedLines, collectedAll}
+use Rattle.draw_collect.specs.Slices.{linedAt}
+use Rattle.draw_collect.proofs.Nesting.{bare-read}
+use Rattle.draw_render.specs.Render.{Places, stepping, nearestOf, onTree, seenLines, simplifiedLines, mapped, staged, rendered}
+use Rattle.draw_render.specs.Slices.{Listed}
 use Rattle.draw.specs.Draw.{linedIn, render}
 
 -- ---- a drawing hangs on the boxes of its solids alone

@@ -6,28 +6,29 @@ use mathlib.Core.Bool.{Bool, true, false}
 use native.Mathlib.Omega.{arith}
 use lib.ListN.{length, take}
 use lib.Ieee.{Float, lt, ofBits}
-use Rattle.floats.specs.Arith.{zeroF}
+use Rattle.floats.specs.Arith.{zeroF, millionth}
 use Rattle.rows.specs.Rows.{padded}
-use Rattle.scene.specs.declared.refusal.Refusal.{Refusal}
-use Rattle.scene.specs.declared.refusal.Refusal.the-variants.{View as BadView}
-use Rattle.tree.specs.Build.{boxAt}
-use Rattle.parts.specs.Drawn.{drawn}
-use Rattle.accept.specs.Checks.{Scene, checkOf, inversesOf, boxesOf, ifAccepted}
-use Rattle.accept.specs.declared.Verdict.{Verdict}
-use Rattle.accept.specs.declared.Verdict.the-variants.{Accepted, Refused}
-use Rattle.accept.proofs.Left.{left-is, own-drawn}
-use Rattle.queries.proofs.Plants.{accepted-count, accepted-many}
+use Rattle.refusals.specs.declared.Refusal.{Refusal}
+use Rattle.refusals.specs.declared.Refusal.the-variants.{View as BadView}
+use Rattle.tree_split.specs.Build.{boxAt}
+use Rattle.check_parts.specs.Drawn.{drawn}
+use Rattle.check_scene.specs.Checks.{checkOf, inversesOf, boxesOf, ifAccepted}
+use Rattle.scene.specs.Scenes.{Scene}
+use Rattle.check_scene.specs.declared.Verdict.{Verdict}
+use Rattle.check_scene.specs.declared.Verdict.the-variants.{Accepted, Refused}
+use Rattle.check_scene.proofs.Accepted.{left-is, own-drawn}
+use Rattle.query_scene.proofs.Plants.{accepted-count, accepted-many}
 use Rattle.paths.specs.Ends.{EndsBoth}
 use Rattle.paths.specs.declared.Counts.{Counts}
 use Rattle.paths.specs.declared.Counts.the-variants.{Refused as NotBoth}
 use Rattle.paths.proofs.Ending.{refuses-both}
-use Rattle.lines.proofs.Adding.{ends-both-as}
+use Rattle.draw_lines.proofs.Adding.{ends-both-as}
 use Rattle.view.specs.Views.{viewOk}
 use Rattle.view.specs.declared.View.{View}
-use Rattle.collect.specs.Slices.{linedAt}
-use Rattle.render.specs.Render.{Places, rendered}
-use Rattle.render.specs.Slices.{Listed}
-use Rattle.draw.specs.Draw.{linedIn, millionth, render, drawnAfter, drawOf}
+use Rattle.draw_collect.specs.Slices.{linedAt}
+use Rattle.draw_render.specs.Render.{Places, rendered}
+use Rattle.draw_render.specs.Slices.{Listed}
+use Rattle.draw.specs.Draw.{linedIn, render, drawnAfter, drawOf}
 use Rattle.draw.proofs.Bridge.{accepted-listed, rendered-is-render}
 
 pub millionth-fine : lt millionth zeroF ≡ false

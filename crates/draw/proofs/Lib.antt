@@ -1,3 +1,4 @@
 pub mod Bridge
 pub mod Drawings
 pub mod Endings
+pub mod Answered

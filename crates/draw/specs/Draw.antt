@@ -1,30 +1,29 @@
 -- Document 01's draw of a scene: refusals 2 to 8, and then the drawing.
 use mathlib.Core.Bool.{cond}
 use mathlib.Core.List.{List}
-use Prim.Native.Nat.{ℕ}
+use Prim.Native.Nat.{ℕ, _*_, _/_}
+use lib.ListN.{length}
 use lib.Ieee.{Float}
-use Rattle.floats.specs.Arith.{bits}
+use Rattle.floats.specs.Arith.{millionth}
 use Rattle.scene.specs.Entries.{ownEntry}
-use Rattle.scene.specs.declared.refusal.Refusal.the-variants.{View as BadView}
-use Rattle.shape.specs.Shapes.{shapeBox}
-use Rattle.parts.specs.Drawn.{drawn}
-use Rattle.accept.specs.Checks.{Scene, checkOf}
-use Rattle.accept.specs.declared.Verdict.{Verdict}
-use Rattle.accept.specs.declared.Verdict.the-variants.{Accepted, Refused}
+use Rattle.refusals.specs.declared.Refusal.the-variants.{View as BadView}
+use Rattle.scene_shape.specs.Shapes.{shapeBox}
+use Rattle.check_parts.specs.Drawn.{drawn}
+use Rattle.check_scene.specs.Checks.{checkOf}
+use Rattle.scene.specs.Scenes.{Scene, sceneOf}
+use Rattle.check_scene.specs.declared.Verdict.{Verdict}
+use Rattle.check_scene.specs.declared.Verdict.the-variants.{Accepted, Refused}
 use Rattle.paths.specs.Answers.{Answer, refused}
 use Rattle.paths.specs.Paths.{Paths}
 use Rattle.view.specs.Views.{viewOk}
 use Rattle.view.specs.declared.View.{View}
-use Rattle.collect.specs.Lined.{Lined, bare, readLined, ownLines}
-use Rattle.render.specs.Render.{Places, rendered}
+use Rattle.draw_collect.specs.Lined.{Lined, bare, readLined, ownLines}
+use Rattle.draw_render.specs.Render.{Places, rendered}
+use Rattle.draw_render.specs.Slices.{placesIn}
 
 -- the drawn value at entry i of a scene, each placing with its own inverse
 abbrev pub linedIn : Scene → ℕ → Lined
 linedIn s = readLined 8 (ownEntry (s .numbers) (s .marks)) (ownLines (s .marks) (s .points) (s .starts) (s .owners))
-
--- 1e-6
-abbrev pub millionth : Float
-millionth = bits 0x3eb0_c6f7_a0b5_ed8d
 
 -- the drawing of these drawn values, each with its own box
 unfoldable pub render : Float → View → Places → (ℕ → Lined) → List ℕ → Answer Paths
@@ -36,3 +35,8 @@ drawnAfter (Refused k) a = refused k
 
 unfoldable pub drawOf : Scene → View → Places → Answer Paths
 drawOf s v w = drawnAfter (checkOf s) (cond (viewOk v) (render millionth v w (linedIn s) (drawn (s .marks))) (refused BadView))
+
+-- a draw of the slices that are handed in, in the places of those that are lent: `work` and its starts are eight equal vectors
+abbrev pub drawIn : List Float → List ℕ → List Float → List ℕ → List ℕ → View → List Float → List ℕ → List Float → List ℕ → List Float → List ℕ → List Float → List ℕ → List ℕ → Answer Paths
+drawIn numbers marks points starts owners view out begins work workStarts chopped choppedStarts nodeBoxes nodeMarks order =
+    drawOf (sceneOf numbers marks points starts owners) view (placesIn (length work / 24 * 3) (length workStarts / 8) chopped choppedStarts nodeBoxes nodeMarks order out begins)

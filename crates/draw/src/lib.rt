@@ -1,15 +1,11 @@
 // The draw of a scene: refusals 2 to 8 before anything is written, then the drawing.
-ghost use mathlib.Core.Path.{_≡_};
-ghost use Prim.Native.Nat.{_*_, _/_};
-ghost use lib.ListN.{length, replicate};
+ghost use lib.ListN.{length};
 ghost use Rattle.floats.specs.Arith.{zeroF};
-ghost use Rattle.accept.specs.Checks.{sceneOf};
-ghost use Rattle.paths.specs.Ends.{EndsBoth, Finished};
-ghost use Rattle.render.specs.Slices.{placesIn};
-ghost use Rattle.draw.specs.Draw.{drawOf};
-use accept::Verdict;
+ghost use Rattle.paths.specs.Ends.{EndsBoth, Finished, Zeroed};
+ghost use Rattle.draw.specs.Draw.{drawIn};
+use check_scene::Verdict;
 use paths::Counts;
-use scene::refusal::Refusal;
+use refusals::Refusal;
 use view::View;
 
 // The check of the scene and of the view, and the drawing, in the first places of `out` and `begins`.
@@ -25,17 +21,17 @@ fn drawing(
     work: &mut [f64],
     work_starts: &mut [usize],
     chopped: &mut [f64],
-    cuts: &mut [usize],
-    hulls: &mut [f64],
-    records: &mut [u32],
+    chopped_starts: &mut [usize],
+    node_boxes: &mut [f64],
+    node_marks: &mut [u32],
     order: &mut [u32],
 ) -> Counts
-    ensures { λ r. ⌜ EndsBoth (drawOf (sceneOf (now (numbers .entry)) (now (marks .entry)) (now (points .entry)) (now (starts .entry)) (now (owners .entry))) view (placesIn (length (now (work .entry)) / 24 * 3) (length (now («work_starts» .entry)) / 8) (now (chopped .entry)) (now (cuts .entry)) (now (hulls .entry)) (now (records .entry)) (now (order .entry)) (now (out .entry)) (now (begins .entry)))) (now (out .exit)) (now (begins .exit)) r ⌝ }
+    ensures { λ r. ⌜ EndsBoth (drawIn (now (numbers .entry)) (now (marks .entry)) (now (points .entry)) (now (starts .entry)) (now (owners .entry)) view (now (out .entry)) (now (begins .entry)) (now (work .entry)) (now («work_starts» .entry)) (now (chopped .entry)) (now («chopped_starts» .entry)) (now («node_boxes» .entry)) (now («node_marks» .entry)) (now (order .entry))) (now (out .exit)) (now (begins .exit)) r ⌝ }
 {
     let mut inverses = [0.0; 16384];
     let mut boxes = [0.0; 6144];
     let mut drawn = [0u32; 1024];
-    let v = accept::check(
+    let v = check_scene::check(
         numbers,
         marks,
         points,
@@ -51,7 +47,7 @@ fn drawing(
             if !view.is_ok() {
                 return Counts::Refused(Refusal::View);
             }
-            render::render(
+            draw_render::render(
                 1e-6,
                 view,
                 numbers,
@@ -68,9 +64,9 @@ fn drawing(
                 work,
                 work_starts,
                 chopped,
-                cuts,
-                hulls,
-                records,
+                chopped_starts,
+                node_boxes,
+                node_marks,
                 order,
             )
         }
@@ -82,25 +78,25 @@ fn clear_work(
     work: &mut [f64],
     work_starts: &mut [usize],
     chopped: &mut [f64],
-    cuts: &mut [usize],
-    hulls: &mut [f64],
-    records: &mut [u32],
+    chopped_starts: &mut [usize],
+    node_boxes: &mut [f64],
+    node_marks: &mut [u32],
     order: &mut [u32],
 )
-    ensures { λ _. ⌜ now (work .exit) ≡ replicate (length (now (work .entry))) zeroF ⌝ }
-    ensures { λ _. ⌜ now («work_starts» .exit) ≡ replicate (length (now («work_starts» .entry))) 0 ⌝ }
-    ensures { λ _. ⌜ now (chopped .exit) ≡ replicate (length (now (chopped .entry))) zeroF ⌝ }
-    ensures { λ _. ⌜ now (cuts .exit) ≡ replicate (length (now (cuts .entry))) 0 ⌝ }
-    ensures { λ _. ⌜ now (hulls .exit) ≡ replicate (length (now (hulls .entry))) zeroF ⌝ }
-    ensures { λ _. ⌜ now (records .exit) ≡ replicate (length (now (records .entry))) 0 ⌝ }
-    ensures { λ _. ⌜ now (order .exit) ≡ replicate (length (now (order .entry))) 0 ⌝ }
+    ensures { λ _. ⌜ Zeroed zeroF (now (work .entry)) (now (work .exit)) ⌝ }
+    ensures { λ _. ⌜ Zeroed 0 (now («work_starts» .entry)) (now («work_starts» .exit)) ⌝ }
+    ensures { λ _. ⌜ Zeroed zeroF (now (chopped .entry)) (now (chopped .exit)) ⌝ }
+    ensures { λ _. ⌜ Zeroed 0 (now («chopped_starts» .entry)) (now («chopped_starts» .exit)) ⌝ }
+    ensures { λ _. ⌜ Zeroed zeroF (now («node_boxes» .entry)) (now («node_boxes» .exit)) ⌝ }
+    ensures { λ _. ⌜ Zeroed 0 (now («node_marks» .entry)) (now («node_marks» .exit)) ⌝ }
+    ensures { λ _. ⌜ Zeroed 0 (now (order .entry)) (now (order .exit)) ⌝ }
 {
     rows::clear(work, 0);
     rows::clear_starts(work_starts, 0);
     rows::clear(chopped, 0);
-    rows::clear_starts(cuts, 0);
-    rows::clear(hulls, 0);
-    rows::clear_marks(records, 0);
+    rows::clear_starts(chopped_starts, 0);
+    rows::clear(node_boxes, 0);
+    rows::clear_marks(node_marks, 0);
     rows::clear_marks(order, 0);
 }
 
@@ -118,19 +114,19 @@ pub fn draw(
     work: &mut [f64],
     work_starts: &mut [usize],
     chopped: &mut [f64],
-    cuts: &mut [usize],
-    hulls: &mut [f64],
-    records: &mut [u32],
+    chopped_starts: &mut [usize],
+    node_boxes: &mut [f64],
+    node_marks: &mut [u32],
     order: &mut [u32],
 ) -> Counts
-    ensures { λ r. ⌜ Finished (drawOf (sceneOf (now (numbers .entry)) (now (marks .entry)) (now (points .entry)) (now (starts .entry)) (now (owners .entry))) view (placesIn (length (now (work .entry)) / 24 * 3) (length (now («work_starts» .entry)) / 8) (now (chopped .entry)) (now (cuts .entry)) (now (hulls .entry)) (now (records .entry)) (now (order .entry)) (now (out .entry)) (now (begins .entry)))) (length (now (out .entry))) (length (now (begins .entry))) (now (out .exit)) (now (begins .exit)) r ⌝ }
-    ensures { λ _. ⌜ now (work .exit) ≡ replicate (length (now (work .entry))) zeroF ⌝ }
-    ensures { λ _. ⌜ now («work_starts» .exit) ≡ replicate (length (now («work_starts» .entry))) 0 ⌝ }
-    ensures { λ _. ⌜ now (chopped .exit) ≡ replicate (length (now (chopped .entry))) zeroF ⌝ }
-    ensures { λ _. ⌜ now (cuts .exit) ≡ replicate (length (now (cuts .entry))) 0 ⌝ }
-    ensures { λ _. ⌜ now (hulls .exit) ≡ replicate (length (now (hulls .entry))) zeroF ⌝ }
-    ensures { λ _. ⌜ now (records .exit) ≡ replicate (length (now (records .entry))) 0 ⌝ }
-    ensures { λ _. ⌜ now (order .exit) ≡ replicate (length (now (order .entry))) 0 ⌝ }
+    ensures { λ r. ⌜ Finished (drawIn (now (numbers .entry)) (now (marks .entry)) (now (points .entry)) (now (starts .entry)) (now (owners .entry)) view (now (out .entry)) (now (begins .entry)) (now (work .entry)) (now («work_starts» .entry)) (now (chopped .entry)) (now («chopped_starts» .entry)) (now («node_boxes» .entry)) (now («node_marks» .entry)) (now (order .entry))) (length (now (out .entry))) (length (now (begins .entry))) (now (out .exit)) (now (begins .exit)) r ⌝ }
+    ensures { λ _. ⌜ Zeroed zeroF (now (work .entry)) (now (work .exit)) ⌝ }
+    ensures { λ _. ⌜ Zeroed 0 (now («work_starts» .entry)) (now («work_starts» .exit)) ⌝ }
+    ensures { λ _. ⌜ Zeroed zeroF (now (chopped .entry)) (now (chopped .exit)) ⌝ }
+    ensures { λ _. ⌜ Zeroed 0 (now («chopped_starts» .entry)) (now («chopped_starts» .exit)) ⌝ }
+    ensures { λ _. ⌜ Zeroed zeroF (now («node_boxes» .entry)) (now («node_boxes» .exit)) ⌝ }
+    ensures { λ _. ⌜ Zeroed 0 (now («node_marks» .entry)) (now («node_marks» .exit)) ⌝ }
+    ensures { λ _. ⌜ Zeroed 0 (now (order .entry)) (now (order .exit)) ⌝ }
 {
     let r = drawing(
         numbers,
@@ -144,11 +140,19 @@ pub fn draw(
         work,
         work_starts,
         chopped,
-        cuts,
-        hulls,
-        records,
+        chopped_starts,
+        node_boxes,
+        node_marks,
         order,
     );
-    clear_work(work, work_starts, chopped, cuts, hulls, records, order);
+    clear_work(
+        work,
+        work_starts,
+        chopped,
+        chopped_starts,
+        node_boxes,
+        node_marks,
+        order,
+    );
     paths::finish(out, begins, r)
 }

@@ -5,3 +5,4 @@ pub mod Quotients
 pub mod Nonneg
 pub mod Bounds
 pub mod Tests
+pub mod Patterns

@@ -1,5 +1,5 @@
 -- A box inside a box: on every ray whose direction has no -0 (infinities and NaNs may stand in it), boxes and origin within a million, the outer box is
--- entered no later and left no earlier, so it passes the test where the inner one does. And `extend` holds both. Assumes nothing.
+-- entered no later and left no earlier, so it passes the test where the inner one does. And `extendBox` holds both. Assumes nothing.
 use mathlib.Core.Path.{_≡_, refl, sym, subst₂}
 use mathlib.Core.Logic.{inl, inr}
 use mathlib.Core.Bool.{Bool, true, false, not, _&&_, _||_, cond}
@@ -20,8 +20,8 @@ use Rattle.geometry.specs.declared.ray.Ray.{Ray}
 use Rattle.geometry.specs.declared.bounding_box.BBox.{BBox}
 use Rattle.geometry.specs.declared.bounding_box.Span.{Span}
 use Rattle.geometry.specs.Vectors.{minV, maxV}
-use Rattle.geometry.specs.Boxes.{spanOf, ordered, slab, overlap, boxTest, passes, skips, extend}
-use Rattle.geometry.specs.Limits.{Within, Under, Sound, Inside, straight, Usable}
+use Rattle.geometry.specs.Boxes.{spanOf, ordered, slab, overlap, boxTest, passes, skips, extendBox}
+use Rattle.geometry.specs.Limits.{Under, Sound, Inside, straight, Usable}
 
 -- ---- `ordered`
 pub ordered-straight : (a b : Float) → T (not (lt b a)) → ordered a b ≡ spanOf a b
@@ -201,7 +201,7 @@ nested c p r t C P i u a e =
       skipped-only = λ best s. holds-skips (boxTest p r) (boxTest c r) h t best a e s;
     }
 
--- ---- `extend` holds both
+-- ---- `extendBox` holds both
 fin-refl : (x : Float) → T (within x) → T (le x x)
 fin-refl x h = le-refl x (finite-number x (within-finite x h))
 
@@ -261,8 +261,8 @@ pub record Extended (a b e : BBox) : Type 0 where
   pub two : Inside b e
   pub sound : Sound e
 
-pub extend-holds : (a b : BBox) → Sound a → Sound b → Extended a b (extend a b)
-unfolding extend minV maxV
+pub extend-holds : (a b : BBox) → Sound a → Sound b → Extended a b (extendBox a b)
+unfolding extendBox minV maxV
 extend-holds a b A B =
     let x = least-one (a .min .x) (b .min .x) (A .min .x) (B .min .x) in
     let y = least-one (a .min .y) (b .min .y) (A .min .y) (B .min .y) in
@@ -270,14 +270,14 @@ extend-holds a b A B =
     let x' = greatest-one (a .max .x) (b .max .x) (A .max .x) (B .max .x) in
     let y' = greatest-one (a .max .y) (b .max .y) (A .max .y) (B .max .y) in
     let z' = greatest-one (a .max .z) (b .max .z) (A .max .z) (B .max .z) in
-    let l : Under (extend a b .min) (a .min) = record { x = x .l; y = y .l; z = z .l } in
-    let g : Under (a .max) (extend a b .max) = record { x = x' .l; y = y' .l; z = z' .l } in
+    let l : Under (extendBox a b .min) (a .min) = record { x = x .l; y = y .l; z = z .l } in
+    let g : Under (a .max) (extendBox a b .max) = record { x = x' .l; y = y' .l; z = z' .l } in
     record {
       one = record { min = l; max = g };
       two = record { min = record { x = x .r; y = y .r; z = z .r }; max = record { x = x' .r; y = y' .r; z = z' .r } };
       sound = record {
         min = record { x = x .within; y = y .within; z = z .within };
         max = record { x = x' .within; y = y' .within; z = z' .within };
-        fair = under-trans (extend a b .min) (a .min) (extend a b .max) l (under-trans (a .min) (a .max) (extend a b .max) (A .fair) g);
+        fair = under-trans (extendBox a b .min) (a .min) (extendBox a b .max) l (under-trans (a .min) (a .max) (extendBox a b .max) (A .fair) g);
       };
     }

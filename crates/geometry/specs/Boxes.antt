@@ -33,15 +33,15 @@ anchorOf b a = addV (b .min) (mulV (sizeOf b) a)
 unfoldable pub centerOf : BBox → Vector
 centerOf b = anchorOf b (vec halfF halfF halfF)
 
-unfoldable pub between : Float → Float → Float → Bool
-between low x high = le low x && le x high
+unfoldable pub inRange : Float → Float → Float → Bool
+inRange low x high = le low x && le x high
 
 unfoldable pub contains : BBox → Vector → Bool
-contains b v = between (b .min .x) (v .x) (b .max .x) && (between (b .min .y) (v .y) (b .max .y) && between (b .min .z) (v .z) (b .max .z))
+contains b v = inRange (b .min .x) (v .x) (b .max .x) && (inRange (b .min .y) (v .y) (b .max .y) && inRange (b .min .z) (v .z) (b .max .z))
 
 -- the smallest box that holds both
-unfoldable pub extend : BBox → BBox → BBox
-extend a b = boxOf (minV (a .min) (b .min)) (maxV (a .max) (b .max))
+unfoldable pub extendBox : BBox → BBox → BBox
+extendBox a b = boxOf (minV (a .min) (b .min)) (maxV (a .max) (b .max))
 
 -- ---- the box test
 abbrev pub spanOf : Float → Float → Span

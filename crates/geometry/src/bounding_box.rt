@@ -23,7 +23,7 @@ pub struct Sides {
 }
 
 fn between(low: f64, x: f64, high: f64) -> bool
-    ensures { λ r. ⌜ r ≡ Boxes.between low x high ⌝ }
+    ensures { λ r. ⌜ r ≡ Boxes.inRange low x high ⌝ }
 {
     low <= x && high >= x
 }
@@ -102,7 +102,7 @@ impl BBox {
     }
 
     pub fn extend(self, other: BBox) -> BBox
-        ensures { λ r. ⌜ r ≡ Boxes.extend self other ⌝ }
+        ensures { λ r. ⌜ r ≡ Boxes.extendBox self other ⌝ }
     {
         BBox {
             min: self.min.min(other.min),

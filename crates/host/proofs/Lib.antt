@@ -1,3 +1,3 @@
-pub mod CallLaws
-pub mod TreeLaws
-pub mod StageLaws
+pub mod Calls
+pub mod TreeCalls
+pub mod StageCalls

@@ -1,18 +1,18 @@
 -- A view as the array that holds it, and document 01's number and values for each case of an answer on paths.
-use Prim.Native.Nat.{ℕ, _*_, _/_}
+use Prim.Native.Nat.{ℕ}
+use mathlib.Core.Path.{_≡_}
 use mathlib.Core.List.{List}
-use lib.ListN.{length, getD}
+use lib.ListN.{getD}
 use lib.Ieee.{Float, nan}
 use Rattle.geometry.specs.Vectors.{vec}
-use Rattle.scene.specs.Refusals.{numberOf}
-use Rattle.accept.specs.Checks.{sceneOf}
+use Rattle.refusals.specs.Refusals.{numberOf}
 use Rattle.paths.specs.Answers.{Answer}
 use Rattle.paths.specs.Paths.{Paths}
+use Rattle.paths.specs.Ends.{counted, laidPoints, laidStarts}
 use Rattle.paths.specs.declared.Counts.{Counts}
 use Rattle.paths.specs.declared.Counts.the-variants.{Both, Refused as NotBoth}
 use Rattle.view.specs.declared.View.{View}
-use Rattle.render.specs.Slices.{placesIn}
-use Rattle.draw.specs.Draw.{drawOf}
+use Rattle.draw.specs.Draw.{drawIn}
 
 -- the matrix by rows, the eye, width, height and step
 abbrev pub viewOfRow : List Float → View
@@ -48,15 +48,23 @@ unfoldable pub countsNumber : Counts → ℕ
 countsNumber (Both n m) = 0
 countsNumber (NotBoth k) = numberOf k
 
-unfoldable pub pointCount : Counts → ℕ
-pointCount (Both n m) = n
-pointCount (NotBoth k) = 0
+unfoldable pub pointsTold : Counts → ℕ
+pointsTold (Both n m) = n
+pointsTold (NotBoth k) = 0
 
-unfoldable pub pathCount : Counts → ℕ
-pathCount (Both n m) = m
-pathCount (NotBoth k) = 0
+unfoldable pub pathsTold : Counts → ℕ
+pathsTold (Both n m) = m
+pathsTold (NotBoth k) = 0
+
+-- what a call on paths answers and leaves, where `a` is what it is to answer: its number, the two slices, of x numbers and y starts, and how many points and paths they hold
+abbrev pub PathsTold : Answer Paths → ℕ → ℕ → ℕ → List Float → List ℕ → ℕ → ℕ → Type 0
+PathsTold a x y number out begins points paths =
+    (number ≡ countsNumber (counted a))
+    × ((out ≡ laidPoints a x)
+    × ((begins ≡ laidStarts a y)
+    × ((points ≡ pointsTold (counted a))
+    × (paths ≡ pathsTold (counted a)))))
 
 -- a draw of the slices that are handed in, in the places of those that are lent
 abbrev pub drawCall : List Float → List ℕ → List Float → List ℕ → List ℕ → List Float → List Float → List ℕ → List Float → List ℕ → List Float → List ℕ → List Float → List ℕ → List ℕ → Answer Paths
-drawCall numbers marks points starts owners view out begins work workStarts chopped cuts hulls records order =
-    drawOf (sceneOf numbers marks points starts owners) (viewOfRow view) (placesIn (length work / 24 * 3) (length workStarts / 8) chopped cuts hulls records order out begins)
+drawCall numbers marks points starts owners view = drawIn numbers marks points starts owners (viewOfRow view)

@@ -1,22 +1,20 @@
 // The calls for a host program, by C's calling convention: each is thin over the proved one, and takes
-// any numbers. tools/host/larnt.h declares them, with what its pointers must be.
+// any numbers. host/larnt.h declares them, with what its pointers must be.
 pub mod stages;
 pub mod trees;
 
 ghost use mathlib.Core.Path.{_≡_};
 ghost use Rattle.sqrt.specs.Root.{sqrtOf};
 ghost use Rattle.geometry.specs.Boxes.{boxTest};
-ghost use Rattle.matrix.specs.Matrices.{mulPositionW, inverted};
-ghost use Rattle.floats.specs.Arith.{zeroF};
-ghost use Rattle.rows.specs.Rows.{padded};
+ghost use Rattle.matrix.specs.Matrices.{mulPositionW};
+ghost use Rattle.matrix_inverse.specs.Inverses.{inverted};
 ghost use Rattle.rows.specs.Points.{pointOf, pointRow, boxOfRow};
 ghost use Rattle.rows.specs.Entries.{numbersOf};
 ghost use Rattle.scene.specs.Entries.{simpleOf, matrixOf};
-ghost use Rattle.parts.specs.Drawn.{drawn as drawnOf};
-ghost use Rattle.accept.specs.Checks.{sceneOf, checkOf, inversesOf, boxesOf, ifAccepted};
-ghost use Rattle.own.specs.Own.{ownHit, ownContains};
-ghost use Rattle.own.specs.Answers as Answers;
-ghost use Rattle.host.specs.Calls.{rayOfRow, spanRow, matrixRow, answerOf, distanceTo, strikes, boxNumbers, insideOf};
+ghost use Rattle.scene.specs.Scenes.{sceneOf};
+ghost use Rattle.query_solid.specs.Own.{ownHit, ownContains};
+ghost use Rattle.host.specs.Calls.{rayOfRow, spanRow, matrixRow, simpleNumber, distanceTo, strikes, boxNumbers, insideSimple, CheckTold, ContainedTold};
+ghost use Rattle.host.specs.TreeCalls.{HitTold};
 use geometry::bounding_box::BBox;
 use geometry::ray::Ray;
 use geometry::vector::Vector;
@@ -122,7 +120,7 @@ pub extern "C" fn larnt_inverse(m: &[f64; 16], inverse: &mut [f64; 16]) -> f64
     ensures answer { λ r. ⌜ r ≡ inverted (matrixOf (numbersOf (now (m .entry)))) .determinant ⌝ }
     ensures lent { λ _. ⌜ now (inverse .exit) ≡ matrixRow (inverted (matrixOf (numbersOf (now (m .entry)))) .inverse) ⌝ }
 {
-    let i = scene::entry::matrix_of(sixteen(m)).inverse_with_determinant();
+    let i = matrix_inverse::inverse_with_determinant(scene::entry::matrix_of(sixteen(m)));
     let a = i.inverse;
     *inverse = [
         a.x00,
@@ -154,7 +152,7 @@ pub extern "C" fn larnt_solid_hit(
     t: &mut f64,
     ok: &mut bool,
 ) -> u32
-    ensures answer { λ r. ⌜ r ≡ answerOf (simpleOf kind (numbersOf (now (n .entry)))) ⌝ }
+    ensures answer { λ r. ⌜ r ≡ simpleNumber (simpleOf kind (numbersOf (now (n .entry)))) ⌝ }
     ensures lent { λ _. ⌜ now (t .exit) ≡ distanceTo (simpleOf kind (numbersOf (now (n .entry)))) (rayOfRow (now (ray .entry))) ⌝ }
     ensures struck { λ _. ⌜ now (ok .exit) ≡ strikes (simpleOf kind (numbersOf (now (n .entry)))) (rayOfRow (now (ray .entry))) ⌝ }
 {
@@ -176,7 +174,7 @@ pub extern "C" fn larnt_solid_hit(
 // The box of a solid of kinds 1 to 5. Answers 0, or 3 for any other kind.
 #[no_mangle]
 pub extern "C" fn larnt_solid_box(kind: u32, n: &[f64; 16], b: &mut [f64; 6]) -> u32
-    ensures answer { λ r. ⌜ r ≡ answerOf (simpleOf kind (numbersOf (now (n .entry)))) ⌝ }
+    ensures answer { λ r. ⌜ r ≡ simpleNumber (simpleOf kind (numbersOf (now (n .entry)))) ⌝ }
     ensures lent { λ _. ⌜ now (b .exit) ≡ boxNumbers (simpleOf kind (numbersOf (now (n .entry)))) ⌝ }
 {
     match scene::entry::simple_of(kind, sixteen(n)) {
@@ -201,8 +199,8 @@ pub extern "C" fn larnt_solid_contains(
     f: f64,
     inside: &mut bool,
 ) -> u32
-    ensures answer { λ r. ⌜ r ≡ answerOf (simpleOf kind (numbersOf (now (n .entry)))) ⌝ }
-    ensures lent { λ _. ⌜ now (inside .exit) ≡ insideOf (simpleOf kind (numbersOf (now (n .entry)))) (pointOf (now (p .entry))) f ⌝ }
+    ensures answer { λ r. ⌜ r ≡ simpleNumber (simpleOf kind (numbersOf (now (n .entry)))) ⌝ }
+    ensures lent { λ _. ⌜ now (inside .exit) ≡ insideSimple (simpleOf kind (numbersOf (now (n .entry)))) (pointOf (now (p .entry))) f ⌝ }
 {
     match scene::entry::simple_of(kind, sixteen(n)) {
         Simple::Is(s) => {
@@ -230,13 +228,9 @@ pub extern "C" fn larnt_check(
     drawn: &mut [u32; 1024],
     count: &mut usize,
 ) -> u32
-    ensures answer { λ r. ⌜ r ≡ Answers.verdictNumber (checkOf (sceneOf (now (numbers .entry)) (now (marks .entry)) (now (points .entry)) (now (starts .entry)) (now (owners .entry)))) ⌝ }
-    ensures placed { λ _. ⌜ now (inverses .exit) ≡ padded zeroF 16384 (ifAccepted (checkOf (sceneOf (now (numbers .entry)) (now (marks .entry)) (now (points .entry)) (now (starts .entry)) (now (owners .entry)))) (inversesOf (sceneOf (now (numbers .entry)) (now (marks .entry)) (now (points .entry)) (now (starts .entry)) (now (owners .entry))))) ⌝ }
-    ensures boxed { λ _. ⌜ now (boxes .exit) ≡ padded zeroF 6144 (ifAccepted (checkOf (sceneOf (now (numbers .entry)) (now (marks .entry)) (now (points .entry)) (now (starts .entry)) (now (owners .entry)))) (boxesOf (sceneOf (now (numbers .entry)) (now (marks .entry)) (now (points .entry)) (now (starts .entry)) (now (owners .entry))))) ⌝ }
-    ensures listed { λ _. ⌜ now (drawn .exit) ≡ padded 0 1024 (ifAccepted (checkOf (sceneOf (now (numbers .entry)) (now (marks .entry)) (now (points .entry)) (now (starts .entry)) (now (owners .entry)))) (drawnOf (now (marks .entry)))) ⌝ }
-    ensures counted { λ _. ⌜ now (count .exit) ≡ Answers.drawnCount (checkOf (sceneOf (now (numbers .entry)) (now (marks .entry)) (now (points .entry)) (now (starts .entry)) (now (owners .entry)))) ⌝ }
+    ensures { λ r. ⌜ CheckTold (sceneOf (now (numbers .entry)) (now (marks .entry)) (now (points .entry)) (now (starts .entry)) (now (owners .entry))) r (now (inverses .exit)) (now (boxes .exit)) (now (drawn .exit)) (now (count .exit)) ⌝ }
 {
-    let v = accept::check(
+    let v = check_scene::check(
         numbers,
         marks,
         points,
@@ -246,8 +240,8 @@ pub extern "C" fn larnt_check(
         boxes,
         drawn,
     );
-    *count = own::answers::drawn_count(v);
-    own::answers::verdict_number(v)
+    *count = query_solid::answers::drawn_count(v);
+    query_solid::answers::verdict_number(v)
 }
 
 // The hit that the solid at an entry of a scene gives a ray, with no tree and no other solid: numbers 2
@@ -264,14 +258,12 @@ pub extern "C" fn larnt_own_hit(
     t: &mut f64,
     ok: &mut bool,
 ) -> u32
-    ensures answer { λ r. ⌜ r ≡ Answers.struckNumber (ownHit (sceneOf (now (numbers .entry)) (now (marks .entry)) (now (points .entry)) (now (starts .entry)) (now (owners .entry))) i (rayOfRow (now (ray .entry)))) ⌝ }
-    ensures lent { λ _. ⌜ now (t .exit) ≡ Answers.distance (ownHit (sceneOf (now (numbers .entry)) (now (marks .entry)) (now (points .entry)) (now (starts .entry)) (now (owners .entry))) i (rayOfRow (now (ray .entry)))) ⌝ }
-    ensures struck { λ _. ⌜ now (ok .exit) ≡ Answers.met (ownHit (sceneOf (now (numbers .entry)) (now (marks .entry)) (now (points .entry)) (now (starts .entry)) (now (owners .entry))) i (rayOfRow (now (ray .entry)))) ⌝ }
+    ensures { λ r. ⌜ HitTold (ownHit (sceneOf (now (numbers .entry)) (now (marks .entry)) (now (points .entry)) (now (starts .entry)) (now (owners .entry))) i (rayOfRow (now (ray .entry)))) r (now (t .exit)) (now (ok .exit)) ⌝ }
 {
-    let h = own::own_hit(numbers, marks, points, starts, owners, i, ray_from(ray));
-    *t = own::answers::distance(h);
-    *ok = own::answers::met(h);
-    own::answers::struck_number(h)
+    let h = query_solid::own_hit(numbers, marks, points, starts, owners, i, ray_from(ray));
+    *t = query_solid::answers::distance(h);
+    *ok = query_solid::answers::met(h);
+    query_solid::answers::struck_number(h)
 }
 
 // Whether the solid at an entry of a scene, widened by f, contains a point: numbers 2 to 7.
@@ -287,10 +279,9 @@ pub extern "C" fn larnt_own_contains(
     f: f64,
     inside: &mut bool,
 ) -> u32
-    ensures answer { λ r. ⌜ r ≡ Answers.containedNumber (ownContains (sceneOf (now (numbers .entry)) (now (marks .entry)) (now (points .entry)) (now (starts .entry)) (now (owners .entry))) i (pointOf (now (p .entry))) f) ⌝ }
-    ensures lent { λ _. ⌜ now (inside .exit) ≡ Answers.inside (ownContains (sceneOf (now (numbers .entry)) (now (marks .entry)) (now (points .entry)) (now (starts .entry)) (now (owners .entry))) i (pointOf (now (p .entry))) f) ⌝ }
+    ensures { λ r. ⌜ ContainedTold (ownContains (sceneOf (now (numbers .entry)) (now (marks .entry)) (now (points .entry)) (now (starts .entry)) (now (owners .entry))) i (pointOf (now (p .entry))) f) r (now (inside .exit)) ⌝ }
 {
-    let c = own::own_contains(numbers, marks, points, starts, owners, i, point(p), f);
-    *inside = own::answers::inside(c);
-    own::answers::contained_number(c)
+    let c = query_solid::own_contains(numbers, marks, points, starts, owners, i, point(p), f);
+    *inside = query_solid::answers::inside(c);
+    query_solid::answers::contained_number(c)
 }

@@ -1,10 +1,10 @@
 // The calls on paths: the adaptive chop, the simplification and the draw.
 ghost use mathlib.Core.Path.{_≡_};
-ghost use lib.ListN.{length, replicate};
+ghost use lib.ListN.{length};
 ghost use Rattle.floats.specs.Arith.{zeroF};
-ghost use Rattle.paths.specs.Ends.{places, counted, laidPoints, laidStarts};
-ghost use Rattle.chop.specs.Chop.{chopCall};
-ghost use Rattle.simplify.specs.Simplify.{simplifyCall};
+ghost use Rattle.paths.specs.Ends.{places, Zeroed};
+ghost use Rattle.path_chop.specs.Chop.{chopCall};
+ghost use Rattle.path_simplify.specs.Simplify.{simplifyCall};
 ghost use Rattle.host.specs.StageCalls as StageCalls;
 use geometry::vector::Vector;
 use matrix::Matrix;
@@ -21,7 +21,7 @@ fn counts_number(c: Counts) -> u32
 }
 
 fn point_count(c: Counts) -> usize
-    ensures { λ r. ⌜ r ≡ StageCalls.pointCount c ⌝ }
+    ensures { λ r. ⌜ r ≡ StageCalls.pointsTold c ⌝ }
 {
     match c {
         Counts::Both(n, _) => n,
@@ -30,7 +30,7 @@ fn point_count(c: Counts) -> usize
 }
 
 fn path_count(c: Counts) -> usize
-    ensures { λ r. ⌜ r ≡ StageCalls.pathCount c ⌝ }
+    ensures { λ r. ⌜ r ≡ StageCalls.pathsTold c ⌝ }
 {
     match c {
         Counts::Both(_, m) => m,
@@ -84,13 +84,9 @@ pub extern "C" fn larnt_chop(
     points_out: &mut usize,
     paths_out: &mut usize,
 ) -> u32
-    ensures answer { λ r. ⌜ r ≡ StageCalls.countsNumber (counted (chopCall (StageCalls.viewOfRow (now (view .entry))) (now (points .entry)) (now (starts .entry)) (places (now (out .entry))) (length (now (begins .entry))))) ⌝ }
-    ensures laid { λ _. ⌜ now (out .exit) ≡ laidPoints (chopCall (StageCalls.viewOfRow (now (view .entry))) (now (points .entry)) (now (starts .entry)) (places (now (out .entry))) (length (now (begins .entry)))) (length (now (out .entry))) ⌝ }
-    ensures begun { λ _. ⌜ now (begins .exit) ≡ laidStarts (chopCall (StageCalls.viewOfRow (now (view .entry))) (now (points .entry)) (now (starts .entry)) (places (now (out .entry))) (length (now (begins .entry)))) (length (now (begins .entry))) ⌝ }
-    ensures many { λ _. ⌜ now («points_out» .exit) ≡ StageCalls.pointCount (counted (chopCall (StageCalls.viewOfRow (now (view .entry))) (now (points .entry)) (now (starts .entry)) (places (now (out .entry))) (length (now (begins .entry))))) ⌝ }
-    ensures several { λ _. ⌜ now («paths_out» .exit) ≡ StageCalls.pathCount (counted (chopCall (StageCalls.viewOfRow (now (view .entry))) (now (points .entry)) (now (starts .entry)) (places (now (out .entry))) (length (now (begins .entry))))) ⌝ }
+    ensures { λ r. ⌜ StageCalls.PathsTold (chopCall (StageCalls.viewOfRow (now (view .entry))) (now (points .entry)) (now (starts .entry)) (places (now (out .entry))) (length (now (begins .entry)))) (length (now (out .entry))) (length (now (begins .entry))) r (now (out .exit)) (now (begins .exit)) (now («points_out» .exit)) (now («paths_out» .exit)) ⌝ }
 {
-    let c = chop::chop_adaptive(view_from(view), points, starts, out, begins);
+    let c = path_chop::chop_adaptive(view_from(view), points, starts, out, begins);
     *points_out = point_count(c);
     *paths_out = path_count(c);
     counts_number(c)
@@ -107,13 +103,9 @@ pub extern "C" fn larnt_simplify(
     points_out: &mut usize,
     paths_out: &mut usize,
 ) -> u32
-    ensures answer { λ r. ⌜ r ≡ StageCalls.countsNumber (counted (simplifyCall (now (points .entry)) (now (starts .entry)) threshold (places (now (out .entry))) (length (now (begins .entry))))) ⌝ }
-    ensures laid { λ _. ⌜ now (out .exit) ≡ laidPoints (simplifyCall (now (points .entry)) (now (starts .entry)) threshold (places (now (out .entry))) (length (now (begins .entry)))) (length (now (out .entry))) ⌝ }
-    ensures begun { λ _. ⌜ now (begins .exit) ≡ laidStarts (simplifyCall (now (points .entry)) (now (starts .entry)) threshold (places (now (out .entry))) (length (now (begins .entry)))) (length (now (begins .entry))) ⌝ }
-    ensures many { λ _. ⌜ now («points_out» .exit) ≡ StageCalls.pointCount (counted (simplifyCall (now (points .entry)) (now (starts .entry)) threshold (places (now (out .entry))) (length (now (begins .entry))))) ⌝ }
-    ensures several { λ _. ⌜ now («paths_out» .exit) ≡ StageCalls.pathCount (counted (simplifyCall (now (points .entry)) (now (starts .entry)) threshold (places (now (out .entry))) (length (now (begins .entry))))) ⌝ }
+    ensures { λ r. ⌜ StageCalls.PathsTold (simplifyCall (now (points .entry)) (now (starts .entry)) threshold (places (now (out .entry))) (length (now (begins .entry)))) (length (now (out .entry))) (length (now (begins .entry))) r (now (out .exit)) (now (begins .exit)) (now («points_out» .exit)) (now («paths_out» .exit)) ⌝ }
 {
-    let c = simplify::simplify(points, starts, threshold, out, begins);
+    let c = path_simplify::simplify(points, starts, threshold, out, begins);
     *points_out = point_count(c);
     *paths_out = path_count(c);
     counts_number(c)
@@ -135,24 +127,20 @@ pub extern "C" fn larnt_draw(
     work_starts: &mut [usize],
     chopped: &mut [f64],
     chopped_starts: &mut [usize],
-    hulls: &mut [f64],
-    records: &mut [u32],
+    node_boxes: &mut [f64],
+    node_marks: &mut [u32],
     order: &mut [u32],
     points_out: &mut usize,
     paths_out: &mut usize,
 ) -> u32
-    ensures answer { λ r. ⌜ r ≡ StageCalls.countsNumber (counted (StageCalls.drawCall (now (numbers .entry)) (now (marks .entry)) (now (points .entry)) (now (starts .entry)) (now (owners .entry)) (now (view .entry)) (now (out .entry)) (now (begins .entry)) (now (work .entry)) (now («work_starts» .entry)) (now (chopped .entry)) (now («chopped_starts» .entry)) (now (hulls .entry)) (now (records .entry)) (now (order .entry)))) ⌝ }
-    ensures laid { λ _. ⌜ now (out .exit) ≡ laidPoints (StageCalls.drawCall (now (numbers .entry)) (now (marks .entry)) (now (points .entry)) (now (starts .entry)) (now (owners .entry)) (now (view .entry)) (now (out .entry)) (now (begins .entry)) (now (work .entry)) (now («work_starts» .entry)) (now (chopped .entry)) (now («chopped_starts» .entry)) (now (hulls .entry)) (now (records .entry)) (now (order .entry))) (length (now (out .entry))) ⌝ }
-    ensures begun { λ _. ⌜ now (begins .exit) ≡ laidStarts (StageCalls.drawCall (now (numbers .entry)) (now (marks .entry)) (now (points .entry)) (now (starts .entry)) (now (owners .entry)) (now (view .entry)) (now (out .entry)) (now (begins .entry)) (now (work .entry)) (now («work_starts» .entry)) (now (chopped .entry)) (now («chopped_starts» .entry)) (now (hulls .entry)) (now (records .entry)) (now (order .entry))) (length (now (begins .entry))) ⌝ }
-    ensures many { λ _. ⌜ now («points_out» .exit) ≡ StageCalls.pointCount (counted (StageCalls.drawCall (now (numbers .entry)) (now (marks .entry)) (now (points .entry)) (now (starts .entry)) (now (owners .entry)) (now (view .entry)) (now (out .entry)) (now (begins .entry)) (now (work .entry)) (now («work_starts» .entry)) (now (chopped .entry)) (now («chopped_starts» .entry)) (now (hulls .entry)) (now (records .entry)) (now (order .entry)))) ⌝ }
-    ensures several { λ _. ⌜ now («paths_out» .exit) ≡ StageCalls.pathCount (counted (StageCalls.drawCall (now (numbers .entry)) (now (marks .entry)) (now (points .entry)) (now (starts .entry)) (now (owners .entry)) (now (view .entry)) (now (out .entry)) (now (begins .entry)) (now (work .entry)) (now («work_starts» .entry)) (now (chopped .entry)) (now («chopped_starts» .entry)) (now (hulls .entry)) (now (records .entry)) (now (order .entry)))) ⌝ }
-    ensures lines { λ _. ⌜ now (work .exit) ≡ replicate (length (now (work .entry))) zeroF ⌝ }
-    ensures lineStarts { λ _. ⌜ now («work_starts» .exit) ≡ replicate (length (now («work_starts» .entry))) 0 ⌝ }
-    ensures pieces { λ _. ⌜ now (chopped .exit) ≡ replicate (length (now (chopped .entry))) zeroF ⌝ }
-    ensures pieceStarts { λ _. ⌜ now («chopped_starts» .exit) ≡ replicate (length (now («chopped_starts» .entry))) 0 ⌝ }
-    ensures boxes { λ _. ⌜ now (hulls .exit) ≡ replicate (length (now (hulls .entry))) zeroF ⌝ }
-    ensures nodes { λ _. ⌜ now (records .exit) ≡ replicate (length (now (records .entry))) 0 ⌝ }
-    ensures leaves { λ _. ⌜ now (order .exit) ≡ replicate (length (now (order .entry))) 0 ⌝ }
+    ensures { λ r. ⌜ StageCalls.PathsTold (StageCalls.drawCall (now (numbers .entry)) (now (marks .entry)) (now (points .entry)) (now (starts .entry)) (now (owners .entry)) (now (view .entry)) (now (out .entry)) (now (begins .entry)) (now (work .entry)) (now («work_starts» .entry)) (now (chopped .entry)) (now («chopped_starts» .entry)) (now («node_boxes» .entry)) (now («node_marks» .entry)) (now (order .entry))) (length (now (out .entry))) (length (now (begins .entry))) r (now (out .exit)) (now (begins .exit)) (now («points_out» .exit)) (now («paths_out» .exit)) ⌝ }
+    ensures { λ _. ⌜ Zeroed zeroF (now (work .entry)) (now (work .exit)) ⌝ }
+    ensures { λ _. ⌜ Zeroed 0 (now («work_starts» .entry)) (now («work_starts» .exit)) ⌝ }
+    ensures { λ _. ⌜ Zeroed zeroF (now (chopped .entry)) (now (chopped .exit)) ⌝ }
+    ensures { λ _. ⌜ Zeroed 0 (now («chopped_starts» .entry)) (now («chopped_starts» .exit)) ⌝ }
+    ensures { λ _. ⌜ Zeroed zeroF (now («node_boxes» .entry)) (now («node_boxes» .exit)) ⌝ }
+    ensures { λ _. ⌜ Zeroed 0 (now («node_marks» .entry)) (now («node_marks» .exit)) ⌝ }
+    ensures { λ _. ⌜ Zeroed 0 (now (order .entry)) (now (order .exit)) ⌝ }
 {
     let c = draw::draw(
         numbers,
@@ -167,8 +155,8 @@ pub extern "C" fn larnt_draw(
         work_starts,
         chopped,
         chopped_starts,
-        hulls,
-        records,
+        node_boxes,
+        node_marks,
         order,
     );
     *points_out = point_count(c);

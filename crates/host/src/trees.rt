@@ -1,17 +1,12 @@
 // The calls on the tree of a scene: its build, the nearest hit and the eye test.
 ghost use mathlib.Core.Path.{_≡_};
-ghost use lib.ListN.{length};
-ghost use Rattle.floats.specs.Arith.{zeroF};
-ghost use Rattle.rows.specs.Rows.{padded};
 ghost use Rattle.rows.specs.Points.{pointOf};
-ghost use Rattle.accept.specs.Checks.{sceneOf};
-ghost use Rattle.own.specs.Answers as Answers;
-ghost use Rattle.nodes.specs.Nodes.{placesOf, boxRows, markRows};
-ghost use Rattle.queries.specs.Queries.{buildOf, ifBuilt, sceneNodes, sceneOrder, intersectOf, visibleOf};
+ghost use Rattle.scene.specs.Scenes.{sceneOf};
+ghost use Rattle.query_scene.specs.Queries.{intersectOf, visibleOf};
 ghost use Rattle.host.specs.Calls.{rayOfRow};
 ghost use Rattle.host.specs.TreeCalls as TreeCalls;
-use queries::Built;
-use visible::Sight;
+use query_scene::Built;
+use tree_sight::Sight;
 
 fn built_number(b: Built) -> u32
     ensures { λ r. ⌜ r ≡ TreeCalls.builtNumber b ⌝ }
@@ -51,8 +46,8 @@ pub fn in_sight(s: Sight) -> bool
     }
 }
 
-// The tree of a scene's drawn entries, of `count` nodes, and then zeros: numbers 2 to 7, then 13. `hulls`
-// holds 6 numbers a node, `records` 3 marks a node, `order` the drawn entries in the leaves' order.
+// The tree of a scene's drawn entries, of `count` nodes, and then zeros: numbers 2 to 7, then 13. `node_boxes`
+// holds 6 numbers a node, `node_marks` 3 marks a node, `order` the drawn entries in the leaves' order.
 #[no_mangle]
 pub extern "C" fn larnt_build(
     numbers: &[f64],
@@ -60,25 +55,21 @@ pub extern "C" fn larnt_build(
     points: &[f64],
     starts: &[usize],
     owners: &[u32],
-    hulls: &mut [f64],
-    records: &mut [u32],
+    node_boxes: &mut [f64],
+    node_marks: &mut [u32],
     order: &mut [u32],
     count: &mut usize,
 ) -> u32
-    ensures answer { λ r. ⌜ r ≡ TreeCalls.builtNumber (buildOf (sceneOf (now (numbers .entry)) (now (marks .entry)) (now (points .entry)) (now (starts .entry)) (now (owners .entry))) (placesOf (now (hulls .entry)) (now (records .entry))) (length (now (order .entry)))) ⌝ }
-    ensures boxed { λ _. ⌜ now (hulls .exit) ≡ padded zeroF (length (now (hulls .entry))) (boxRows (ifBuilt (buildOf (sceneOf (now (numbers .entry)) (now (marks .entry)) (now (points .entry)) (now (starts .entry)) (now (owners .entry))) (placesOf (now (hulls .entry)) (now (records .entry))) (length (now (order .entry)))) (sceneNodes (sceneOf (now (numbers .entry)) (now (marks .entry)) (now (points .entry)) (now (starts .entry)) (now (owners .entry)))))) ⌝ }
-    ensures marked { λ _. ⌜ now (records .exit) ≡ padded 0 (length (now (records .entry))) (markRows (ifBuilt (buildOf (sceneOf (now (numbers .entry)) (now (marks .entry)) (now (points .entry)) (now (starts .entry)) (now (owners .entry))) (placesOf (now (hulls .entry)) (now (records .entry))) (length (now (order .entry)))) (sceneNodes (sceneOf (now (numbers .entry)) (now (marks .entry)) (now (points .entry)) (now (starts .entry)) (now (owners .entry)))))) ⌝ }
-    ensures ordered { λ _. ⌜ now (order .exit) ≡ padded 0 (length (now (order .entry))) (ifBuilt (buildOf (sceneOf (now (numbers .entry)) (now (marks .entry)) (now (points .entry)) (now (starts .entry)) (now (owners .entry))) (placesOf (now (hulls .entry)) (now (records .entry))) (length (now (order .entry)))) (sceneOrder (sceneOf (now (numbers .entry)) (now (marks .entry)) (now (points .entry)) (now (starts .entry)) (now (owners .entry))))) ⌝ }
-    ensures counted { λ _. ⌜ now (count .exit) ≡ TreeCalls.nodeCount (buildOf (sceneOf (now (numbers .entry)) (now (marks .entry)) (now (points .entry)) (now (starts .entry)) (now (owners .entry))) (placesOf (now (hulls .entry)) (now (records .entry))) (length (now (order .entry)))) ⌝ }
+    ensures { λ r. ⌜ TreeCalls.TreeTold (sceneOf (now (numbers .entry)) (now (marks .entry)) (now (points .entry)) (now (starts .entry)) (now (owners .entry))) (now («node_boxes» .entry)) (now («node_marks» .entry)) (now (order .entry)) r (now («node_boxes» .exit)) (now («node_marks» .exit)) (now (order .exit)) (now (count .exit)) ⌝ }
 {
-    let b = queries::build(
+    let b = query_scene::build(
         numbers,
         marks,
         points,
         starts,
         owners,
-        hulls,
-        records,
+        node_boxes,
+        node_marks,
         order,
     );
     *count = node_count(b);
@@ -93,31 +84,29 @@ pub extern "C" fn larnt_intersect(
     points: &[f64],
     starts: &[usize],
     owners: &[u32],
-    hulls: &[f64],
-    records: &[u32],
+    node_boxes: &[f64],
+    node_marks: &[u32],
     order: &[u32],
     ray: &[f64; 6],
     t: &mut f64,
     ok: &mut bool,
 ) -> u32
-    ensures answer { λ r. ⌜ r ≡ Answers.struckNumber (intersectOf (sceneOf (now (numbers .entry)) (now (marks .entry)) (now (points .entry)) (now (starts .entry)) (now (owners .entry))) (now (hulls .entry)) (now (records .entry)) (now (order .entry)) (rayOfRow (now (ray .entry)))) ⌝ }
-    ensures lent { λ _. ⌜ now (t .exit) ≡ Answers.distance (intersectOf (sceneOf (now (numbers .entry)) (now (marks .entry)) (now (points .entry)) (now (starts .entry)) (now (owners .entry))) (now (hulls .entry)) (now (records .entry)) (now (order .entry)) (rayOfRow (now (ray .entry)))) ⌝ }
-    ensures struck { λ _. ⌜ now (ok .exit) ≡ Answers.met (intersectOf (sceneOf (now (numbers .entry)) (now (marks .entry)) (now (points .entry)) (now (starts .entry)) (now (owners .entry))) (now (hulls .entry)) (now (records .entry)) (now (order .entry)) (rayOfRow (now (ray .entry)))) ⌝ }
+    ensures { λ r. ⌜ TreeCalls.HitTold (intersectOf (sceneOf (now (numbers .entry)) (now (marks .entry)) (now (points .entry)) (now (starts .entry)) (now (owners .entry))) (now («node_boxes» .entry)) (now («node_marks» .entry)) (now (order .entry)) (rayOfRow (now (ray .entry)))) r (now (t .exit)) (now (ok .exit)) ⌝ }
 {
-    let h = queries::intersect(
+    let h = query_scene::intersect(
         numbers,
         marks,
         points,
         starts,
         owners,
-        hulls,
-        records,
+        node_boxes,
+        node_marks,
         order,
         crate::ray_from(ray),
     );
-    *t = own::answers::distance(h);
-    *ok = own::answers::met(h);
-    own::answers::struck_number(h)
+    *t = query_solid::answers::distance(h);
+    *ok = query_solid::answers::met(h);
+    query_solid::answers::struck_number(h)
 }
 
 // Whether the eye sees a point past the solids of a tree: numbers 2 to 9, then 11 and 12.
@@ -128,24 +117,23 @@ pub extern "C" fn larnt_visible(
     points: &[f64],
     starts: &[usize],
     owners: &[u32],
-    hulls: &[f64],
-    records: &[u32],
+    node_boxes: &[f64],
+    node_marks: &[u32],
     order: &[u32],
     eye: &[f64; 3],
     point: &[f64; 3],
     seen: &mut bool,
 ) -> u32
-    ensures answer { λ r. ⌜ r ≡ TreeCalls.sightNumber (visibleOf (sceneOf (now (numbers .entry)) (now (marks .entry)) (now (points .entry)) (now (starts .entry)) (now (owners .entry))) (now (hulls .entry)) (now (records .entry)) (now (order .entry)) (pointOf (now (eye .entry))) (pointOf (now (point .entry)))) ⌝ }
-    ensures lent { λ _. ⌜ now (seen .exit) ≡ TreeCalls.inSight (visibleOf (sceneOf (now (numbers .entry)) (now (marks .entry)) (now (points .entry)) (now (starts .entry)) (now (owners .entry))) (now (hulls .entry)) (now (records .entry)) (now (order .entry)) (pointOf (now (eye .entry))) (pointOf (now (point .entry)))) ⌝ }
+    ensures { λ r. ⌜ TreeCalls.SightTold (visibleOf (sceneOf (now (numbers .entry)) (now (marks .entry)) (now (points .entry)) (now (starts .entry)) (now (owners .entry))) (now («node_boxes» .entry)) (now («node_marks» .entry)) (now (order .entry)) (pointOf (now (eye .entry))) (pointOf (now (point .entry)))) r (now (seen .exit)) ⌝ }
 {
-    let s = queries::visible(
+    let s = query_scene::visible(
         numbers,
         marks,
         points,
         starts,
         owners,
-        hulls,
-        records,
+        node_boxes,
+        node_marks,
         order,
         crate::point(eye),
         crate::point(point),

@@ -1,1 +1,1 @@
-pub mod LimitLaws
+pub mod Limits

@@ -1,4 +1,4 @@
-// Matrices of 4 rows and 4 columns.
+// Matrices of 4 rows and 4 columns; their inverses stand in matrix_inverse.
 ghost use mathlib.Core.Path.{_≡_};
 ghost use Rattle.matrix.specs.Matrices as Matrices;
 use geometry::bounding_box::BBox;
@@ -26,23 +26,17 @@ pub struct Matrix {
 }
 
 // Four numbers: a row of a matrix.
-struct Row {
-    a: f64,
-    b: f64,
-    c: f64,
-    d: f64,
+pub struct Row {
+    pub a: f64,
+    pub b: f64,
+    pub c: f64,
+    pub d: f64,
 }
 
 // A ray in other coordinates, its direction over its length, and that length.
 pub struct Scaled {
     pub ray: Ray,
     pub scale: f64,
-}
-
-// An inverse, and the determinant that it was divided by.
-pub struct Inverted {
-    pub inverse: Matrix,
-    pub determinant: f64,
 }
 
 // A column times the two ends of an edge: the lesser and the greater components.
@@ -209,7 +203,7 @@ impl Matrix {
         Matrix::orthographic(l, r, b, t, n, f).mul(self)
     }
 
-    fn of_rows(p: Row, q: Row, r: Row, s: Row) -> Matrix
+    pub fn of_rows(p: Row, q: Row, r: Row, s: Row) -> Matrix
         ensures { λ m. ⌜ m ≡ Matrices.ofRows p q r s ⌝ }
     {
         Matrix {
@@ -347,177 +341,5 @@ impl Matrix {
             x32: self.x23,
             x33: self.x33,
         }
-    }
-
-    pub fn determinant(self) -> f64
-        ensures { λ r. ⌜ r ≡ Matrices.determinant self ⌝ }
-    {
-        let a = self;
-        a.x00 * a.x11 * a.x22 * a.x33 - a.x00 * a.x11 * a.x23 * a.x32
-            + a.x00 * a.x12 * a.x23 * a.x31
-            - a.x00 * a.x12 * a.x21 * a.x33
-            + a.x00 * a.x13 * a.x21 * a.x32
-            - a.x00 * a.x13 * a.x22 * a.x31
-            - a.x01 * a.x12 * a.x23 * a.x30
-            + a.x01 * a.x12 * a.x20 * a.x33
-            - a.x01 * a.x13 * a.x20 * a.x32
-            + a.x01 * a.x13 * a.x22 * a.x30
-            - a.x01 * a.x10 * a.x22 * a.x33
-            + a.x01 * a.x10 * a.x23 * a.x32
-            + a.x02 * a.x13 * a.x20 * a.x31
-            - a.x02 * a.x13 * a.x21 * a.x30
-            + a.x02 * a.x10 * a.x21 * a.x33
-            - a.x02 * a.x10 * a.x23 * a.x31
-            + a.x02 * a.x11 * a.x23 * a.x30
-            - a.x02 * a.x11 * a.x20 * a.x33
-            - a.x03 * a.x10 * a.x21 * a.x32
-            + a.x03 * a.x10 * a.x22 * a.x31
-            - a.x03 * a.x11 * a.x22 * a.x30
-            + a.x03 * a.x11 * a.x20 * a.x32
-            - a.x03 * a.x12 * a.x20 * a.x31
-            + a.x03 * a.x12 * a.x21 * a.x30
-    }
-
-    // The rows of the adjugate over d: by themselves, since the check of a function grows faster than it.
-    fn adjugate_row0(self, d: f64) -> Row
-        ensures { λ r. ⌜ r ≡ Matrices.row0 (Matrices.adjugateOver self d) ⌝ }
-    {
-        let a = self;
-        Row {
-            a: (a.x12 * a.x23 * a.x31 - a.x13 * a.x22 * a.x31 + a.x13 * a.x21 * a.x32
-                - a.x11 * a.x23 * a.x32
-                - a.x12 * a.x21 * a.x33
-                + a.x11 * a.x22 * a.x33)
-                / d,
-            b: (a.x03 * a.x22 * a.x31 - a.x02 * a.x23 * a.x31 - a.x03 * a.x21 * a.x32
-                + a.x01 * a.x23 * a.x32
-                + a.x02 * a.x21 * a.x33
-                - a.x01 * a.x22 * a.x33)
-                / d,
-            c: (a.x02 * a.x13 * a.x31 - a.x03 * a.x12 * a.x31 + a.x03 * a.x11 * a.x32
-                - a.x01 * a.x13 * a.x32
-                - a.x02 * a.x11 * a.x33
-                + a.x01 * a.x12 * a.x33)
-                / d,
-            d: (a.x03 * a.x12 * a.x21 - a.x02 * a.x13 * a.x21 - a.x03 * a.x11 * a.x22
-                + a.x01 * a.x13 * a.x22
-                + a.x02 * a.x11 * a.x23
-                - a.x01 * a.x12 * a.x23)
-                / d,
-        }
-    }
-
-    fn adjugate_row1(self, d: f64) -> Row
-        ensures { λ r. ⌜ r ≡ Matrices.row1 (Matrices.adjugateOver self d) ⌝ }
-    {
-        let a = self;
-        Row {
-            a: (a.x13 * a.x22 * a.x30 - a.x12 * a.x23 * a.x30 - a.x13 * a.x20 * a.x32
-                + a.x10 * a.x23 * a.x32
-                + a.x12 * a.x20 * a.x33
-                - a.x10 * a.x22 * a.x33)
-                / d,
-            b: (a.x02 * a.x23 * a.x30 - a.x03 * a.x22 * a.x30 + a.x03 * a.x20 * a.x32
-                - a.x00 * a.x23 * a.x32
-                - a.x02 * a.x20 * a.x33
-                + a.x00 * a.x22 * a.x33)
-                / d,
-            c: (a.x03 * a.x12 * a.x30 - a.x02 * a.x13 * a.x30 - a.x03 * a.x10 * a.x32
-                + a.x00 * a.x13 * a.x32
-                + a.x02 * a.x10 * a.x33
-                - a.x00 * a.x12 * a.x33)
-                / d,
-            d: (a.x02 * a.x13 * a.x20 - a.x03 * a.x12 * a.x20 + a.x03 * a.x10 * a.x22
-                - a.x00 * a.x13 * a.x22
-                - a.x02 * a.x10 * a.x23
-                + a.x00 * a.x12 * a.x23)
-                / d,
-        }
-    }
-
-    fn adjugate_row2(self, d: f64) -> Row
-        ensures { λ r. ⌜ r ≡ Matrices.row2 (Matrices.adjugateOver self d) ⌝ }
-    {
-        let a = self;
-        Row {
-            a: (a.x11 * a.x23 * a.x30 - a.x13 * a.x21 * a.x30 + a.x13 * a.x20 * a.x31
-                - a.x10 * a.x23 * a.x31
-                - a.x11 * a.x20 * a.x33
-                + a.x10 * a.x21 * a.x33)
-                / d,
-            b: (a.x03 * a.x21 * a.x30 - a.x01 * a.x23 * a.x30 - a.x03 * a.x20 * a.x31
-                + a.x00 * a.x23 * a.x31
-                + a.x01 * a.x20 * a.x33
-                - a.x00 * a.x21 * a.x33)
-                / d,
-            c: (a.x01 * a.x13 * a.x30 - a.x03 * a.x11 * a.x30 + a.x03 * a.x10 * a.x31
-                - a.x00 * a.x13 * a.x31
-                - a.x01 * a.x10 * a.x33
-                + a.x00 * a.x11 * a.x33)
-                / d,
-            d: (a.x03 * a.x11 * a.x20 - a.x01 * a.x13 * a.x20 - a.x03 * a.x10 * a.x21
-                + a.x00 * a.x13 * a.x21
-                + a.x01 * a.x10 * a.x23
-                - a.x00 * a.x11 * a.x23)
-                / d,
-        }
-    }
-
-    fn adjugate_row3(self, d: f64) -> Row
-        ensures { λ r. ⌜ r ≡ Matrices.row3 (Matrices.adjugateOver self d) ⌝ }
-    {
-        let a = self;
-        Row {
-            a: (a.x12 * a.x21 * a.x30 - a.x11 * a.x22 * a.x30 - a.x12 * a.x20 * a.x31
-                + a.x10 * a.x22 * a.x31
-                + a.x11 * a.x20 * a.x32
-                - a.x10 * a.x21 * a.x32)
-                / d,
-            b: (a.x01 * a.x22 * a.x30 - a.x02 * a.x21 * a.x30 + a.x02 * a.x20 * a.x31
-                - a.x00 * a.x22 * a.x31
-                - a.x01 * a.x20 * a.x32
-                + a.x00 * a.x21 * a.x32)
-                / d,
-            c: (a.x02 * a.x11 * a.x30 - a.x01 * a.x12 * a.x30 - a.x02 * a.x10 * a.x31
-                + a.x00 * a.x12 * a.x31
-                + a.x01 * a.x10 * a.x32
-                - a.x00 * a.x11 * a.x32)
-                / d,
-            d: (a.x01 * a.x12 * a.x20 - a.x02 * a.x11 * a.x20 + a.x02 * a.x10 * a.x21
-                - a.x00 * a.x12 * a.x21
-                - a.x01 * a.x10 * a.x22
-                + a.x00 * a.x11 * a.x22)
-                / d,
-        }
-    }
-
-    // The cofactors, transposed, each over d.
-    fn adjugate_over(self, d: f64) -> Matrix
-        ensures { λ r. ⌜ r ≡ Matrices.adjugateOver self d ⌝ }
-    {
-        Matrix::of_rows(
-            self.adjugate_row0(d),
-            self.adjugate_row1(d),
-            self.adjugate_row2(d),
-            self.adjugate_row3(d),
-        )
-    }
-
-    // The inverse, with the determinant that it divides by: one call answers both.
-    pub fn inverse_with_determinant(self) -> Inverted
-        ensures { λ r. ⌜ r ≡ Matrices.inverted self ⌝ }
-    {
-        let determinant = self.determinant();
-        let inverse = self.adjugate_over(determinant);
-        Inverted {
-            inverse,
-            determinant,
-        }
-    }
-
-    pub fn inverse(self) -> Matrix
-        ensures { λ r. ⌜ r ≡ Matrices.inverted self .inverse ⌝ }
-    {
-        self.inverse_with_determinant().inverse
     }
 }

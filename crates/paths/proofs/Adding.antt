@@ -9,11 +9,11 @@ use lib.Dec.{ltb}
 use lib.ListN.{length, drop, length-append}
 use lib.Seq.{slice, take-all, take-append-le, drop-at, getD-at}
 use Rattle.geometry.specs.declared.vector.Vector.{Vector}
-use Rattle.scene.specs.declared.refusal.Refusal.{Refusal}
-use Rattle.scene.specs.declared.refusal.Refusal.the-variants.{Room}
+use Rattle.refusals.specs.declared.Refusal.{Refusal}
+use Rattle.refusals.specs.declared.Refusal.the-variants.{Room}
 use Rattle.rows.specs.Starts.{nextStart}
 use Rattle.paths.specs.Answers.{Answer, answered, refused, next}
-use Rattle.paths.specs.Paths.{Paths, pathsWith, noPaths, push, extend, pathsOf, opened, closedStarts, closed, onePath, each, stage, withPoints}
+use Rattle.paths.specs.Paths.{Paths, pathsWith, noPaths, push, pushAll, pathsOf, opened, closedStarts, closed, onePath, each, stage, withPoints}
 use Rattle.paths.proofs.Runs.{front-snoc}
 
 -- ---- answers
@@ -46,11 +46,11 @@ push-fits {A} room xs x ys e = by (ltb (length xs) room) refl e
         omega (arith, k, length-append xs (x ∷ []), ltb-true (length xs) room l)
     by false l q = no-answer Room q
 
-pub extend-adds : {A : Type 0} (room : ℕ) (vs xs ys : List A) → extend room xs vs ≡ answered ys → ys ≡ xs ++ vs
-unfolding extend
+pub extend-adds : {A : Type 0} (room : ℕ) (vs xs ys : List A) → pushAll room xs vs ≡ answered ys → ys ≡ xs ++ vs
+unfolding pushAll
 extend-adds room [] xs ys e = let q : xs ≡ ys = cc in sym q ∙ sym (append-nil xs)
 extend-adds {A} room (v ∷ vs) xs ys e =
-    let w = next-answered (push room xs v) (λ (zs : List A). extend room zs vs) ys e in
+    let w = next-answered (push room xs v) (λ (zs : List A). pushAll room zs vs) ys e in
     extend-adds room vs (w .0) ys (w .2) ∙ ap (λ (zs : List A). zs ++ vs) (push-answered room xs v (w .0) (w .1)) ∙ append-assoc xs (v ∷ []) vs
 
 -- ---- one more path

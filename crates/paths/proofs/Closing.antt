@@ -9,10 +9,10 @@ use lib.Seq.{length-take-le, take-at}
 use lib.Ieee.{Float}
 use Rattle.floats.specs.Arith.{zeroF}
 use Rattle.geometry.specs.declared.vector.Vector.{Vector}
-use Rattle.scene.specs.declared.refusal.Refusal.{Refusal}
+use Rattle.refusals.specs.declared.Refusal.{Refusal}
 use Rattle.rows.specs.Rows.{flat, padded}
 use Rattle.rows.specs.Points.{points, pointOf, pointRow}
-use Rattle.rows.proofs.RowLaws.{flat-view, view-flat, padded-take}
+use Rattle.rows.proofs.Rows.{flat-view, view-flat, padded-take}
 use Rattle.rows.proofs.Backs.{point-back}
 use Rattle.paths.specs.Answers.{Answer, answered, refused}
 use Rattle.paths.specs.Paths.{Paths, pathsWith}

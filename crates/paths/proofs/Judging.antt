@@ -11,22 +11,21 @@ use lib.Dec.{eqb}
 use lib.ListN.{length, drop, getD, drop-of-length-le}
 use lib.Seq.{drop-cons}
 use lib.Ieee.{Float}
-use Rattle.floats.specs.Numbers.{within}
 use Rattle.geometry.specs.declared.vector.Vector.{Vector}
 use Rattle.geometry.specs.Limits.{Within}
-use Rattle.scene.specs.declared.refusal.Refusal.{Refusal}
-use Rattle.scene.specs.declared.refusal.Refusal.the-variants.{Lengths, Parts, View, Point}
+use Rattle.refusals.specs.declared.Refusal.{Refusal}
+use Rattle.refusals.specs.declared.Refusal.the-variants.{Lengths, Parts, View, Point}
 use Rattle.rows.specs.Rows.{row}
 use Rattle.rows.specs.Points.{pointOf}
 use Rattle.rows.specs.Starts.{goodStarts}
-use Rattle.rows.proofs.RowLaws.{getD-view}
+use Rattle.rows.proofs.Rows.{getD-view}
 use Rattle.paths.specs.Answers.{Answer, refused}
 use Rattle.paths.specs.Ends.{places, allPoints, nowhere}
 use Rattle.limits.specs.Limits.{withinPoint}
-use Rattle.limits.proofs.LimitLaws.{within-point}
-use Rattle.paths.specs.Judged.{pointsOk, handedOver, judged, unless}
-use Rattle.paths.specs.declared.Verdict.{Verdict}
-use Rattle.paths.specs.declared.Verdict.the-variants.{Fine, Refused}
+use Rattle.limits.proofs.Limits.{within-point}
+use Rattle.paths.specs.Judged.{pointsOk, handedOver, pathsJudged, unless}
+use Rattle.paths.specs.declared.Judgement.{Judgement}
+use Rattle.paths.specs.declared.Judgement.the-variants.{Fine, Refused}
 use Rattle.paths.proofs.Parts.{length-points}
 
 -- ---- the loop over the points: what is left of it answers as the whole does
@@ -78,32 +77,32 @@ handed-all xs [] h = absurd (h refl)
 handed-all xs (s ∷ ss) h = refl
 
 module _ (xs : List Float) (ss : List ℕ) (fair : Bool) where
-  pub judged-2 : (length xs % 3 ≡ 0 → ⊥) → Refused Lengths ≡ judged xs ss fair
-  unfolding judged
+  pub judged-2 : (length xs % 3 ≡ 0 → ⊥) → Refused Lengths ≡ pathsJudged xs ss fair
+  unfolding pathsJudged
   judged-2 h = rw (ne-eqb (length xs % 3) 0 h)
 
   module _ (whole : length xs % 3 ≡ 0) (good : Bool) (eg : good ≡ goodStarts (places xs) ss) where
-    pub judged-4 : good ≡ false → Refused Parts ≡ judged xs ss fair
-    unfolding judged
+    pub judged-4 : good ≡ false → Refused Parts ≡ pathsJudged xs ss fair
+    unfolding pathsJudged
     judged-4 h = rw (eq-eqb (length xs % 3) 0 whole, ← eg, h)
 
     module _ (up : good ≡ true) where
-      pub judged-8 : fair ≡ false → Refused View ≡ judged xs ss fair
-      unfolding judged
+      pub judged-8 : fair ≡ false → Refused View ≡ pathsJudged xs ss fair
+      unfolding pathsJudged
       judged-8 h = rw (eq-eqb (length xs % 3) 0 whole, ← eg, up, h)
 
       module _ (nice : fair ≡ true) where
-        pub judged-none : length ss ≡ 0 → Fine ≡ judged xs ss fair
-        unfolding judged
+        pub judged-none : length ss ≡ 0 → Fine ≡ pathsJudged xs ss fair
+        unfolding pathsJudged
         judged-none n = rw (eq-eqb (length xs % 3) 0 whole, ← eg, up, nice, handed-none xs ss n)
 
         module _ (some : length ss ≡ 0 → ⊥) (ok : Bool) (eo : ok ≡ pointsOk (allPoints xs)) where
-          pub judged-9 : ok ≡ false → Refused Point ≡ judged xs ss fair
-          unfolding judged
+          pub judged-9 : ok ≡ false → Refused Point ≡ pathsJudged xs ss fair
+          unfolding pathsJudged
           judged-9 h = rw (eq-eqb (length xs % 3) 0 whole, ← eg, up, nice, handed-all xs ss some, ← eo, h)
 
-          pub judged-fine : ok ≡ true → Fine ≡ judged xs ss fair
-          unfolding judged
+          pub judged-fine : ok ≡ true → Fine ≡ pathsJudged xs ss fair
+          unfolding pathsJudged
           judged-fine h = rw (eq-eqb (length xs % 3) 0 whole, ← eg, up, nice, handed-all xs ss some, ← eo, h)
 
 -- what passes
@@ -112,8 +111,8 @@ pub record Passed (xs : List Float) (ss : List ℕ) (fair : Bool) : Type 0 where
   pub nice : fair ≡ true
   pub near : pointsOk (handedOver xs ss) ≡ true
 
-pub judged-passed : (xs : List Float) (ss : List ℕ) (fair : Bool) → judged xs ss fair ≡ Fine → Passed xs ss fair
-unfolding judged
+pub judged-passed : (xs : List Float) (ss : List ℕ) (fair : Bool) → pathsJudged xs ss fair ≡ Fine → Passed xs ss fair
+unfolding pathsJudged
 judged-passed xs ss fair e =
     let w = by (eqb (length xs % 3) 0) (goodStarts (places xs) ss) fair (pointsOk (handedOver xs ss)) e in
     record { good = w .0; nice = w .1; near = w .2 }
@@ -129,10 +128,10 @@ judged-passed xs ss fair e =
     by false b c d q = fine Lengths q
 
 -- ---- a call that is refused before, or goes on
-pub unless-refused : {A : Type 0} {v : Verdict} {k : Refusal} (a : Answer A) → v ≡ Refused k → refused k ≡ unless v a
+pub unless-refused : {A : Type 0} {v : Judgement} {k : Refusal} (a : Answer A) → v ≡ Refused k → refused k ≡ unless v a
 unfolding unless
 unless-refused a e = rw e
 
-pub unless-fine : {A : Type 0} {v : Verdict} (a : Answer A) → v ≡ Fine → a ≡ unless v a
+pub unless-fine : {A : Type 0} {v : Judgement} (a : Answer A) → v ≡ Fine → a ≡ unless v a
 unfolding unless
 unless-fine a e = rw e

@@ -1,5 +1,5 @@
 -- What the verbs leave: starts that rise, and no more points and starts than there is room for. Assumes nothing.
-use mathlib.Core.Path.{_≡_, refl, sym, ap, _∙_, subst}
+use mathlib.Core.Path.{_≡_, refl, sym, ap, subst}
 use mathlib.Core.Bool.{Bool, true, false, cond, _&&_}
 use mathlib.Core.List.{List, [], _∷_, _++_}
 use Prim.Native.Nat.{ℕ, zero, suc, _-_, _≤_, _<_}
@@ -11,7 +11,7 @@ use lib.ListN.{length, take, getD, length-append, length-take}
 use Rattle.geometry.specs.declared.vector.Vector.{Vector}
 use Rattle.rows.specs.Starts.{nextStart, rising}
 use Rattle.paths.specs.Answers.{Answer, answered, next}
-use Rattle.paths.specs.Paths.{Paths, pathsWith, noPaths, push, extend, opened, closedStarts, closed, front, onePath, each}
+use Rattle.paths.specs.Paths.{Paths, pathsWith, noPaths, push, pushAll, opened, closedStarts, closed, front, onePath, each}
 use Rattle.paths.proofs.Adding.{same-answer, next-answered, push-answered, push-fits}
 
 -- ---- starts that rise among n points
@@ -92,11 +92,11 @@ module _ {room startRoom : ℕ} where
       let k : length vs ≡ length (o .vertices ++ (v ∷ [])) = ap length (push-answered room (o .vertices) v vs e) in
       record { rises = rises-more (length (o .vertices)) (length vs) (o .starts) (omega (arith, k, length-append (o .vertices) (v ∷ []))) (h .rises); points-fit = push-fits room (o .vertices) v vs e; starts-fit = h .starts-fit }
 
-  pub extended-laid : (ws : List Vector) (o : Paths) (vs : List Vector) → extend room (o .vertices) ws ≡ answered vs → Laid room startRoom o → Laid room startRoom (pathsWith vs (o .starts))
-  unfolding extend
+  pub extended-laid : (ws : List Vector) (o : Paths) (vs : List Vector) → pushAll room (o .vertices) ws ≡ answered vs → Laid room startRoom o → Laid room startRoom (pathsWith vs (o .starts))
+  unfolding pushAll
   extended-laid [] o vs e h = subst (λ (us : List Vector). Laid room startRoom (pathsWith us (o .starts))) (same-answer e) h
   extended-laid (v ∷ ws) o vs e h =
-      let w = next-answered (push room (o .vertices) v) (λ (us : List Vector). extend room us ws) vs e in
+      let w = next-answered (push room (o .vertices) v) (λ (us : List Vector). pushAll room us ws) vs e in
       extended-laid ws (pathsWith (w .0) (o .starts)) vs (w .2) (pushed-laid v o (w .0) (w .1) h)
 
   -- as many other points
@@ -104,11 +104,11 @@ module _ {room startRoom : ℕ} where
   moved-laid o vs e h = record { rises = rw e (h .rises); points-fit = omega (arith, e, h .points-fit); starts-fit = h .starts-fit }
 
   -- a path whose points are pushed one after the other
-  pub one-laid : (made : List Vector → List Vector) (p : List Vector) (o q : Paths) → onePath (λ (r : ℕ) (p vs : List Vector). extend r vs (made p)) room startRoom p o ≡ answered q → Laid room startRoom o → Laid room startRoom q
+  pub one-laid : (made : List Vector → List Vector) (p : List Vector) (o q : Paths) → onePath (λ (r : ℕ) (p vs : List Vector). pushAll r vs (made p)) room startRoom p o ≡ answered q → Laid room startRoom o → Laid room startRoom q
   unfolding onePath
   one-laid made p o q e h =
-      let a = next-answered (opened startRoom o) (λ (u : Paths). next (extend room (u .vertices) (made p)) (λ (vs : List Vector). answered (closed (pathsWith vs (u .starts))))) q e in
-      let b = next-answered (extend room (a .0 .vertices) (made p)) (λ (vs : List Vector). answered (closed (pathsWith vs (a .0 .starts)))) q (a .2) in
+      let a = next-answered (opened startRoom o) (λ (u : Paths). next (pushAll room (u .vertices) (made p)) (λ (vs : List Vector). answered (closed (pathsWith vs (u .starts))))) q e in
+      let b = next-answered (pushAll room (a .0 .vertices) (made p)) (λ (vs : List Vector). answered (closed (pathsWith vs (a .0 .starts)))) q (a .2) in
       subst (Laid room startRoom) (same-answer (b .2)) (closed-laid (pathsWith (b .0) (a .0 .starts)) (extended-laid (made p) (a .0) (b .0) (b .1) (opened-laid o (a .0) (a .1) h)))
 
   -- all paths, by what each does

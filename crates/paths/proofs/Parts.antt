@@ -16,10 +16,10 @@ use Rattle.geometry.specs.declared.vector.Vector.{Vector}
 use Rattle.rows.specs.Rows.{row}
 use Rattle.rows.specs.Points.{points, pointOf}
 use Rattle.rows.specs.Starts.{endOf}
-use Rattle.rows.proofs.RowLaws.{length-view, getD-view, view-take, take-drop}
+use Rattle.rows.proofs.Rows.{length-view, getD-view, view-take, take-drop}
 use Rattle.paths.specs.Ends.{places, allPoints, nowhere}
-use Rattle.paths.specs.Spans.{lesserOf, spanOf}
-use Rattle.paths.specs.declared.Span.{Span}
+use Rattle.paths.specs.Ranges.{lesserOf, rangeOf}
+use Rattle.paths.specs.declared.Range.{Range}
 
 pub length-points : (n : ℕ) (xs : List Float) → length (points n xs) ≡ n
 length-points n xs = length-view 3 pointOf n xs
@@ -97,24 +97,24 @@ module _ {A : Type 0} (s e : ℕ) (l : List A) where
       by (inl h) = rw (h .0)
       by (inr h) = rw (h .0) (slice-empty e l ∙ sym (drop-of-length-le (take e l) {i = s} (rw (length-take e l) (omega (arith, h .1)))))
 
-module _ (path : List Float) (starts : List ℕ) (i : ℕ) (p : Span) (is : p ≡ spanOf (places path) starts i) where
-  pub span-fits : (p .from ≤ p .end) × (p .end * 3 ≤ length path)
-  unfolding spanOf
-  span-fits =
+module _ (path : List Float) (starts : List ℕ) (i : ℕ) (p : Range) (is : p ≡ rangeOf (places path) starts i) where
+  pub range-fits : (p .from ≤ p .end) × (p .end * 3 ≤ length path)
+  unfolding rangeOf
+  range-fits =
       let e = lesserOf (endOf (places path) starts i) (places path) in
-      let f : p .from ≡ lesserOf (getD starts i 0) e = ap (λ (x : Span). x .from) is in
-      let g : p .end ≡ e = ap (λ (x : Span). x .end) is in
+      let f : p .from ≡ lesserOf (getD starts i 0) e = ap (λ (x : Range). x .from) is in
+      let g : p .end ≡ e = ap (λ (x : Range). x .end) is in
       (omega (arith, lesser-low (getD starts i 0) e .1), omega (arith, lesser-low (endOf (places path) starts i) (places path) .1))
 
   pub span-slice : slice (p .from) (p .end) (allPoints path) ≡ slice (getD starts i 0) (endOf (length (allPoints path)) starts i) (allPoints path)
-  unfolding spanOf
+  unfolding rangeOf
   span-slice =
       let l = allPoints path in
       let s = getD starts i 0 in
       let n : places path ≡ length l = sym (length-points (places path) path) in
       let e = endOf (places path) starts i in
-      let f : p .from ≡ lesserOf s (lesserOf e (places path)) = ap (λ (x : Span). x .from) is in
-      let g : p .end ≡ lesserOf e (places path) = ap (λ (x : Span). x .end) is in
+      let f : p .from ≡ lesserOf s (lesserOf e (places path)) = ap (λ (x : Range). x .from) is in
+      let g : p .end ≡ lesserOf e (places path) = ap (λ (x : Range). x .end) is in
       rw (f, g)
       (slice-ordered s (lesserOf e (places path)) l
       ∙ ap (λ (m : ℕ). slice s (lesserOf e m) l) n

@@ -8,18 +8,18 @@ use lib.ListN.{length, take, drop, drop-of-length-le}
 use lib.Seq.{slice, drop-cons}
 use lib.Ieee.{Float}
 use Rattle.geometry.specs.declared.vector.Vector.{Vector}
-use Rattle.scene.specs.declared.refusal.Refusal.{Refusal}
+use Rattle.refusals.specs.declared.Refusal.{Refusal}
 use Rattle.rows.specs.Rows.{view}
 use Rattle.rows.specs.Points.{points}
 use Rattle.paths.specs.Answers.{Answer, next}
 use Rattle.paths.specs.Paths.{Paths, push, pathsOf, opened, closedStarts, closed, onePath, each, stage}
 use Rattle.paths.specs.Ends.{places, allPoints, Ends, EndsStarts, held, EndsBoth}
-use Rattle.paths.specs.Spans.{spanOf}
+use Rattle.paths.specs.Ranges.{rangeOf}
 use Rattle.paths.specs.declared.Count.{Count}
 use Rattle.paths.specs.declared.Count.the-variants.{At, Refused}
 use Rattle.paths.specs.declared.Counts.{Counts}
 use Rattle.paths.specs.declared.Counts.the-variants.{Both, Refused as NotBoth}
-use Rattle.paths.specs.declared.Span.{Span}
+use Rattle.paths.specs.declared.Range.{Range}
 use Rattle.paths.proofs.Ending.{ends-at, ends-refused, both-at, both-refused, refuses-both, answers-both}
 use Rattle.paths.proofs.Parts.{length-points, span-slice}
 
@@ -56,7 +56,7 @@ module _ (f : ℕ → ℕ → List Vector → Paths → Answer Paths) (path : Li
   staging-start = record { same = refl; same-starts = refl; upto = omega arith; fits = omega arith; fits-starts = omega arith; left = refl }
 
   module _ (xs : List Float) (ss : List ℕ) (i n m : ℕ) (h : Staging xs ss i n m) where
-    module _ (l : i < length starts) (p : Span) (is : p ≡ spanOf (places path) starts i)
+    module _ (l : i < length starts) (p : Range) (is : p ≡ rangeOf (places path) starts i)
         (ys : List Float) (us : List ℕ) {r : Counts} (w : EndsBoth (f (places xs) (length ss) (slice (p .from) (p .end) (allPoints path)) (held n xs m ss)) ys us r) where
       onward : stage f (allPoints path) starts (places xs₀) (length ss₀)
           ≡ next (f (places xs) (length ss) (slice (p .from) (p .end) (allPoints path)) (held n xs m ss)) (each (f (places xs₀) (length ss₀)) (pathsOf (allPoints path) (drop (i + 1) starts)))

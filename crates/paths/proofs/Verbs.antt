@@ -9,10 +9,10 @@ use lib.ListN.{length, take, getD, set, length-set}
 use lib.Seq.{length-sets, take-suc-set, length-take-le, getD-take, take-take}
 use lib.Ieee.{Float}
 use Rattle.geometry.specs.declared.vector.Vector.{Vector}
-use Rattle.scene.specs.declared.refusal.Refusal.the-variants.{Room}
+use Rattle.refusals.specs.declared.Refusal.the-variants.{Room}
 use Rattle.rows.specs.Rows.{setRow}
 use Rattle.rows.specs.Points.{points, pointOf, pointRow}
-use Rattle.rows.proofs.RowLaws.{view-written}
+use Rattle.rows.proofs.Rows.{view-written}
 use Rattle.paths.specs.Paths.{push, front, closedStarts}
 use Rattle.paths.specs.Ends.{places, Ends, EndsStarts}
 use Rattle.paths.specs.declared.Count.the-variants.{At, Refused}

@@ -73,3 +73,7 @@ pub record Finished (a : Answer Paths) (n m : ℕ) (xs : List Float) (ss : List 
   pub answer : r ≡ counted a
   pub points-laid : xs ≡ laidPoints a n
   pub starts-laid : ss ≡ laidStarts a m
+
+-- a lent slice that is left as zeros, by what it held before
+abbrev pub Zeroed : {A : Type 0} → A → List A → List A → Type 0
+Zeroed z before after = after ≡ replicate (length before) z

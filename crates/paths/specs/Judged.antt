@@ -6,13 +6,13 @@ use lib.ListN.{length}
 use lib.Dec.{eqb}
 use lib.Ieee.{Float}
 use Rattle.geometry.specs.declared.vector.Vector.{Vector}
-use Rattle.scene.specs.declared.refusal.Refusal.the-variants.{Lengths, Parts, View, Point}
+use Rattle.refusals.specs.declared.Refusal.the-variants.{Lengths, Parts, View, Point}
 use Rattle.limits.specs.Limits.{withinPoint}
 use Rattle.rows.specs.Starts.{goodStarts}
 use Rattle.paths.specs.Answers.{Answer, refused}
 use Rattle.paths.specs.Ends.{places, allPoints}
-use Rattle.paths.specs.declared.Verdict.{Verdict}
-use Rattle.paths.specs.declared.Verdict.the-variants.{Fine, Refused}
+use Rattle.paths.specs.declared.Judgement.{Judgement}
+use Rattle.paths.specs.declared.Judgement.the-variants.{Fine, Refused}
 
 -- number 9: no point has a coordinate that is not finite or exceeds 1,000,000 in magnitude
 unfoldable pub pointsOk : List Vector → Bool
@@ -25,8 +25,8 @@ handedOver xs [] = []
 handedOver xs (s ∷ ss) = allPoints xs
 
 -- the first of 2, 4, 8 and 9 that is met; `fair` says that the call's own number 8 is not
-unfoldable pub judged : List Float → List ℕ → Bool → Verdict
-judged xs ss fair =
+unfoldable pub pathsJudged : List Float → List ℕ → Bool → Judgement
+pathsJudged xs ss fair =
     cond (eqb (length xs % 3) 0)
     (cond (goodStarts (places xs) ss)
     (cond fair
@@ -37,6 +37,6 @@ judged xs ss fair =
     (Refused Lengths)
 
 -- what a call answers, unless it is refused before
-unfoldable pub unless {ℓ} : {A : Type ℓ} → Verdict → Answer A → Answer A
+unfoldable pub unless {ℓ} : {A : Type ℓ} → Judgement → Answer A → Answer A
 unless Fine a = a
 unless (Refused k) a = refused k

@@ -2,4 +2,4 @@ pub mod Answers
 pub mod Paths
 pub mod Ends
 pub mod Judged
-pub mod Spans
+pub mod Ranges

@@ -6,7 +6,7 @@ use lib.ListN.{length, take, getD}
 use lib.Seq.{slice}
 use lib.Dec.{ltb, eqb}
 use Rattle.geometry.specs.declared.vector.Vector.{Vector}
-use Rattle.scene.specs.declared.refusal.Refusal.the-variants.{Room}
+use Rattle.refusals.specs.declared.Refusal.the-variants.{Room}
 use Rattle.rows.specs.Starts.{nextStart}
 use Rattle.paths.specs.Answers.{Answer, answered, refused, next}
 
@@ -15,9 +15,9 @@ unfoldable pub push : {A : Type 0} → ℕ → List A → A → Answer (List A)
 push room xs x = cond (ltb (length xs) room) (answered (xs ++ (x ∷ []))) (refused Room)
 
 -- one after the other
-unfoldable pub extend : {A : Type 0} → ℕ → List A → List A → Answer (List A)
-extend room xs [] = answered xs
-extend {A} room xs (y ∷ ys) = next (push room xs y) (λ (zs : List A). extend room zs ys)
+unfoldable pub pushAll : {A : Type 0} → ℕ → List A → List A → Answer (List A)
+pushAll room xs [] = answered xs
+pushAll {A} room xs (y ∷ ys) = next (push room xs y) (λ (zs : List A). pushAll room zs ys)
 
 -- all but the last
 unfoldable pub front : {A : Type 0} → List A → List A

@@ -8,11 +8,11 @@ ghost use Rattle.rows.specs.Points.{points};
 ghost use Rattle.paths.specs.Paths as Paths;
 ghost use Rattle.paths.specs.Paths.{closedStarts};
 ghost use Rattle.paths.specs.Ends.{places, allPoints, Ends, EndsStarts, toldBoth, Finished};
-ghost use Rattle.paths.specs.Judged.{pointsOk, judged};
-ghost use Rattle.paths.specs.Spans.{lesserOf, spanOf};
+ghost use Rattle.paths.specs.Judged.{pointsOk, pathsJudged};
+ghost use Rattle.paths.specs.Ranges.{lesserOf, rangeOf};
 ghost use Rattle.paths.specs.declared.Counts.the-variants.{Both};
 use geometry::vector::Vector;
-use scene::refusal::Refusal;
+use refusals::Refusal;
 
 // How many rows of a slice are filled now, or why it is refused.
 pub enum Count {
@@ -27,7 +27,7 @@ pub enum Counts {
 }
 
 // Whether what is handed in passes.
-pub enum Verdict {
+pub enum Judgement {
     Fine,
     Refused(Refusal),
 }
@@ -47,7 +47,7 @@ pub fn push(out: &mut [f64], n: usize, v: Vector) -> Count
 // The points of a path from `from` up to `end`.
 pub fn extend(path: &[f64], from: usize, end: usize, out: &mut [f64], n: usize) -> Count
     requires { ⌜ (from ≤ end) × (end * 3 ≤ length (now path)) × (n * 3 ≤ length (now out)) ⌝ }
-    ensures { λ r. ⌜ Ends (Paths.extend (places (now (out .entry))) (points n (now (out .entry))) (slice from end (allPoints (now (path .entry))))) (now (out .exit)) r ⌝ }
+    ensures { λ r. ⌜ Ends (Paths.pushAll (places (now (out .entry))) (points n (now (out .entry))) (slice from end (allPoints (now (path .entry))))) (now (out .exit)) r ⌝ }
 {
     let mut i = from;
     let mut m = n;
@@ -93,24 +93,24 @@ pub fn close(starts: &[usize], m: usize, n: usize) -> usize
 }
 
 // Where a path starts and ends among the points.
-pub struct Span {
+pub struct Range {
     pub from: usize,
     pub end: usize,
 }
 
-fn lesser(a: usize, b: usize) -> usize
+pub fn lesser(a: usize, b: usize) -> usize
     ensures { λ r. ⌜ r ≡ lesserOf a b ⌝ }
 {
     if b < a { b } else { a }
 }
 
 // Path i of these, among n points; ends out of order or beyond the points are kept within them.
-pub fn span_of(starts: &[usize], i: usize, n: usize) -> Span
+pub fn range_of(starts: &[usize], i: usize, n: usize) -> Range
     requires { ⌜ i < length (now starts) ⌝ }
-    ensures { λ r. ⌜ r ≡ spanOf n (now (starts .entry)) i ⌝ }
+    ensures { λ r. ⌜ r ≡ rangeOf n (now (starts .entry)) i ⌝ }
 {
     let end = lesser(rows::end_of(starts, i, n), n);
-    Span {
+    Range {
         from: lesser(starts[i], end),
         end,
     }
@@ -152,23 +152,23 @@ pub fn points_ok(path: &[f64]) -> bool
 }
 
 // Numbers 2, 4, 8 and 9 of paths that are handed to a call; `fair` says that 8 is not met.
-pub fn judge(path: &[f64], starts: &[usize], fair: bool) -> Verdict
-    ensures { λ r. ⌜ r ≡ judged (now (path .entry)) (now (starts .entry)) fair ⌝ }
+pub fn judge(path: &[f64], starts: &[usize], fair: bool) -> Judgement
+    ensures { λ r. ⌜ r ≡ pathsJudged (now (path .entry)) (now (starts .entry)) fair ⌝ }
 {
     if path.len() % 3 != 0 {
-        return Verdict::Refused(Refusal::Lengths);
+        return Judgement::Refused(Refusal::Lengths);
     }
     if !rows::good_starts(starts, path.len() / 3) {
-        return Verdict::Refused(Refusal::Parts);
+        return Judgement::Refused(Refusal::Parts);
     }
     if !fair {
-        return Verdict::Refused(Refusal::View);
+        return Judgement::Refused(Refusal::View);
     }
     if starts.len() == 0 {
-        return Verdict::Fine;
+        return Judgement::Fine;
     }
     if !points_ok(path) {
-        return Verdict::Refused(Refusal::Point);
+        return Judgement::Refused(Refusal::Point);
     }
-    Verdict::Fine
+    Judgement::Fine
 }

@@ -6,7 +6,7 @@ use lib.ListN.{length}
 use lib.Ieee.{Float, nan}
 use Rattle.rows.specs.Points.{pointOf, pointRow, boxOfRow, boxRow}
 use Rattle.rows.specs.Entries.{numbersOf, numbersRow, tripleOf, tripleRow}
-use Rattle.rows.proofs.RowLaws.{cells-all}
+use Rattle.rows.proofs.Rows.{cells-all}
 
 pub point-back : (r : List Float) → length r ≡ 3 → pointRow (pointOf r) ≡ r
 point-back r h = cells-all r nan 3 h

@@ -1,3 +1,3 @@
-pub mod RowLaws
+pub mod Rows
 pub mod Backs
-pub mod StartLaws
+pub mod Starts

@@ -260,3 +260,10 @@ pub fn good_starts(starts: &[usize], points: usize) -> bool
     }
     rising(starts, points)
 }
+
+// A mark as an index.
+pub fn index(x: u32) -> usize
+    ensures { λ r. ⌜ (r ≡ x) × (r < 4294967296) ⌝ }
+{
+    x as usize
+}

@@ -6,17 +6,16 @@ use lib.ListN.{length}
 use lib.Dec.{ltb, eqb}
 use lib.Ieee.{Float}
 use Rattle.geometry.specs.Vectors.{vec}
-use Rattle.matrix.specs.Matrices.{mat, inverted}
+use Rattle.matrix.specs.Matrices.{mat}
+use Rattle.matrix_inverse.specs.Inverses.{inverted}
 use Rattle.matrix.specs.declared.Matrix.{Matrix}
 use Rattle.rows.specs.Rows.{row}
 use Rattle.rows.specs.Entries.{numbersOf, marksOf}
 use Rattle.rows.specs.declared.Numbers.{Numbers}
 use Rattle.rows.specs.declared.Marks.{Marks}
-use Rattle.solids.specs.declared.solid.Solid.{Solid}
 use Rattle.solids.specs.declared.solid.Solid.the-variants.{Sphere, Cylinder, Cone, Cube, Triangle}
 use Rattle.scene.specs.declared.entry.Simple.{Simple}
 use Rattle.scene.specs.declared.entry.Simple.the-variants.{Is, Other}
-use Rattle.scene.specs.declared.entry.Op.{Op}
 use Rattle.scene.specs.declared.entry.Op.the-variants.{Intersection, Difference}
 use Rattle.scene.specs.declared.entry.Entry.{Entry}
 use Rattle.scene.specs.declared.entry.Entry.the-variants.{Simple as SimpleEntry, Placed, Cut, None}

@@ -1,3 +1,2 @@
-// Scenes: what the numbers and marks of their entries stand for, and what is refused.
+// Scenes: five slices, and what the numbers and marks of their entries stand for.
 pub mod entry;
-pub mod refusal;

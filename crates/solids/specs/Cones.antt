@@ -9,7 +9,7 @@ use Rattle.geometry.specs.Boxes.{boxOf}
 use Rattle.geometry.specs.declared.ray.Ray.{Ray}
 use Rattle.geometry.specs.declared.hit.Hit.{Hit}
 use Rattle.geometry.specs.declared.bounding_box.BBox.{BBox}
-use Rattle.solids.specs.Roots.{firstOf, rootsOf}
+use Rattle.solids.specs.Roots.{firstHit, rootsOf}
 
 unfoldable pub coneBox : Float → Float → BBox
 coneBox radius height = boxOf (vec (neg radius) (neg radius) zeroF) (vec radius radius height)
@@ -32,4 +32,4 @@ coneHit radius height ray =
     let c = o .x ⊗ o .x ⊕ o .y ⊗ o .y ⊖ k ⊗ (o .z ⊖ height) ⊗ (o .z ⊖ height) in
     let q = b ⊗ b ⊖ fourF ⊗ a ⊗ c in
     let t = rootsOf a b q in
-    cond (le q zeroF) noHit (firstOf t (onCone height ray (t .tmin)) (onCone height ray (t .tmax)))
+    cond (le q zeroF) noHit (firstHit t (onCone height ray (t .tmin)) (onCone height ray (t .tmax)))

@@ -9,7 +9,7 @@ use Rattle.geometry.specs.declared.vector.Vector.{Vector}
 use Rattle.geometry.specs.declared.ray.Ray.{Ray}
 use Rattle.geometry.specs.declared.hit.Hit.{Hit}
 use Rattle.geometry.specs.declared.bounding_box.BBox.{BBox}
-use Rattle.solids.specs.Roots.{firstOf, rootsOf}
+use Rattle.solids.specs.Roots.{firstHit, rootsOf}
 
 unfoldable pub cylinderBox : Float → Float → Float → BBox
 cylinderBox radius z0 z1 = boxOf (vec (neg radius) (neg radius) z0) (vec radius radius z1)
@@ -35,4 +35,4 @@ cylinderHit radius z0 z1 ray =
     let t = rootsOf a b q in
     let near = onTube z0 z1 (t .tmin) (o .z ⊕ t .tmin ⊗ d .z) in
     let far = onTube z0 z1 (t .tmax) (o .z ⊕ t .tmax ⊗ d .z) in
-    cond (lt q zeroF) noHit (firstOf t near far)
+    cond (lt q zeroF) noHit (firstHit t near far)

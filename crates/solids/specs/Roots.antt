@@ -13,5 +13,5 @@ unfoldable pub rootsOf : Float → Float → Float → Span
 rootsOf a b q = ordered ((neg b ⊕ sqrtOf q) ⊘ (twoF ⊗ a)) ((neg b ⊖ sqrtOf q) ⊘ (twoF ⊗ a))
 
 -- the first of two roots that is on the solid, as near and far say of each
-unfoldable pub firstOf : Span → Bool → Bool → Hit
-firstOf t near far = cond near (hitAt (t .tmin)) (cond far (hitAt (t .tmax)) noHit)
+unfoldable pub firstHit : Span → Bool → Bool → Hit
+firstHit t near far = cond near (hitAt (t .tmin)) (cond far (hitAt (t .tmax)) noHit)

@@ -1,6 +1,6 @@
 // The roots of a quadratic, for the cylinder and the cone.
 ghost use mathlib.Core.Path.{_≡_};
-ghost use Rattle.solids.specs.Roots.{firstOf, rootsOf};
+ghost use Rattle.solids.specs.Roots.{firstHit, rootsOf};
 use geometry::bounding_box::Span;
 use geometry::bounding_box::ordered;
 use geometry::hit::Hit;
@@ -17,7 +17,7 @@ pub fn roots(a: f64, b: f64, q: f64) -> Span
 
 // The first of two roots that is on the solid, as near and far say of each.
 pub fn first(t: Span, near: bool, far: bool) -> Hit
-    ensures { λ h. ⌜ h ≡ firstOf t near far ⌝ }
+    ensures { λ h. ⌜ h ≡ firstHit t near far ⌝ }
 {
     if near {
         return Hit::new(t.tmin);

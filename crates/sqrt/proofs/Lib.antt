@@ -1,5 +1,4 @@
 pub mod Squares
-pub mod Patterns
 pub mod Roots
 pub mod Values
 pub mod Signs

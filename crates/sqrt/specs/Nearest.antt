@@ -24,7 +24,7 @@ pub record Nearer (x y r : Float) : Type 0 where
   pub above : T (lt r y) → 4 * num x * square (sumDen y r) < square (sumNum y r) * den x
 
 -- r is the finite f64 nearest to the root of x, and no other is as near, below zero or above
-pub record Nearest (x r : Float) : Type 0 where
+pub record NearestOfAll (x r : Float) : Type 0 where
   pub held : T (fits binary64 r)
   pub bounded : T (finite r)
   pub nonneg : T (le zeroF r)

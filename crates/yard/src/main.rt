@@ -4,6 +4,6 @@ fn main() {
     let mut text = [0u8; 65537];
     let mut out = [0u8; 131072];
     let n = io::read_full(0, &mut text);
-    let k = reply::answer(&text[..n], &mut out);
+    let k = text_reply::answer(&text[..n], &mut out);
     io::write_all(1, &out[..k]);
 }

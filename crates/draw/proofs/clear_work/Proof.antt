@@ -4,67 +4,22 @@ use borrow.Author.Needs.{needs}
 use Rattle.draw.proofs.clear_work.Statement.{statement}
 use Rattle.draw.proofs.clear_work.Tie as tie
 
-clear-requires : tie.Need-clear-requires
-clear-requires c κs = search needs
-
-clear-starts-requires : tie.Need-clear-starts-requires
-clear-starts-requires c κs = search needs
-
-clear-requires-2 : tie.Need-clear-requires-2
-clear-requires-2 c κs = search needs
-
-clear-starts-requires-2 : tie.Need-clear-starts-requires-2
-clear-starts-requires-2 c κs = search needs
-
-clear-requires-3 : tie.Need-clear-requires-3
-clear-requires-3 c κs = search needs
-
-clear-marks-requires : tie.Need-clear-marks-requires
-clear-marks-requires c κs = search needs
-
-clear-marks-requires-2 : tie.Need-clear-marks-requires-2
-clear-marks-requires-2 c κs = search needs
-
-same-length : tie.Need-same-length
-same-length c = search needs
-
-same-length-2 : tie.Need-same-length-2
-same-length-2 c = search needs
-
-same-length-3 : tie.Need-same-length-3
-same-length-3 c = search needs
-
-same-length-4 : tie.Need-same-length-4
-same-length-4 c = search needs
-
-same-length-5 : tie.Need-same-length-5
-same-length-5 c = search needs
-
-same-length-6 : tie.Need-same-length-6
-same-length-6 c = search needs
-
-same-length-7 : tie.Need-same-length-7
-same-length-7 c = search needs
-
 returns : tie.Need-returns
-returns c = (cleared zeroF (c .before .before .before .before .before .before .before .before .before .before .before .before .before .before .before .before .before .before .before .before .before .before .before .before .before .before .before .before .before .before .before .before .before .before .before .args .work .now) (c .before .before .before .before .before .before .before .before .before .before .before .before .before .before .before .before .before .before .before .before .before .before .before .before .before .before .clear .ensures), (cleared 0 (c .before .before .before .before .before .before .before .before .before .before .before .before .before .before .before .before .before .before .before .before .before .before .before .before .before .before .before .before .before .before .before .before .before .before .before .args .work-starts .now) (c .before .before .before .before .before .before .before .before .before .before .before .before .before .before .before .before .before .before .before .before .before .before .clear-starts .ensures), (cleared zeroF (c .before .before .before .before .before .before .before .before .before .before .before .before .before .before .before .before .before .before .before .before .before .before .before .before .before .before .before .before .before .before .before .before .before .before .before .args .chopped .now) (c .before .before .before .before .before .before .before .before .before .before .before .before .before .before .before .before .before .before .clear2 .ensures), (cleared 0 (c .before .before .before .before .before .before .before .before .before .before .before .before .before .before .before .before .before .before .before .before .before .before .before .before .before .before .before .before .before .before .before .before .before .before .before .args .cuts .now) (c .before .before .before .before .before .before .before .before .before .before .before .before .before .before .clear-starts2 .ensures), (cleared zeroF (c .before .before .before .before .before .before .before .before .before .before .before .before .before .before .before .before .before .before .before .before .before .before .before .before .before .before .before .before .before .before .before .before .before .before .before .args .hulls .now) (c .before .before .before .before .before .before .before .before .before .before .clear3 .ensures), (cleared 0 (c .before .before .before .before .before .before .before .before .before .before .before .before .before .before .before .before .before .before .before .before .before .before .before .before .before .before .before .before .before .before .before .before .before .before .before .args .records .now) (c .before .before .before .before .before .before .clear-marks .ensures), cleared 0 (c .before .before .before .before .before .before .before .before .before .before .before .before .before .before .before .before .before .before .before .before .before .before .before .before .before .before .before .before .before .before .before .before .before .before .before .args .order .now) (c .before .before .clear-marks2 .ensures)))))))
+returns c =
+    let at2 = c .before .before in let clear-marks2 = at2 .clear-marks2 in
+    let at6 = at2 .before .before .before .before in let clear-marks = at6 .clear-marks in
+    let at10 = at6 .before .before .before .before in let clear3 = at10 .clear3 in
+    let at14 = at10 .before .before .before .before in let clear-starts2 = at14 .clear-starts2 in
+    let at18 = at14 .before .before .before .before in let clear2 = at18 .clear2 in
+    let at22 = at18 .before .before .before .before in let clear-starts = at22 .clear-starts in
+    let at26 = at22 .before .before .before .before in let clear = at26 .clear in
+    let at35 = at26 .before .before .before .before .before .before .before .before .before in let args = at35 .args in
+    (cleared zeroF (args .work .now) (clear .ensures), (cleared 0 (args .work-starts .now) (clear-starts .ensures), (cleared zeroF (args .chopped .now) (clear2 .ensures), (cleared 0 (args .chopped-starts .now) (clear-starts2 .ensures), (cleared zeroF (args .node-boxes .now) (clear3 .ensures), (cleared 0 (args .node-marks .now) (clear-marks .ensures), cleared 0 (args .order .now) (clear-marks2 .ensures)))))))
 
 pub clear-work-spec : {M : Type 1} → statement M
 clear-work-spec =
     tie.close
     (tie.spec
-    clear-requires
-    clear-starts-requires
-    clear-requires-2
-    clear-starts-requires-2
-    clear-requires-3
-    clear-marks-requires
-    clear-marks-requires-2
-    same-length
-    same-length-2
-    same-length-3
-    same-length-4
-    same-length-5
-    same-length-6
-    same-length-7
-    returns)
+    (λ c κs. search needs) (λ c κs. search needs) (λ c κs. search needs) (λ c κs. search needs) (λ c κs. search needs) (λ c κs. search needs)
+    (λ c κs. search needs) (λ c. search needs) (λ c. search needs) (λ c. search needs) (λ c. search needs) (λ c. search needs) (λ c. search needs)
+    (λ c. search needs) returns)

@@ -2,7 +2,7 @@ use mathlib.Core.Path.{ap, _∙_}
 use borrow.Author.Needs.{needs}
 use Rattle.scene.specs.Entries.{simpleOf}
 use Rattle.host.specs.Calls.{boxNumbers}
-use Rattle.host.proofs.CallLaws.{box-is, no-box}
+use Rattle.host.proofs.Calls.{box-is, no-box}
 use Rattle.host.proofs.larnt_solid_box.Statement.{statement}
 use Rattle.host.proofs.larnt_solid_box.Tie as tie
 

@@ -1,15 +1,17 @@
 use mathlib.Core.Path.{ap, _∙_}
 use borrow.Author.Needs.{needs}
 use Rattle.scene.specs.Entries.{simpleOf}
-use Rattle.host.proofs.CallLaws.{inside-is, no-inside}
+use Rattle.host.proofs.Calls.{inside-is, no-inside}
 use Rattle.host.proofs.larnt_solid_contains.Statement.{statement}
 use Rattle.host.proofs.larnt_solid_contains.Tie as tie
 
 returns : tie.Need-returns
 returns c =
-    let s = c .before .before .before in
+    let at1 = c .before in let point = at1 .point in
+    let at2 = at1 .before in let before = at2 .before in
+    let s = before in
     let e = s .before .before in
-    inside-is _ _ _ (e .simple-of .ensures ∙ ap (simpleOf _) (e .before .sixteen .ensures)) (s .s .given .1) _ _ _ _ (c .before .point .ensures) (c .contains .ensures)
+    inside-is _ _ _ (e .simple-of .ensures ∙ ap (simpleOf _) (e .before .sixteen .ensures)) (s .s .given .1) _ _ _ _ (point .ensures) (c .contains .ensures)
 
 returns-2 : tie.Need-returns-2
 returns-2 c =

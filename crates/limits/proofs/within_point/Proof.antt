@@ -4,7 +4,12 @@ use Rattle.limits.proofs.within_point.Tie as tie
 
 returns : tie.Need-returns
 unfolding withinPoint
-returns c = simp (← c .before .before .before .before .within .ensures, c .before .before .before .if1 .taken, ← c .before .before .within2 .ensures, c .before .if2 .taken, ← c .within3 .ensures)
+returns c =
+    let at1 = c .before in let if2 = at1 .if2 in
+    let at2 = at1 .before in let within2 = at2 .within2 in
+    let at3 = at2 .before in let if1 = at3 .if1 in
+    let at4 = at3 .before in let within = at4 .within in
+    simp (← within .ensures, if1 .taken, ← within2 .ensures, if2 .taken, ← c .within3 .ensures)
 
 returns-2 : tie.Need-returns-2
 unfolding withinPoint

@@ -14,32 +14,29 @@ abbrev μ-loop : tie.MeasureT-loop
 loop-holds : tie.Need-loop-holds Inv-loop μ-loop
 loop-holds c = extending-start _ _ _ _ _ (c .before .before .pre .0) (c .before .before .pre .1) (c .before .before .pre .2)
 
-read-point-requires : tie.Need-read-point-requires Inv-loop μ-loop
-read-point-requires c κs = search needs
-
-push-requires : tie.Need-push-requires Inv-loop μ-loop
-push-requires c κs = search needs
-
-enum-known-r : tie.Need-enum-known-r Inv-loop μ-loop
-enum-known-r c = search needs
-
 same-length : tie.Need-same-length Inv-loop μ-loop
-same-length c = c .before .before .before .before .before .push .kept .0 ∙ c .before .before .before .before .before .before .before .before .before .loop .inv .same
+same-length c =
+    let at5 = c .before .before .before .before .before in let push = at5 .push in
+    let at9 = at5 .before .before .before .before in let loop = at9 .loop in
+    push .kept .0 ∙ loop .inv .same
 
 returns : tie.Need-returns Inv-loop μ-loop
-returns c = extending-refused _ _ _ _ _ _ _ _ (c .before .before .before .before .before .before .before .before .before .loop .inv) _ (c .before .before .before .before .before .before .before .before .loop-test .taken) (c .before .before .before .before .before .before .before .read-point .ensures) _ (c .before .before .before .before .before .push .ensures) (c .before .r .given .1)
-
-enum-known-r-2 : tie.Need-enum-known-r-2 Inv-loop μ-loop
-enum-known-r-2 c = search needs
-
-add-i : tie.Need-add-i Inv-loop μ-loop
-add-i c = search needs
-
-loop-less : tie.Need-loop-less Inv-loop μ-loop
-loop-less c = search needs
+returns c =
+    let at1 = c .before in let r = at1 .r in
+    let at5 = at1 .before .before .before .before in let push = at5 .push in
+    let at7 = at5 .before .before in let read-point = at7 .read-point in
+    let at8 = at7 .before in let loop-test = at8 .loop-test in
+    let at9 = at8 .before in let loop = at9 .loop in
+    extending-refused _ _ _ _ _ _ _ _ (loop .inv) _ (loop-test .taken) (read-point .ensures) _ (push .ensures) (r .given .1)
 
 loop-again : tie.Need-loop-again Inv-loop μ-loop
-loop-again c = extending-turn _ _ _ _ _ _ _ _ (c .before .before .before .before .before .before .before .before .before .loop .inv) _ (c .before .before .before .before .before .before .before .before .loop-test .taken) (c .before .before .before .before .before .before .before .read-point .ensures) _ (c .before .before .before .before .before .push .ensures) (c .before .before .before .before .before .push .kept .0) (c .before .r2 .given .1)
+loop-again c =
+    let at1 = c .before in let r2 = at1 .r2 in
+    let at5 = at1 .before .before .before .before in let push = at5 .push in
+    let at7 = at5 .before .before in let read-point = at7 .read-point in
+    let at8 = at7 .before in let loop-test = at8 .loop-test in
+    let at9 = at8 .before in let loop = at9 .loop in
+    extending-turn _ _ _ _ _ _ _ _ (loop .inv) _ (loop-test .taken) (read-point .ensures) _ (push .ensures) (push .kept .0) (r2 .given .1)
 
 same-length-2 : tie.Need-same-length-2 Inv-loop μ-loop
 same-length-2 c = c .before .loop .inv .same
@@ -51,17 +48,5 @@ pub extend-spec : {M : Type 1} → statement M
 extend-spec =
     tie.close
     (tie.spec
-    Inv-loop
-    μ-loop
-    loop-holds
-    read-point-requires
-    push-requires
-    enum-known-r
-    same-length
-    returns
-    enum-known-r-2
-    add-i
-    loop-less
-    loop-again
-    same-length-2
-    returns-2)
+    Inv-loop μ-loop loop-holds (λ c κs. search needs) (λ c κs. search needs) (λ c. search needs) same-length returns (λ c. search needs)
+    (λ c. search needs) (λ c. search needs) loop-again same-length-2 returns-2)

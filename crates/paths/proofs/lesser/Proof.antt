@@ -1,4 +1,4 @@
-use Rattle.paths.specs.Spans.{lesserOf}
+use Rattle.paths.specs.Ranges.{lesserOf}
 use borrow.Author.Tests.{lt-ltb, le-ltb}
 use Rattle.paths.proofs.lesser.Statement.{statement}
 use Rattle.paths.proofs.lesser.Tie as tie

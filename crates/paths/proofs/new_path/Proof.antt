@@ -3,18 +3,6 @@ use borrow.Author.Needs.{needs}
 use Rattle.paths.proofs.new_path.Statement.{statement}
 use Rattle.paths.proofs.new_path.Tie as tie
 
-mul-starts : tie.Need-mul-starts
-mul-starts c = search needs
-
-slice-write-starts : tie.Need-slice-write-starts
-slice-write-starts c = search needs
-
-add-t6 : tie.Need-add-t6
-add-t6 c = search needs
-
-same-length : tie.Need-same-length
-same-length c = search needs
-
 returns : tie.Need-returns
 returns c = new-at (c .before .args .starts .now) (c .before .args .m) (c .before .args .n) (c .before .pre) (c .if1 .taken)
 
@@ -23,4 +11,4 @@ returns-2 c = new-full (c .before .args .starts .now) (c .before .args .m) (c .b
 
 pub new-path-spec : {M : Type 1} → statement M
 new-path-spec =
-    tie.close (tie.spec mul-starts slice-write-starts add-t6 same-length returns returns-2)
+    tie.close (tie.spec (λ c. search needs) (λ c. search needs) (λ c. search needs) (λ c. search needs) returns returns-2)

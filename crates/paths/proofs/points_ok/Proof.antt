@@ -14,23 +14,21 @@ abbrev μ-loop : tie.MeasureT-loop
 loop-holds : tie.Need-loop-holds Inv-loop μ-loop
 loop-holds c = checking-start _
 
-read-point-requires : tie.Need-read-point-requires Inv-loop μ-loop
-read-point-requires c κs = search needs
-
-within-point-requires : tie.Need-within-point-requires Inv-loop μ-loop
-within-point-requires c κs = search needs
-
 returns : tie.Need-returns Inv-loop μ-loop
-returns c = checking-bad _ _ (c .before .before .before .before .loop .inv) (c .before .before .before .loop-test .taken) _ _ (c .before .before .read-point .ensures) (c .before .within-point .ensures) (not-true _ (c .if1 .taken))
-
-add-i : tie.Need-add-i Inv-loop μ-loop
-add-i c = search needs
-
-loop-less : tie.Need-loop-less Inv-loop μ-loop
-loop-less c = search needs
+returns c =
+    let at1 = c .before in let within-point = at1 .within-point in
+    let at2 = at1 .before in let read-point = at2 .read-point in
+    let at3 = at2 .before in let loop-test = at3 .loop-test in
+    let at4 = at3 .before in let loop = at4 .loop in
+    checking-bad _ _ (loop .inv) (loop-test .taken) _ _ (read-point .ensures) (within-point .ensures) (not-true _ (c .if1 .taken))
 
 loop-again : tie.Need-loop-again Inv-loop μ-loop
-loop-again c = checking-turn _ _ (c .before .before .before .before .loop .inv) (c .before .before .before .loop-test .taken) _ _ (c .before .before .read-point .ensures) (c .before .within-point .ensures) (not-false _ (c .if1 .left))
+loop-again c =
+    let at1 = c .before in let within-point = at1 .within-point in
+    let at2 = at1 .before in let read-point = at2 .read-point in
+    let at3 = at2 .before in let loop-test = at3 .loop-test in
+    let at4 = at3 .before in let loop = at4 .loop in
+    checking-turn _ _ (loop .inv) (loop-test .taken) _ _ (read-point .ensures) (within-point .ensures) (not-false _ (c .if1 .left))
 
 returns-2 : tie.Need-returns-2 Inv-loop μ-loop
 returns-2 c = checking-end _ _ (c .before .loop .inv) (c .loop-test .left)
@@ -39,13 +37,4 @@ pub points-ok-spec : {M : Type 1} → statement M
 points-ok-spec =
     tie.close
     (tie.spec
-    Inv-loop
-    μ-loop
-    loop-holds
-    read-point-requires
-    within-point-requires
-    returns
-    add-i
-    loop-less
-    loop-again
-    returns-2)
+    Inv-loop μ-loop loop-holds (λ c κs. search needs) (λ c κs. search needs) returns (λ c. search needs) (λ c. search needs) loop-again returns-2)

@@ -1,5 +1,5 @@
 use borrow.Author.Needs.{needs}
-use Rattle.rows.proofs.StartLaws.{end-next, end-last}
+use Rattle.rows.proofs.Starts.{end-next, end-last}
 use Rattle.rows.proofs.end_of.Statement.{statement}
 use Rattle.rows.proofs.end_of.Tie as tie
 
@@ -13,8 +13,4 @@ pub end-of-spec : {M : Type 1} → statement M
 end-of-spec =
     tie.close
     (tie.spec
-    (λ c. search needs)
-    (λ c. search needs)
-    (λ c. search needs)
-    returns
-    returns-2)
+    (λ c. search needs) (λ c. search needs) (λ c. search needs) returns returns-2)

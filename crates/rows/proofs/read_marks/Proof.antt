@@ -1,7 +1,7 @@
 use mathlib.Core.Path.{sym, ap}
 use borrow.Author.Needs.{needs}
 use Rattle.rows.specs.Entries.{marksOf}
-use Rattle.rows.proofs.RowLaws.{row-cells}
+use Rattle.rows.proofs.Rows.{row-cells}
 use Rattle.rows.proofs.read_marks.Statement.{statement}
 use Rattle.rows.proofs.read_marks.Tie as tie
 
@@ -14,8 +14,5 @@ pub read-marks-spec : {M : Type 1} → statement M
 read-marks-spec =
     tie.close
     (tie.spec
-    (λ c. search needs) (λ c. search needs) (λ c. search needs)
-    (λ c. search needs) (λ c. search needs) (λ c. search needs)
-    (λ c. search needs) (λ c. search needs) (λ c. search needs)
-    (λ c. search needs) (λ c. search needs) (λ c. search needs)
-    returns)
+    (λ c. search needs) (λ c. search needs) (λ c. search needs) (λ c. search needs) (λ c. search needs) (λ c. search needs)
+    (λ c. search needs) (λ c. search needs) (λ c. search needs) (λ c. search needs) (λ c. search needs) (λ c. search needs) returns)

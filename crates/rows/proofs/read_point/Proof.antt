@@ -2,7 +2,7 @@ use mathlib.Core.Path.{sym, ap}
 use borrow.Author.Needs.{needs}
 use lib.Ieee.{nan}
 use Rattle.rows.specs.Points.{pointOf}
-use Rattle.rows.proofs.RowLaws.{row-cells}
+use Rattle.rows.proofs.Rows.{row-cells}
 use Rattle.rows.proofs.read_point.Statement.{statement}
 use Rattle.rows.proofs.read_point.Tie as tie
 
@@ -15,7 +15,5 @@ pub read-point-spec : {M : Type 1} → statement M
 read-point-spec =
     tie.close
     (tie.spec
-    (λ c. search needs) (λ c. search needs) (λ c. search needs)
-    (λ c. search needs) (λ c. search needs) (λ c. search needs)
-    (λ c. search needs) (λ c. search needs) (λ c. search needs)
-    returns)
+    (λ c. search needs) (λ c. search needs) (λ c. search needs) (λ c. search needs) (λ c. search needs) (λ c. search needs)
+    (λ c. search needs) (λ c. search needs) (λ c. search needs) returns)

@@ -55,9 +55,12 @@ loop-less c = omega arith
 
 loop-again : tie.Need-loop-again Inv-loop μ-loop
 loop-again c =
-    let o = c .before .before .loop in
-    let m = c .before .before .before .args .m in
-    let h = c .before .loop-test .taken in
+    let at1 = c .before in let loop-test = at1 .loop-test in
+    let at2 = at1 .before in let loop = at2 .loop in
+    let at3 = at2 .before in let args = at3 .args in
+    let o = loop in
+    let m = args .m in
+    let h = loop-test .taken in
     ⊎-elim (λ u. turn-1 m (o .whole) (o .rest) (o .left) (o .i) (c .if1 .whole) (c .if1 .rest) (o .inv) h (u .1) (u .2) (u .0 .taken))
     (λ u. turn-0 m (o .whole) (o .rest) (o .left) (o .i) (c .if1 .whole) (c .if1 .rest) (o .inv) h (u .1) (u .2) (omega (arith, u .0 .left, u .1, u .2))) (c .if1 .came)
 
@@ -70,19 +73,5 @@ pub digits-spec : {M : Type 1} → statement M
 digits-spec =
     tie.close
     (tie.spec
-    Inv-loop
-    μ-loop
-    loop-holds
-    mul-rest
-    add-rest
-    mul-left
-    mul-whole
-    mul-if1
-    mul-rest-2
-    sub-rest
-    sub-rest-2
-    add-whole
-    add-i
-    loop-less
-    loop-again
+    Inv-loop μ-loop loop-holds mul-rest add-rest mul-left mul-whole mul-if1 mul-rest-2 sub-rest sub-rest-2 add-whole add-i loop-less loop-again
     returns)

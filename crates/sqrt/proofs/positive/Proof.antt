@@ -7,7 +7,7 @@ use mir.ValLaws.{toZ-ofZ}
 use lib.IntN.{pos, _-ℤ_}
 use lib.Ieee.{binary64, ofBits, odd}
 use Rattle.sqrt.specs.Floor.{FloorRoot, NearestRoot}
-use Rattle.sqrt.proofs.Patterns.{no-nan-bits, high-is}
+use Rattle.floats.proofs.Patterns.{no-nan-bits, high-is}
 use Rattle.sqrt.proofs.Values.{Doubled, doubled, small-root, root-range, whole-units, root-at, rest-at}
 use borrow.Author.Needs.{needs}
 use Rattle.sqrt.proofs.positive.Statement.{statement}
@@ -34,37 +34,21 @@ digits c =
     let d = scale (c .before .before) in
     subst (λ (r : ℕ). (2 ^ 52 ≤ r) × (r < 2 ^ 53)) (sym (answer c .root)) (root-range (S (c .before .before)) (omega arith) (omega arith))
 
-unpack-requires : tie.Need-unpack-requires
-unpack-requires c κs = search needs
-
-add-bits : tie.Need-add-bits
-add-bits c = search needs
-
-add-bits-2 : tie.Need-add-bits-2
-add-bits-2 c = search needs
-
-shl-root-of : tie.Need-shl-root-of
-shl-root-of c = search needs
-
 root-of-requires : tie.Need-root-of-requires
 root-of-requires c κs = let d = scale c in (omega arith, omega arith)
 
 rounded-requires : tie.Need-rounded-requires
 rounded-requires c κs = (small-root (S (c .before)) (c .root-of .result .whole) (c .root-of .result .rest) (S-lt (c .before)) (floor c), floor c .small)
 
-add-pattern : tie.Need-add-pattern
-add-pattern c = search needs
-
-mul-pattern : tie.Need-mul-pattern
-mul-pattern c = search needs
-
 add-pattern-2 : tie.Need-add-pattern-2
 add-pattern-2 c = let k = digits (c .before) in omega arith
 
 float-from-bits-t14 : tie.Need-float-from-bits-t14
 float-from-bits-t14 c =
+    let at1 = c .before in let rounded = at1 .rounded in
+    let at3 = at1 .before .before in let unpack = at3 .unpack in
     let k = digits (c .before) in
-    no-nan-bits ((c .before .before .before .unpack .result .g / 2 + 485) * 2 ^ 52 + c .before .rounded .result .whole) (omega arith)
+    no-nan-bits ((unpack .result .g / 2 + 485) * 2 ^ 52 + rounded .result .whole) (omega arith)
 
 returns : tie.Need-returns
 returns c′ =
@@ -87,14 +71,5 @@ pub positive-spec : {M : Type 1} → statement M
 positive-spec =
     tie.close
     (tie.spec
-    unpack-requires
-    add-bits
-    add-bits-2
-    shl-root-of
-    root-of-requires
-    rounded-requires
-    add-pattern
-    mul-pattern
-    add-pattern-2
-    float-from-bits-t14
-    returns)
+    (λ c κs. search needs) (λ c. search needs) (λ c. search needs) (λ c. search needs) root-of-requires rounded-requires (λ c. search needs)
+    (λ c. search needs) add-pattern-2 float-from-bits-t14 returns)

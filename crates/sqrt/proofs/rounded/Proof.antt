@@ -23,40 +23,26 @@ small (suc k) p h =
 fits : (c : tie.Then1) → SFits w64 (pos 0 -ℤ toZ w64 (2 * c .before .args .p .whole + 1 - c .before .args .p .rest))
 fits c = subst (λ (z : ℤ). SFits w64 (pos 0 -ℤ z)) (sym (plain c)) (small (2 * c .before .args .p .whole + 1 - c .before .args .p .rest) (omega arith) (omega arith))
 
-add-t6 : tie.Need-add-t6
-add-t6 c = search needs
-
-mul-t7 : tie.Need-mul-t7
-mul-t7 c = search needs
-
-add-t8 : tie.Need-add-t8
-add-t8 c = search needs
-
-sub-t9 : tie.Need-sub-t9
-sub-t9 c = search needs
-
-cast-t10 : tie.Need-cast-t10
-cast-t10 c = search needs
-
 sub-t11 : tie.Need-sub-t11
 sub-t11 c = fits c
 
-cast-t12 : tie.Need-cast-t12
-cast-t12 c = search needs
-
 returns : tie.Need-returns
-returns c = λ n h f.
-    let p = c .before .args .p in
+returns c =
+    let at1 = c .before in let args = at1 .args in
+    λ n h f.
+    let p = args .p in
     record {
       root = sym (nearest-up n (p .whole) (p .rest) h f (c .if1 .taken));
       left = toZ-ofZ w64 (pos 0 -ℤ toZ w64 (2 * p .whole + 1 - p .rest)) (fits c) ∙ ap (λ (z : ℤ). pos 0 -ℤ z) (plain c) ∙ rest-up n (p .whole) (p .rest) f (c .if1 .taken);
     }
 
 returns-2 : tie.Need-returns-2
-returns-2 c = λ n h f.
-    let p = c .before .args .p in
+returns-2 c =
+    let at1 = c .before in let args = at1 .args in
+    λ n h f.
+    let p = args .p in
     record { root = sym (nearest-down n (p .whole) (p .rest) h f (c .if1 .left)); left = toZ-pos w64 (p .rest) (omega arith) ∙ rest-down n (p .whole) (p .rest) f }
 
 pub rounded-spec : {M : Type 1} → statement M
 rounded-spec =
-    tie.close (tie.spec add-t6 mul-t7 add-t8 sub-t9 cast-t10 sub-t11 cast-t12 returns returns-2)
+    tie.close (tie.spec (λ c. search needs) (λ c. search needs) (λ c. search needs) (λ c. search needs) (λ c. search needs) sub-t11 (λ c. search needs) returns returns-2)

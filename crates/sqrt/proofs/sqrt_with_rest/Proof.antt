@@ -19,7 +19,8 @@ positive-requires c κs = (bits-pos (c .before .before .args .x) (held (c .befor
 
 returns : tie.Need-returns
 returns c =
-    let at-start = c .before .before .before in
+    let at2 = c .before .before in let before = at2 .before in
+    let at-start = before in
     let e = ofBits-toBits binary64 (at-start .args .x) (held at-start) in
     (c .positive .ensures .0 ∙ ap sqrtOf e, c .positive .ensures .1 ∙ ap restOf e)
 

@@ -33,15 +33,10 @@ cast-t9 c = omega (arith, low c)
 sub-t10 : tie.Need-sub-t10
 sub-t10 c = omega (arith, low c)
 
-add-t12 : tie.Need-add-t12
-add-t12 c = search needs
-
-add-t13 : tie.Need-add-t13
-add-t13 c = search needs
-
 returns : tie.Need-returns
 returns c =
-    let b = c .before .args .b in
+    let at1 = c .before in let args = at1 .args in
+    let b = args .b in
     let k = low c in
     let l = leadingZeros 64 b - 11 in
     subst (λ (m : ℕ). HasValue (ofBits binary64 b) false (m * 2 ^ (52 - l)) (2 ^ 1126) × ((2 ^ 52 ≤ m) × (m < 2 ^ 53) × (52 - l ≤ 2097))) (sym (k .same))
@@ -49,17 +44,19 @@ returns c =
 
 returns-2 : tie.Need-returns-2
 returns-2 c =
-    let b = c .before .args .b in
+    let at1 = c .before in let args = at1 .args in
+    let pre = at1 .pre in
+    let b = args .b in
     let m = b % 2 ^ 52 + 2 ^ 52 in
     let no : b / 2 ^ 52 ≡ 0 → ⊥ = c .if1 .left in
     let l : 2 ^ 52 ≤ b = omega arith in
     let e : b / 2 ^ 52 - 1 + 52 ≡ b / 2 ^ 52 + 51 = omega arith in (
       subst (λ (a : ℕ). HasValue (ofBits binary64 b) false a (2 ^ 1126))
           (mul-assoc m (2 ^ (b / 2 ^ 52 - 1)) (2 ^ 52) ∙ ap (λ (y : ℕ). m * y) (sym (pow-add 2 (b / 2 ^ 52 - 1) 52) ∙ ap (λ (y : ℕ). 2 ^ y) e))
-          (times (ofBits binary64 b) false (m * 2 ^ (b / 2 ^ 52 - 1)) (2 ^ 1074) (2 ^ 52) (field-value b l (c .before .pre .1))),
+          (times (ofBits binary64 b) false (m * 2 ^ (b / 2 ^ 52 - 1)) (2 ^ 1074) (2 ^ 52) (field-value b l (pre .1))),
       (omega arith, omega arith, omega arith),
     )
 
 pub unpack-spec : {M : Type 1} → statement M
 unpack-spec =
-    tie.close (tie.spec sub-l cast-t7 shl-t8 cast-t9 sub-t10 add-t12 add-t13 returns returns-2)
+    tie.close (tie.spec sub-l cast-t7 shl-t8 cast-t9 sub-t10 (λ c. search needs) (λ c. search needs) returns returns-2)

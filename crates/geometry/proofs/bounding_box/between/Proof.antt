@@ -1,13 +1,13 @@
-use Rattle.geometry.specs.Boxes.{between}
+use Rattle.geometry.specs.Boxes.{inRange}
 use Rattle.geometry.proofs.bounding_box.between.Statement.{statement}
 use Rattle.geometry.proofs.bounding_box.between.Tie as tie
 
 returns : tie.Need-returns
-unfolding between
+unfolding inRange
 returns c = simp (c .if1 .taken)
 
 returns-2 : tie.Need-returns-2
-unfolding between
+unfolding inRange
 returns-2 c = simp (c .if1 .left)
 
 pub between-spec : {M : Type 1} → statement M

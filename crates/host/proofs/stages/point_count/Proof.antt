@@ -1,14 +1,14 @@
-use Rattle.host.specs.StageCalls.{pointCount}
+use Rattle.host.specs.StageCalls.{pointsTold}
 use borrow.Author.Needs.{needs}
 use Rattle.host.proofs.stages.point_count.Statement.{statement}
 use Rattle.host.proofs.stages.point_count.Tie as tie
 
 returns : tie.Need-returns
-unfolding pointCount
+unfolding pointsTold
 returns c = rw (c .before .c .given .1)
 
 returns-2 : tie.Need-returns-2
-unfolding pointCount
+unfolding pointsTold
 returns-2 c = rw (c .enum-told .given .1)
 
 pub point-count-spec : {M : Type 1} → statement M

@@ -4,7 +4,12 @@ use Rattle.matrix.proofs.Matrix.mul_ray.Tie as tie
 
 returns : tie.Need-returns
 unfolding mulRay
-returns c = simp (← c .before .before .before .before .mul-vector .ensures, ← c .before .before .before .norm .ensures, ← c .before .before .mul-position .ensures, ← c .before .div-scalar .ensures, ← c .new .ensures)
+returns c =
+    let at1 = c .before in let div-scalar = at1 .div-scalar in
+    let at2 = at1 .before in let mul-position = at2 .mul-position in
+    let at3 = at2 .before in let norm = at3 .norm in
+    let at4 = at3 .before in let mul-vector = at4 .mul-vector in
+    simp (← mul-vector .ensures, ← norm .ensures, ← mul-position .ensures, ← div-scalar .ensures, ← c .new .ensures)
 
 pub mul-ray-spec : {M : Type 1} → statement M
 mul-ray-spec = tie.close (tie.spec (λ c κs. tt) (λ c κs. tt) (λ c κs. tt) (λ c κs. tt) (λ c κs. tt) returns)

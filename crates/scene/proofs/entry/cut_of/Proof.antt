@@ -10,7 +10,10 @@ returns c = simp (eq-eqb _ _ (c .before .before .if1 .taken))
 
 returns-2 : tie.Need-returns-2
 unfolding cutOf
-returns-2 c = simp (ne-eqb _ _ (c .before .before .before .before .if1 .left), eq-eqb _ _ (c .before .before .if2 .taken))
+returns-2 c =
+    let at2 = c .before .before in let if2 = at2 .if2 in
+    let at4 = at2 .before .before in let if1 = at4 .if1 in
+    simp (ne-eqb _ _ (if1 .left), eq-eqb _ _ (if2 .taken))
 
 returns-3 : tie.Need-returns-3
 unfolding cutOf

@@ -6,7 +6,14 @@ use Rattle.scene.proofs.entry.entry_at.Tie as tie
 
 returns : tie.Need-returns
 unfolding entryAt
-returns c = simp (lt-ltb _ _ (c .before .before .before .before .before .before .if1 .taken), lt-ltb _ _ (c .before .before .before .before .before .if2 .taken), lt-ltb _ _ (c .before .before .before .before .if3 .taken), ← c .before .before .before .read-marks .ensures, ← c .before .before .read-numbers .ensures, ← c .before .read-numbers2 .ensures, ← c .entry-of .ensures)
+returns c =
+    let at1 = c .before in let read-numbers2 = at1 .read-numbers2 in
+    let at2 = at1 .before in let read-numbers = at2 .read-numbers in
+    let at3 = at2 .before in let read-marks = at3 .read-marks in
+    let at4 = at3 .before in let if3 = at4 .if3 in
+    let at5 = at4 .before in let if2 = at5 .if2 in
+    let at6 = at5 .before in let if1 = at6 .if1 in
+    simp (lt-ltb _ _ (if1 .taken), lt-ltb _ _ (if2 .taken), lt-ltb _ _ (if3 .taken), ← read-marks .ensures, ← read-numbers .ensures, ← read-numbers2 .ensures, ← c .entry-of .ensures)
 
 returns-2 : tie.Need-returns-2
 unfolding entryAt

@@ -17,15 +17,36 @@ returns-3 c = simp (← c .before .before .before .new .ensures, ne-eqb _ _ (c .
 
 returns-4 : tie.Need-returns-4
 unfolding simpleOf
-returns-4 c = simp (← c .before .before .before .before .before .new .ensures, ne-eqb _ _ (c .before .before .before .before .if1 .left), ne-eqb _ _ (c .before .before .before .if2 .left), ne-eqb _ _ (c .before .before .if3 .left), ← c .before .new2 .ensures, eq-eqb _ _ (c .if4 .taken))
+returns-4 c =
+    let at1 = c .before in let new2 = at1 .new2 in
+    let at2 = at1 .before in let if3 = at2 .if3 in
+    let at3 = at2 .before in let if2 = at3 .if2 in
+    let at4 = at3 .before in let if1 = at4 .if1 in
+    let at5 = at4 .before in let new = at5 .new in
+    simp (← new .ensures, ne-eqb _ _ (if1 .left), ne-eqb _ _ (if2 .left), ne-eqb _ _ (if3 .left), ← new2 .ensures, eq-eqb _ _ (c .if4 .taken))
 
 returns-5 : tie.Need-returns-5
 unfolding simpleOf
-returns-5 c = simp (← c .before .before .before .before .before .before .before .new .ensures, ne-eqb _ _ (c .before .before .before .before .before .before .if1 .left), ne-eqb _ _ (c .before .before .before .before .before .if2 .left), ne-eqb _ _ (c .before .before .before .before .if3 .left), ← c .before .before .before .new2 .ensures, ne-eqb _ _ (c .before .before .if4 .left), eq-eqb _ _ (c .before .if5 .taken), ← c .new3 .ensures)
+returns-5 c =
+    let at1 = c .before in let if5 = at1 .if5 in
+    let at2 = at1 .before in let if4 = at2 .if4 in
+    let at3 = at2 .before in let new2 = at3 .new2 in
+    let at4 = at3 .before in let if3 = at4 .if3 in
+    let at5 = at4 .before in let if2 = at5 .if2 in
+    let at6 = at5 .before in let if1 = at6 .if1 in
+    let at7 = at6 .before in let new = at7 .new in
+    simp (← new .ensures, ne-eqb _ _ (if1 .left), ne-eqb _ _ (if2 .left), ne-eqb _ _ (if3 .left), ← new2 .ensures, ne-eqb _ _ (if4 .left), eq-eqb _ _ (if5 .taken), ← c .new3 .ensures)
 
 returns-6 : tie.Need-returns-6
 unfolding simpleOf
-returns-6 c = simp (← c .before .before .before .before .before .before .new .ensures, ne-eqb _ _ (c .before .before .before .before .before .if1 .left), ne-eqb _ _ (c .before .before .before .before .if2 .left), ne-eqb _ _ (c .before .before .before .if3 .left), ← c .before .before .new2 .ensures, ne-eqb _ _ (c .before .if4 .left), ne-eqb _ _ (c .if5 .left))
+returns-6 c =
+    let at1 = c .before in let if4 = at1 .if4 in
+    let at2 = at1 .before in let new2 = at2 .new2 in
+    let at3 = at2 .before in let if3 = at3 .if3 in
+    let at4 = at3 .before in let if2 = at4 .if2 in
+    let at5 = at4 .before in let if1 = at5 .if1 in
+    let at6 = at5 .before in let new = at6 .new in
+    simp (← new .ensures, ne-eqb _ _ (if1 .left), ne-eqb _ _ (if2 .left), ne-eqb _ _ (if3 .left), ← new2 .ensures, ne-eqb _ _ (if4 .left), ne-eqb _ _ (c .if5 .left))
 
 pub simple-of-spec : {M : Type 1} → statement M
 simple-of-spec = tie.close (tie.spec (λ c κs. tt) returns returns-2 returns-3 (λ c κs. tt) returns-4 (λ c κs. tt) returns-5 returns-6)

@@ -4,7 +4,11 @@ use Rattle.solids.proofs.cone.on_cone.Tie as tie
 
 returns : tie.Need-returns
 unfolding onCone
-returns c = simp (c .before .before .before .before .if1 .taken, ← c .before .before .before .position .ensures, c .before .if2 .taken)
+returns c =
+    let at1 = c .before in let if2 = at1 .if2 in
+    let at3 = at1 .before .before in let position = at3 .position in
+    let at4 = at3 .before in let if1 = at4 .if1 in
+    simp (if1 .taken, ← position .ensures, if2 .taken)
 
 returns-2 : tie.Need-returns-2
 unfolding onCone

@@ -1,17 +1,17 @@
-use Rattle.solids.specs.Roots.{firstOf}
+use Rattle.solids.specs.Roots.{firstHit}
 use Rattle.solids.proofs.roots.first.Statement.{statement}
 use Rattle.solids.proofs.roots.first.Tie as tie
 
 returns : tie.Need-returns
-unfolding firstOf
+unfolding firstHit
 returns c = simp (c .before .if1 .taken, ← c .new .ensures)
 
 returns-2 : tie.Need-returns-2
-unfolding firstOf
+unfolding firstHit
 returns-2 c = simp (c .before .before .if1 .left, c .before .if2 .taken, ← c .new2 .ensures)
 
 returns-3 : tie.Need-returns-3
-unfolding firstOf
+unfolding firstHit
 returns-3 c = simp (c .before .before .if1 .left, c .before .if2 .left, ← c .no-hit .ensures)
 
 pub first-spec : {M : Type 1} → statement M

@@ -1,9 +1,9 @@
-use Rattle.geometry.specs.Boxes.{extend}
+use Rattle.geometry.specs.Boxes.{extendBox}
 use Rattle.geometry.proofs.bounding_box.BBox.extend.Statement.{statement}
 use Rattle.geometry.proofs.bounding_box.BBox.extend.Tie as tie
 
 returns : tie.Need-returns
-unfolding extend
+unfolding extendBox
 returns c = simp (← c .before .min .ensures, ← c .max .ensures)
 
 pub extend-spec : {M : Type 1} → statement M

@@ -1,6 +1,0 @@
-pub mod Reading
-pub mod Filling
-pub mod BoxLaws
-pub mod PlacingLaws
-pub mod CheckLaws
-pub mod Left

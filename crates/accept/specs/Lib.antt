@@ -1,4 +1,0 @@
-pub mod Placings
-pub mod Extents
-pub mod Checks
-pub mod Held

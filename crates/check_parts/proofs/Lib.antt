@@ -1,0 +1,4 @@
+pub mod Parts
+pub mod Owners
+pub mod Drawn
+pub mod Depths

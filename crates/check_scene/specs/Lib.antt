@@ -1,0 +1,4 @@
+pub mod Placings
+pub mod Extents
+pub mod Checks
+pub mod Stored

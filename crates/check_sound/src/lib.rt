@@ -1,0 +1,1 @@
+// What an accepted scene has: statements in specs/, proofs in proofs/.

@@ -1,0 +1,215 @@
+// The filter of a draw (filter.rs, and its loops of path.rs): the clip box, and then the eye test.
+ghost use mathlib.Core.Path.{_≡_};
+ghost use Prim.Native.Nat.{_*_, _≤_};
+ghost use lib.ListN.{length};
+ghost use lib.Seq.{slice};
+ghost use Rattle.paths.specs.Ends.{places, allPoints, held, EndsBoth};
+ghost use Rattle.path_filter.specs.Filter.{filteredFrom, pathFilter};
+ghost use Rattle.draw_clip.specs.Clip.{bySight, clipFilter, clipPaths, seenFrom};
+use geometry::bounding_box::BBox;
+use geometry::vector::Vector;
+use matrix::Matrix;
+use path_filter::Test;
+use paths::Count;
+use paths::Counts;
+use refusals::Refusal;
+use tree_sight::Sight;
+
+fn by_sight(w: Vector, s: Sight) -> Test
+    ensures { λ r. ⌜ r ≡ bySight w s ⌝ }
+{
+    match s {
+        Sight::Visible => Test::Keep(w),
+        Sight::Hidden => Test::Drop,
+        Sight::Refused(k) => Test::Refused(k),
+    }
+}
+
+// What becomes of a point: the clip box first, then number 9 and the eye test in world coordinates.
+pub fn clip_filter(
+    matrix: Matrix,
+    eye: Vector,
+    numbers: &[f64],
+    inverses: &[f64],
+    marks: &[u32],
+    node_boxes: &[f64],
+    node_marks: &[u32],
+    order: &[u32],
+    v: Vector,
+) -> Test
+    ensures { λ r. ⌜ r ≡ clipFilter matrix (seenFrom (now (numbers .entry)) (now (inverses .entry)) (now (marks .entry)) (now («node_boxes» .entry)) (now («node_marks» .entry)) (now (order .entry)) eye) v ⌝ }
+{
+    let w = matrix.mul_position_w(v);
+    if !BBox::clips(w) {
+        return Test::Drop;
+    }
+    if !limits::within_point(v) {
+        return Test::Refused(Refusal::Point);
+    }
+    let s = tree_sight::visible(
+        numbers,
+        inverses,
+        marks,
+        node_boxes,
+        node_marks,
+        order,
+        eye,
+        v,
+    );
+    by_sight(w, s)
+}
+
+// Each point of a path from `from` up to `end`, after n points and m starts.
+fn filter_from(
+    matrix: Matrix,
+    eye: Vector,
+    numbers: &[f64],
+    inverses: &[f64],
+    marks: &[u32],
+    node_boxes: &[f64],
+    node_marks: &[u32],
+    order: &[u32],
+    path: &[f64],
+    from: usize,
+    end: usize,
+    out: &mut [f64],
+    begins: &mut [usize],
+    n: usize,
+    m: usize,
+) -> Counts
+    requires { ⌜ (from ≤ end) × (end * 3 ≤ length (now path)) × (n * 3 ≤ length (now out)) × (m ≤ length (now begins)) ⌝ }
+    ensures { λ r. ⌜ EndsBoth (filteredFrom (clipFilter matrix (seenFrom (now (numbers .entry)) (now (inverses .entry)) (now (marks .entry)) (now («node_boxes» .entry)) (now («node_marks» .entry)) (now (order .entry)) eye)) (places (now (out .entry))) (length (now (begins .entry))) (slice from end (allPoints (now (path .entry)))) (held n (now (out .entry)) m (now (begins .entry)))) (now (out .exit)) (now (begins .exit)) r ⌝ }
+{
+    let mut i = from;
+    let mut a = n;
+    let mut b = m;
+    while i < end {
+        let v = rows::read_point(path, i);
+        let t = clip_filter(
+            matrix,
+            eye,
+            numbers,
+            inverses,
+            marks,
+            node_boxes,
+            node_marks,
+            order,
+            v,
+        );
+        let r = path_filter::step(t, out, begins, a, b);
+        match r {
+            Counts::Refused(k) => return Counts::Refused(k),
+            Counts::Both(p, q) => {
+                a = p;
+                b = q;
+            }
+        }
+        i += 1;
+    }
+    Counts::Both(a, b)
+}
+
+// A path is opened and filtered, and the last path opened is closed.
+fn path_filter(
+    matrix: Matrix,
+    eye: Vector,
+    numbers: &[f64],
+    inverses: &[f64],
+    marks: &[u32],
+    node_boxes: &[f64],
+    node_marks: &[u32],
+    order: &[u32],
+    path: &[f64],
+    from: usize,
+    end: usize,
+    out: &mut [f64],
+    begins: &mut [usize],
+    n: usize,
+    m: usize,
+) -> Counts
+    requires { ⌜ (from ≤ end) × (end * 3 ≤ length (now path)) × (n * 3 ≤ length (now out)) × (m ≤ length (now begins)) ⌝ }
+    ensures { λ r. ⌜ EndsBoth (pathFilter (clipFilter matrix (seenFrom (now (numbers .entry)) (now (inverses .entry)) (now (marks .entry)) (now («node_boxes» .entry)) (now («node_marks» .entry)) (now (order .entry)) eye)) (places (now (out .entry))) (length (now (begins .entry))) (slice from end (allPoints (now (path .entry)))) (held n (now (out .entry)) m (now (begins .entry)))) (now (out .exit)) (now (begins .exit)) r ⌝ }
+{
+    let o = paths::new_path(begins, m, n);
+    match o {
+        Count::Refused(k) => Counts::Refused(k),
+        Count::At(q) => {
+            let r = filter_from(
+                matrix,
+                eye,
+                numbers,
+                inverses,
+                marks,
+                node_boxes,
+                node_marks,
+                order,
+                path,
+                from,
+                end,
+                out,
+                begins,
+                n,
+                q,
+            );
+            match r {
+                Counts::Refused(k) => Counts::Refused(k),
+                Counts::Both(a, b) => {
+                    let z = paths::close(begins, b, a);
+                    Counts::Both(a, z)
+                }
+            }
+        }
+    }
+}
+
+// Each path in turn, from the first places of `out` and `begins` on.
+pub fn filter_paths(
+    matrix: Matrix,
+    eye: Vector,
+    numbers: &[f64],
+    inverses: &[f64],
+    marks: &[u32],
+    node_boxes: &[f64],
+    node_marks: &[u32],
+    order: &[u32],
+    path: &[f64],
+    starts: &[usize],
+    out: &mut [f64],
+    begins: &mut [usize],
+) -> Counts
+    ensures { λ r. ⌜ EndsBoth (clipPaths matrix (seenFrom (now (numbers .entry)) (now (inverses .entry)) (now (marks .entry)) (now («node_boxes» .entry)) (now («node_marks» .entry)) (now (order .entry)) eye) (allPoints (now (path .entry))) (now (starts .entry)) (places (now (out .entry))) (length (now (begins .entry)))) (now (out .exit)) (now (begins .exit)) r ⌝ }
+{
+    let total = path.len() / 3;
+    let mut n = 0;
+    let mut m = 0;
+    let mut i = 0;
+    while i < starts.len() {
+        let p = paths::range_of(starts, i, total);
+        let r = path_filter(
+            matrix,
+            eye,
+            numbers,
+            inverses,
+            marks,
+            node_boxes,
+            node_marks,
+            order,
+            path,
+            p.from,
+            p.end,
+            out,
+            begins,
+            n,
+            m,
+        );
+        match r {
+            Counts::Refused(k) => return Counts::Refused(k),
+            Counts::Both(a, b) => {
+                n = a;
+                m = b;
+            }
+        }
+        i += 1;
+    }
+    Counts::Both(n, m)
+}

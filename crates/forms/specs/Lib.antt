@@ -1,5 +1,0 @@
--- The text of `yard` as a view and a scene.
-pub mod Texts
-pub mod Answers
-pub mod Held
-pub mod Sample

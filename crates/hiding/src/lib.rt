@@ -1,1 +1,0 @@
-// Demand 3 on hiding: definitions and theorems alone (specs/).

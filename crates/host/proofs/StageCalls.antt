@@ -1,0 +1,31 @@
+-- What the calls on paths answer, from what the proved functions gave. Assumes nothing.
+use mathlib.Core.Path.{_≡_, ap, _∙_, subst}
+use mathlib.Core.List.{List}
+use Prim.Native.Nat.{ℕ}
+use lib.Ieee.{Float}
+use Rattle.paths.specs.Answers.{Answer}
+use Rattle.paths.specs.Paths.{Paths}
+use Rattle.paths.specs.Ends.{Finished}
+use Rattle.paths.specs.declared.Counts.{Counts}
+use Rattle.view.specs.declared.View.{View}
+use Rattle.path_chop.specs.Chop.{chopCall}
+use Rattle.scene.specs.Scenes.{Scene}
+use Rattle.draw_render.specs.Render.{Places}
+use Rattle.draw.specs.Draw.{drawOf}
+use Rattle.host.specs.StageCalls.{countsNumber, pointsTold, pathsTold, PathsTold}
+
+pub finished-so : (a : Answer Paths) (x y : ℕ) {xs : List Float} {ss : List ℕ} {c : Counts} {number n m : ℕ}
+    → Finished a x y xs ss c → number ≡ countsNumber c → n ≡ pointsTold c → m ≡ pathsTold c → PathsTold a x y number xs ss n m
+finished-so a x y f k n m = (k ∙ ap countsNumber (f .answer), (f .points-laid, (f .starts-laid, (n ∙ ap pointsTold (f .answer), m ∙ ap pathsTold (f .answer)))))
+
+-- the view is what the array holds
+pub view-so : {v w : View} (ps : List Float) (ss : List ℕ) (room startRoom x y : ℕ) {xs : List Float} {us : List ℕ} {c : Counts}
+    → v ≡ w → Finished (chopCall v ps ss room startRoom) x y xs us c → Finished (chopCall w ps ss room startRoom) x y xs us c
+view-so ps ss room startRoom x y {xs} {us} {c} e f = subst (λ (v : View). Finished (chopCall v ps ss room startRoom) x y xs us c) e f
+
+-- a draw: the answer, and then the work slices
+pub draw-so : {A : Type 0} {v w : View} (s : Scene) (p : Places) (x y : ℕ) {xs : List Float} {ss : List ℕ} {c : Counts} {number n m : ℕ}
+    → v ≡ w → Finished (drawOf s v p) x y xs ss c → number ≡ countsNumber c → n ≡ pointsTold c → m ≡ pathsTold c → A
+    → PathsTold (drawOf s w p) x y number xs ss n m × A
+draw-so {w = w} s p x y {xs} {ss} {c} e f k n m a =
+    (finished-so (drawOf s w p) x y (subst (λ (v : View). Finished (drawOf s v p) x y xs ss c) e f) k n m, a)

@@ -1,3 +1,0 @@
-pub mod EntryLaws
-pub mod FormLaws
-pub mod Depth

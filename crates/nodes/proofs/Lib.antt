@@ -1,2 +1,0 @@
-pub mod MemberLaws
-pub mod NodeLaws

@@ -1,4 +1,0 @@
-pub mod PartLaws
-pub mod OwnerLaws
-pub mod DrawnLaws
-pub mod Depths

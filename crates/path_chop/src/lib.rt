@@ -1,0 +1,277 @@
+// The adaptive chop: segments are halved until they are short on the sheet or off it.
+ghost use mathlib.Core.Path.{_≡_};
+ghost use Prim.Native.Nat.{_*_, _≤_};
+ghost use lib.ListN.{length};
+ghost use lib.Seq.{slice};
+ghost use Rattle.rows.specs.Points.{points};
+ghost use Rattle.paths.specs.Paths.{onePath};
+ghost use Rattle.paths.specs.Ends.{places, allPoints, Ends, held, EndsBoth, Finished};
+ghost use Rattle.path_chop.specs.Chop as Chop;
+use geometry::vector::Vector;
+use matrix::Matrix;
+use paths::Count;
+use paths::Counts;
+use paths::Judgement;
+use refusals::Refusal;
+use view::RenderArgs;
+use view::View;
+
+// What the stop rule looks at: the matrix to the sheet, its width and height, and the step squared.
+struct Screen {
+    matrix: Matrix,
+    width: f64,
+    height: f64,
+    square: f64,
+}
+
+// A point, and where it is seen on the sheet.
+struct Spot {
+    at: Vector,
+    seen: Vector,
+}
+
+fn screen_of(a: RenderArgs) -> Screen
+    ensures { λ r. ⌜ r ≡ Chop.screenOf a ⌝ }
+{
+    let matrix = a.screen;
+    Screen {
+        matrix,
+        width: a.width,
+        height: a.height,
+        square: a.step * a.step,
+    }
+}
+
+fn spot_of(s: Screen, v: Vector) -> Spot
+    ensures { λ r. ⌜ r ≡ Chop.spotOf s v ⌝ }
+{
+    let m = s.matrix;
+    Spot {
+        at: v,
+        seen: m.mul_position_w(v),
+    }
+}
+
+fn middle(s: Screen, a: Spot, b: Spot) -> Spot
+    ensures { λ r. ⌜ r ≡ Chop.middleOf s a b ⌝ }
+{
+    let p = a.at;
+    let q = b.at;
+    spot_of(s, p.add(q).mul_scalar(0.5))
+}
+
+fn both_below(x: f64, y: f64) -> bool
+    ensures { λ r. ⌜ r ≡ Chop.bothBelow x y ⌝ }
+{
+    x < 0.0 && y < 0.0
+}
+
+fn both_beyond(limit: f64, x: f64, y: f64) -> bool
+    ensures { λ r. ⌜ r ≡ Chop.bothBeyond limit x y ⌝ }
+{
+    x > limit && y > limit
+}
+
+// Both ends are seen off the same side of the sheet.
+fn off_sheet(s: Screen, a: Vector, b: Vector) -> bool
+    ensures { λ r. ⌜ r ≡ Chop.offSheet s a b ⌝ }
+{
+    if both_below(a.x, b.x) {
+        return true;
+    }
+    if both_below(a.y, b.y) {
+        return true;
+    }
+    if both_beyond(s.width, a.x, b.x) {
+        return true;
+    }
+    both_beyond(s.height, a.y, b.y)
+}
+
+// Whether a segment is not halved.
+fn stops(s: Screen, a: Spot, b: Spot) -> bool
+    ensures { λ r. ⌜ r ≡ Chop.stops s a b ⌝ }
+{
+    let c = a.seen;
+    let d = b.seen;
+    if off_sheet(s, c, d) {
+        return true;
+    }
+    if c.distance_squared(d) < s.square {
+        return true;
+    }
+    let p = a.at;
+    let q = b.at;
+    p.distance_squared(q) < Vector::EPS
+}
+
+// The ends of the pieces of a segment go after the first n points; `depth` nested halvings are left.
+// The first half is chopped by a call, the second by the next turn.
+fn recursive_subdivide(
+    s: Screen,
+    a: Spot,
+    b: Spot,
+    depth: usize,
+    out: &mut [f64],
+    n: usize,
+) -> Count
+    requires { ⌜ n * 3 ≤ length (now out) ⌝ }
+    ensures { λ r. ⌜ Ends (Chop.subdivide s (places (now (out .entry))) depth a b (points n (now (out .entry)))) (now (out .exit)) r ⌝ }
+{
+    let mut from = a;
+    let mut left = depth;
+    let mut m = n;
+    while !stops(s, from, b) {
+        if left == 0 {
+            return Count::Refused(Refusal::Halvings);
+        }
+        left -= 1;
+        let mid = middle(s, from, b);
+        let r = recursive_subdivide(s, from, mid, left, out, m);
+        match r {
+            Count::Refused(k) => return Count::Refused(k),
+            Count::At(q) => {
+                m = q;
+            }
+        }
+        from = mid;
+    }
+    let p = b.at;
+    paths::push(out, m, p)
+}
+
+// The segments that lead to the points from `from` up to `end`, from the spot before them.
+fn chop_from(
+    s: Screen,
+    path: &[f64],
+    first: Spot,
+    from: usize,
+    end: usize,
+    out: &mut [f64],
+    n: usize,
+) -> Count
+    requires { ⌜ (from ≤ end) × (end * 3 ≤ length (now path)) × (n * 3 ≤ length (now out)) ⌝ }
+    ensures { λ r. ⌜ Ends (Chop.chopFrom s (places (now (out .entry))) first (slice from end (allPoints (now (path .entry)))) (points n (now (out .entry)))) (now (out .exit)) r ⌝ }
+{
+    let mut a = first;
+    let mut i = from;
+    let mut m = n;
+    while i < end {
+        let v = rows::read_point(path, i);
+        let b = spot_of(s, v);
+        let r = recursive_subdivide(s, a, b, 40, out, m);
+        match r {
+            Count::Refused(k) => return Count::Refused(k),
+            Count::At(q) => {
+                m = q;
+            }
+        }
+        a = b;
+        i += 1;
+    }
+    Count::At(m)
+}
+
+fn path_chop_adaptive(
+    s: Screen,
+    path: &[f64],
+    from: usize,
+    end: usize,
+    out: &mut [f64],
+    n: usize,
+) -> Count
+    requires { ⌜ (from ≤ end) × (end * 3 ≤ length (now path)) × (n * 3 ≤ length (now out)) ⌝ }
+    ensures { λ r. ⌜ Ends (Chop.pathChop s (places (now (out .entry))) (slice from end (allPoints (now (path .entry)))) (points n (now (out .entry)))) (now (out .exit)) r ⌝ }
+{
+    if end <= from {
+        return Count::At(n);
+    }
+    let v = rows::read_point(path, from);
+    let a = spot_of(s, v);
+    let r = paths::push(out, n, v);
+    match r {
+        Count::Refused(k) => Count::Refused(k),
+        Count::At(q) => chop_from(s, path, a, from + 1, end, out, q),
+    }
+}
+
+// A path is opened, chopped and closed.
+fn one_path(
+    s: Screen,
+    path: &[f64],
+    from: usize,
+    end: usize,
+    out: &mut [f64],
+    begins: &mut [usize],
+    n: usize,
+    m: usize,
+) -> Counts
+    requires { ⌜ (from ≤ end) × (end * 3 ≤ length (now path)) × (n * 3 ≤ length (now out)) × (m ≤ length (now begins)) ⌝ }
+    ensures { λ r. ⌜ EndsBoth (onePath (Chop.pathChop s) (places (now (out .entry))) (length (now (begins .entry))) (slice from end (allPoints (now (path .entry)))) (held n (now (out .entry)) m (now (begins .entry)))) (now (out .exit)) (now (begins .exit)) r ⌝ }
+{
+    let o = paths::new_path(begins, m, n);
+    match o {
+        Count::Refused(k) => Counts::Refused(k),
+        Count::At(q) => {
+            let r = path_chop_adaptive(s, path, from, end, out, n);
+            match r {
+                Count::Refused(k) => Counts::Refused(k),
+                Count::At(l) => {
+                    let z = paths::close(begins, q, l);
+                    Counts::Both(l, z)
+                }
+            }
+        }
+    }
+}
+
+// Each path in turn, from the first places of `out` and `begins` on.
+pub fn chop_paths(
+    args: RenderArgs,
+    path: &[f64],
+    starts: &[usize],
+    out: &mut [f64],
+    begins: &mut [usize],
+) -> Counts
+    ensures { λ r. ⌜ EndsBoth (Chop.chopPaths args (allPoints (now (path .entry))) (now (starts .entry)) (places (now (out .entry))) (length (now (begins .entry)))) (now (out .exit)) (now (begins .exit)) r ⌝ }
+{
+    let s = screen_of(args);
+    let total = path.len() / 3;
+    let mut n = 0;
+    let mut m = 0;
+    let mut i = 0;
+    while i < starts.len() {
+        let p = paths::range_of(starts, i, total);
+        let r = one_path(s, path, p.from, p.end, out, begins, n, m);
+        match r {
+            Counts::Refused(k) => return Counts::Refused(k),
+            Counts::Both(a, b) => {
+                n = a;
+                m = b;
+            }
+        }
+        i += 1;
+    }
+    Counts::Both(n, m)
+}
+
+// The paths chopped for a view, in `out` and `begins`, and then zeros; or why it is refused, and zeros
+// throughout.
+pub fn chop_adaptive(
+    view: View,
+    path: &[f64],
+    starts: &[usize],
+    out: &mut [f64],
+    begins: &mut [usize],
+) -> Counts
+    ensures { λ r. ⌜ Finished (Chop.chopCall view (now (path .entry)) (now (starts .entry)) (places (now (out .entry))) (length (now (begins .entry)))) (length (now (out .entry))) (length (now (begins .entry))) (now (out .exit)) (now (begins .exit)) r ⌝ }
+{
+    let v = paths::judge(path, starts, view.is_ok());
+    match v {
+        Judgement::Refused(k) => paths::finish(out, begins, Counts::Refused(k)),
+        Judgement::Fine => {
+            let r = chop_paths(view.args(), path, starts, out, begins);
+            paths::finish(out, begins, r)
+        }
+    }
+}

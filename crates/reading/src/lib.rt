@@ -1,1 +1,0 @@
-// What is known of the solids that a scene's slices are read as: theorems, in specs/.

@@ -1,0 +1,40 @@
+// Why a call is refused: document 01's numbers 2 to 13, by what each says.
+ghost use mathlib.Core.Path.{_≡_};
+ghost use Rattle.refusals.specs.Refusals.{numberOf};
+
+pub enum Refusal {
+    Lengths,
+    Values,
+    Parts,
+    Measures,
+    Placing,
+    Extent,
+    View,
+    Point,
+    Halvings,
+    Restarts,
+    Waiting,
+    Room,
+}
+
+impl Refusal {
+    // Document 01's number.
+    pub fn number(self) -> u32
+        ensures { λ n. ⌜ n ≡ numberOf self ⌝ }
+    {
+        match self {
+            Refusal::Lengths => 2,
+            Refusal::Values => 3,
+            Refusal::Parts => 4,
+            Refusal::Measures => 5,
+            Refusal::Placing => 6,
+            Refusal::Extent => 7,
+            Refusal::View => 8,
+            Refusal::Point => 9,
+            Refusal::Halvings => 10,
+            Refusal::Restarts => 11,
+            Refusal::Waiting => 12,
+            Refusal::Room => 13,
+        }
+    }
+}

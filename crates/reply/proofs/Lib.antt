@@ -1,5 +1,0 @@
--- Laws of the answer to a text.
-pub mod Left
-pub mod Replies
-pub mod Showing
-pub mod Fitting

@@ -1,0 +1,171 @@
+use Rattle.scene_shape.proofs.Shapes.{decode-as, and-then, and-not}
+use Rattle.scene_shape.specs.Shapes.{read, shapeOf, shapeContains}
+use Rattle.scene_shape.specs.Cuts.{cutContains}
+use native.Mathlib.Omega.{arith}
+use mathlib.Core.Bool.{not}
+use mathlib.Core.Path.{ap}
+use borrow.Author.Needs.{needs}
+use Prim.Native.Nat.{ℕ, _<_, _+_, _*_}
+use borrow.Fn.Kinds.{In}
+use borrow.Fn.PlainCycle.{Measures, is, falls, and}
+use Rattle.scene_shape.proofs.cut_contains.Reads as cut-contains
+use Rattle.scene_shape.proofs.cut_contains.Kinds as cut-contains-kinds
+use Rattle.scene_shape.proofs.+cut_contains+entry_contains.Lts-cut_contains as cut-contains-lts
+use Rattle.scene_shape.proofs.entry_contains.Reads as entry-contains
+use Rattle.scene_shape.proofs.entry_contains.Kinds as entry-contains-kinds
+use Rattle.scene_shape.proofs.+cut_contains+entry_contains.Lts-entry_contains as entry-contains-lts
+use Rattle.scene_shape.proofs.+cut_contains+entry_contains.{statement}
+use Rattle.solids.proofs.solid.Solid.contains.Reads as contains-reads
+use Rattle.scene.proofs.entry.entry_at.Reads as entry-at-reads
+use Rattle.matrix.proofs.Matrix.mul_position.Reads as mul-position-reads
+use Rattle.scene_shape.proofs.+cut_contains+entry_contains.Tie.{close}
+
+abbrev μ-cut-contains : Measures 3 cut-contains-kinds.ps ℕ
+μ-cut-contains κs a = 2 * a .1 .1 .1 .1 .1 .1 .1 .0 + 1
+
+abbrev μ-entry-contains : Measures 3 entry-contains-kinds.ps ℕ
+μ-entry-contains κs a = 2 * a .1 .1 .1 .1 .1 .1 .0
+
+abbrev cut-contains-at : ℕ → In 3 cut-contains-kinds.ps
+cut-contains-at t =
+    and 3 cut-contains-kinds.ps (is 3 cut-contains-kinds.ps μ-cut-contains t) cut-contains.Pre
+
+abbrev cut-contains-below : ℕ → In 3 cut-contains-kinds.ps
+cut-contains-below t =
+    and
+    3
+    cut-contains-kinds.ps
+    (falls 3 cut-contains-kinds.ps _<_ μ-cut-contains t)
+    cut-contains.Pre
+
+abbrev entry-contains-at : ℕ → In 3 entry-contains-kinds.ps
+entry-contains-at t =
+    and
+    3
+    entry-contains-kinds.ps
+    (is 3 entry-contains-kinds.ps μ-entry-contains t)
+    entry-contains.Pre
+
+abbrev entry-contains-below : ℕ → In 3 entry-contains-kinds.ps
+entry-contains-below t =
+    and
+    3
+    entry-contains-kinds.ps
+    (falls 3 entry-contains-kinds.ps _<_ μ-entry-contains t)
+    entry-contains.Pre
+
+abbrev cut-contains-claims : ℕ → cut-contains-lts.Claims
+cut-contains-claims t = (entry-contains-below t, entry-contains.Post)
+
+abbrev entry-contains-claims : ℕ → entry-contains-lts.Claims
+entry-contains-claims t = (entry-at-reads.Asked, entry-at-reads.Learnt, contains-reads.Asked, contains-reads.Learnt, mul-position-reads.Asked, mul-position-reads.Learnt, entry-contains-below t, entry-contains.Post, cut-contains-below t, cut-contains.Post)
+
+cut-contains-entry-contains-requires : (t : ℕ) → cut-contains-lts.Need-entry-contains-requires (cut-contains-claims t) (cut-contains-at t) cut-contains.Post
+cut-contains-entry-contains-requires t c κs = (omega arith, tt)
+
+cut-contains-entry-contains-requires-2 : (t : ℕ) → cut-contains-lts.Need-entry-contains-requires-2 (cut-contains-claims t) (cut-contains-at t) cut-contains.Post
+cut-contains-entry-contains-requires-2 t c κs = (omega arith, tt)
+
+cut-contains-entry-contains-requires-3 : (t : ℕ) → cut-contains-lts.Need-entry-contains-requires-3 (cut-contains-claims t) (cut-contains-at t) cut-contains.Post
+cut-contains-entry-contains-requires-3 t c κs = (omega arith, tt)
+
+cut-contains-entry-contains-requires-4 : (t : ℕ) → cut-contains-lts.Need-entry-contains-requires-4 (cut-contains-claims t) (cut-contains-at t) cut-contains.Post
+cut-contains-entry-contains-requires-4 t c κs = (omega arith, tt)
+
+cut-contains-returns : (t : ℕ) → cut-contains-lts.Need-returns (cut-contains-claims t) (cut-contains-at t) cut-contains.Post
+unfolding cutContains
+cut-contains-returns t c =
+    let at1 = c .before in let if1 = at1 .if1 in
+    let at2 = at1 .before in let entry-contains = at2 .entry-contains in
+    let at3 = at2 .before in let enum-told = at3 .enum-told in
+    rw (enum-told .given .1) (and-then (entry-contains .ensures) (if1 .taken) (c .entry-contains2 .ensures))
+
+cut-contains-returns-2 : (t : ℕ) → cut-contains-lts.Need-returns-2 (cut-contains-claims t) (cut-contains-at t) cut-contains.Post
+unfolding cutContains
+cut-contains-returns-2 t c = rw (c .before .before .enum-told .given .1) (and-not _ (c .before .entry-contains .ensures) (c .if1 .left))
+
+cut-contains-returns-3 : (t : ℕ) → cut-contains-lts.Need-returns-3 (cut-contains-claims t) (cut-contains-at t) cut-contains.Post
+unfolding cutContains
+cut-contains-returns-3 t c =
+    let at1 = c .before in let if2 = at1 .if2 in
+    let at2 = at1 .before in let entry-contains3 = at2 .entry-contains3 in
+    let at3 = at2 .before in let enum-told2 = at3 .enum-told2 in
+    rw (enum-told2 .given .1) (and-then (entry-contains3 .ensures) (if2 .taken) (ap not (c .entry-contains4 .ensures)))
+
+cut-contains-returns-4 : (t : ℕ) → cut-contains-lts.Need-returns-4 (cut-contains-claims t) (cut-contains-at t) cut-contains.Post
+unfolding cutContains
+cut-contains-returns-4 t c = rw (c .before .before .enum-told2 .given .1) (and-not _ (c .before .entry-contains3 .ensures) (c .if2 .left))
+
+entry-contains-returns : (t : ℕ) → entry-contains-lts.Need-returns (entry-contains-claims t) (entry-contains-at t) entry-contains.Post
+unfolding read shapeContains
+entry-contains-returns t c = rw (c .if1 .taken)
+
+entry-contains-entry-contains-requires : (t : ℕ) → entry-contains-lts.Need-entry-contains-requires (entry-contains-claims t) (entry-contains-at t) entry-contains.Post
+entry-contains-entry-contains-requires t c κs = (omega arith, tt)
+
+entry-contains-cut-contains-requires : (t : ℕ) → entry-contains-lts.Need-cut-contains-requires (entry-contains-claims t) (entry-contains-at t) entry-contains.Post
+entry-contains-cut-contains-requires t c κs = (omega arith, tt)
+
+entry-contains-returns-2 : (t : ℕ) → entry-contains-lts.Need-returns-2 (entry-contains-claims t) (entry-contains-at t) entry-contains.Post
+unfolding shapeOf shapeContains
+entry-contains-returns-2 t c =
+    let at2 = c .before .before in let e = at2 .e in
+    let at4 = at2 .before .before in let entry-at = at4 .entry-at in
+    let at5 = at4 .before in let if1 = at5 .if1 in
+    rw (decode-as _ _ _ _ _ (if1 .left) (entry-at .ensures) (e .given .1), c .contains .ensures)
+
+entry-contains-returns-3 : (t : ℕ) → entry-contains-lts.Need-returns-3 (entry-contains-claims t) (entry-contains-at t) entry-contains.Post
+unfolding shapeOf shapeContains read
+entry-contains-returns-3 t c =
+    let at1 = c .before in let mul-position = at1 .mul-position in
+    let at3 = at1 .before .before in let e2 = at3 .e2 in
+    let at5 = at3 .before .before in let entry-at = at5 .entry-at in
+    let at6 = at5 .before in let if1 = at6 .if1 in
+    rw (decode-as _ _ _ _ _ (if1 .left) (entry-at .ensures) (e2 .given .1), ← (mul-position .ensures)) (c .entry-contains .ensures)
+
+entry-contains-returns-4 : (t : ℕ) → entry-contains-lts.Need-returns-4 (entry-contains-claims t) (entry-contains-at t) entry-contains.Post
+unfolding shapeOf shapeContains
+entry-contains-returns-4 t c =
+    let at2 = c .before .before in let e3 = at2 .e3 in
+    let at4 = at2 .before .before in let entry-at = at4 .entry-at in
+    let at5 = at4 .before in let if1 = at5 .if1 in
+    rw (decode-as _ _ _ _ _ (if1 .left) (entry-at .ensures) (e3 .given .1)) (c .cut-contains .ensures)
+
+entry-contains-returns-5 : (t : ℕ) → entry-contains-lts.Need-returns-5 (entry-contains-claims t) (entry-contains-at t) entry-contains.Post
+unfolding shapeOf shapeContains
+entry-contains-returns-5 t c = rw (decode-as _ _ _ _ _ (c .before .before .before .if1 .left) (c .before .before .entry-at .ensures) (c .enum-told .given .1))
+
+pub +cut-contains+entry-contains-spec : {M : Type 1} → statement M
++cut-contains+entry-contains-spec =
+    close μ-cut-contains μ-entry-contains (λ t. cut-contains-lts.spec (cut-contains-claims t)
+    (cut-contains-at t)
+    cut-contains.Post
+    (λ c. search needs)
+    (cut-contains-entry-contains-requires t)
+    (cut-contains-entry-contains-requires-2 t)
+    (λ c. search needs)
+    (cut-contains-entry-contains-requires-3 t)
+    (cut-contains-entry-contains-requires-4 t)
+    (cut-contains-returns t)
+    (cut-contains-returns-2 t)
+    (cut-contains-returns-3 t)
+    (cut-contains-returns-4 t))
+    λ t. entry-contains-lts.spec (entry-contains-claims t)
+    (entry-contains-at t)
+    entry-contains.Post
+    (entry-contains-returns t)
+    (λ c κs. search needs)
+    (λ c. search needs)
+    (λ c κs. search needs)
+    (λ c. search needs)
+    (λ c κs. search needs)
+    (λ c. search needs)
+    (entry-contains-entry-contains-requires t)
+    (λ c. search needs)
+    (λ c. search needs)
+    (entry-contains-cut-contains-requires t)
+    (λ c. search needs)
+    (entry-contains-returns-2 t)
+    (entry-contains-returns-3 t)
+    (entry-contains-returns-4 t)
+    (entry-contains-returns-5 t)

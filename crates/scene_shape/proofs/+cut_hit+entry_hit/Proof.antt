@@ -1,0 +1,206 @@
+use Rattle.scene_shape.proofs.Shapes.{decode-as, cut-refused, cut-missed, cut-inside, cut-spent, cut-again}
+use Rattle.scene_shape.specs.Shapes.{read, shapeOf, shapeHit}
+use native.Mathlib.Omega.{arith}
+use mathlib.Core.Path.{_∙_}
+use borrow.Author.Needs.{needs}
+use Prim.Native.Nat.{ℕ, _<_, _+_, _*_}
+use borrow.Fn.Kinds.{In}
+use borrow.Fn.PlainCycle.{Measures, is, falls, and}
+use Rattle.scene_shape.proofs.cut_hit.Reads as cut-hit
+use Rattle.scene_shape.proofs.cut_hit.Kinds as cut-hit-kinds
+use Rattle.scene_shape.proofs.+cut_hit+entry_hit.Lts-cut_hit as cut-hit-lts
+use Rattle.scene_shape.proofs.entry_hit.Reads as entry-hit
+use Rattle.scene_shape.proofs.entry_hit.Kinds as entry-hit-kinds
+use Rattle.scene_shape.proofs.+cut_hit+entry_hit.Lts-entry_hit as entry-hit-lts
+use Rattle.scene_shape.proofs.+cut_hit+entry_hit.{statement}
+use Rattle.scene_shape.proofs.both.Reads as both-reads
+use Rattle.scene_shape.proofs.cut_contains.Reads as cut-contains-reads
+use Rattle.scene.proofs.entry.entry_at.Reads as entry-at-reads
+use Rattle.solids.proofs.solid.Solid.intersect.Reads as intersect-reads
+use Rattle.geometry.proofs.hit.Hit.is_ok.Reads as is-ok-reads
+use Rattle.matrix.proofs.Matrix.mul_ray.Reads as mul-ray-reads
+use Rattle.geometry.proofs.hit.Hit.no_hit.Reads as no-hit-reads
+use Rattle.geometry.proofs.ray.Ray.position.Reads as position-reads
+use Rattle.scene_shape.proofs.rescaled.Reads as rescaled-reads
+use Rattle.scene_shape.proofs.restarted.Reads as restarted-reads
+use Rattle.scene_shape.proofs.+cut_hit+entry_hit.Tie.{close}
+
+abbrev μ-cut-hit : Measures 3 cut-hit-kinds.ps ℕ
+μ-cut-hit κs a = 66 * a .1 .1 .1 .1 .1 .1 .1 .0 + a .1 .1 .1 .1 .1 .1 .1 .1 .0 + 1
+
+abbrev μ-entry-hit : Measures 3 entry-hit-kinds.ps ℕ
+μ-entry-hit κs a = 66 * a .1 .1 .1 .1 .1 .0
+
+abbrev cut-hit-at : ℕ → In 3 cut-hit-kinds.ps
+cut-hit-at t = and 3 cut-hit-kinds.ps (is 3 cut-hit-kinds.ps μ-cut-hit t) cut-hit.Pre
+
+abbrev cut-hit-below : ℕ → In 3 cut-hit-kinds.ps
+cut-hit-below t = and 3 cut-hit-kinds.ps (falls 3 cut-hit-kinds.ps _<_ μ-cut-hit t) cut-hit.Pre
+
+abbrev entry-hit-at : ℕ → In 3 entry-hit-kinds.ps
+entry-hit-at t = and 3 entry-hit-kinds.ps (is 3 entry-hit-kinds.ps μ-entry-hit t) entry-hit.Pre
+
+abbrev entry-hit-below : ℕ → In 3 entry-hit-kinds.ps
+entry-hit-below t =
+    and 3 entry-hit-kinds.ps (falls 3 entry-hit-kinds.ps _<_ μ-entry-hit t) entry-hit.Pre
+
+abbrev cut-hit-claims : ℕ → cut-hit-lts.Claims
+cut-hit-claims t = (entry-hit-below t, entry-hit.Post, both-reads.Asked, both-reads.Learnt, is-ok-reads.Asked, is-ok-reads.Learnt, position-reads.Asked, position-reads.Learnt, cut-contains-reads.Asked, cut-contains-reads.Learnt, restarted-reads.Asked, restarted-reads.Learnt, cut-hit-below t, cut-hit.Post)
+
+abbrev entry-hit-claims : ℕ → entry-hit-lts.Claims
+entry-hit-claims t = (no-hit-reads.Asked, no-hit-reads.Learnt, entry-at-reads.Asked, entry-at-reads.Learnt, intersect-reads.Asked, intersect-reads.Learnt, mul-ray-reads.Asked, mul-ray-reads.Learnt, entry-hit-below t, entry-hit.Post, rescaled-reads.Asked, rescaled-reads.Learnt, cut-hit-below t, cut-hit.Post)
+
+cut-hit-entry-hit-requires : (t : ℕ) → cut-hit-lts.Need-entry-hit-requires (cut-hit-claims t) (cut-hit-at t) cut-hit.Post
+cut-hit-entry-hit-requires t c κs = (omega arith, tt)
+
+cut-hit-entry-hit-requires-2 : (t : ℕ) → cut-hit-lts.Need-entry-hit-requires-2 (cut-hit-claims t) (cut-hit-at t) cut-hit.Post
+cut-hit-entry-hit-requires-2 t c κs = (omega arith, tt)
+
+cut-hit-returns : (t : ℕ) → cut-hit-lts.Need-returns (cut-hit-claims t) (cut-hit-at t) cut-hit.Post
+cut-hit-returns t c =
+    let at1 = c .before in let is-ok = at1 .is-ok in
+    let at3 = at1 .before .before in let n2 = at3 .n2 in
+    let at5 = at3 .before .before in let both = at5 .both in
+    let at6 = at5 .before in let entry-hit2 = at6 .entry-hit2 in
+    let at7 = at6 .before in let entry-hit = at7 .entry-hit in
+    cut-missed _ _ _ _ _ (entry-hit .ensures) (entry-hit2 .ensures) (both .ensures) (n2 .given .1) (is-ok .ensures) (c .if1 .taken)
+
+cut-hit-returns-2 : (t : ℕ) → cut-hit-lts.Need-returns-2 (cut-hit-claims t) (cut-hit-at t) cut-hit.Post
+cut-hit-returns-2 t c =
+    let at1 = c .before in let cut-contains = at1 .cut-contains in
+    let at2 = at1 .before in let position = at2 .position in
+    let at3 = at2 .before in let if1 = at3 .if1 in
+    let at4 = at3 .before in let is-ok = at4 .is-ok in
+    let at6 = at4 .before .before in let n2 = at6 .n2 in
+    let at8 = at6 .before .before in let both = at8 .both in
+    let at9 = at8 .before in let entry-hit2 = at9 .entry-hit2 in
+    let at10 = at9 .before in let entry-hit = at10 .entry-hit in
+    cut-inside _ _ _ _ _ (entry-hit .ensures) (entry-hit2 .ensures) (both .ensures) (n2 .given .1) (is-ok .ensures) (if1 .left) (position .ensures) (cut-contains .ensures) (c .if2 .taken)
+
+cut-hit-returns-3 : (t : ℕ) → cut-hit-lts.Need-returns-3 (cut-hit-claims t) (cut-hit-at t) cut-hit.Post
+cut-hit-returns-3 t c =
+    let at1 = c .before in let if2 = at1 .if2 in
+    let at2 = at1 .before in let cut-contains = at2 .cut-contains in
+    let at3 = at2 .before in let position = at3 .position in
+    let at4 = at3 .before in let if1 = at4 .if1 in
+    let at5 = at4 .before in let is-ok = at5 .is-ok in
+    let at7 = at5 .before .before in let n2 = at7 .n2 in
+    let at9 = at7 .before .before in let both = at9 .both in
+    let at10 = at9 .before in let entry-hit2 = at10 .entry-hit2 in
+    let at11 = at10 .before in let entry-hit = at11 .entry-hit in
+    cut-spent _ _ _ _ _ (entry-hit .ensures) (entry-hit2 .ensures) (both .ensures) (n2 .given .1) (is-ok .ensures) (if1 .left) (position .ensures) (cut-contains .ensures) (c .if3 .taken) (if2 .left)
+
+cut-hit-cut-hit-requires : (t : ℕ) → cut-hit-lts.Need-cut-hit-requires (cut-hit-claims t) (cut-hit-at t) cut-hit.Post
+cut-hit-cut-hit-requires t c κs =
+    let at16 = c .before .before .before .before .before .before .before .before .before .before .before .before .before .before .before .before in let pre = at16 .pre in
+    (omega (arith, pre .0), tt)
+
+cut-hit-returns-4 : (t : ℕ) → cut-hit-lts.Need-returns-4 (cut-hit-claims t) (cut-hit-at t) cut-hit.Post
+cut-hit-returns-4 t c =
+    let at1 = c .before in let n = at1 .n in
+    let at3 = at1 .before .before in let both = at3 .both in
+    let at4 = at3 .before in let entry-hit2 = at4 .entry-hit2 in
+    let at5 = at4 .before in let entry-hit = at5 .entry-hit in
+    cut-refused _ _ _ _ _ (entry-hit .ensures) (entry-hit2 .ensures) (both .ensures) (n .given .1)
+
+cut-hit-returns-5 : (t : ℕ) → cut-hit-lts.Need-returns-5 (cut-hit-claims t) (cut-hit-at t) cut-hit.Post
+cut-hit-returns-5 t c =
+    let at1 = c .before in let restarted = at1 .restarted in
+    let at2 = at1 .before in let if3 = at2 .if3 in
+    let at3 = at2 .before in let if2 = at3 .if2 in
+    let at4 = at3 .before in let cut-contains = at4 .cut-contains in
+    let at5 = at4 .before in let position = at5 .position in
+    let at6 = at5 .before in let if1 = at6 .if1 in
+    let at7 = at6 .before in let is-ok = at7 .is-ok in
+    let at9 = at7 .before .before in let n2 = at9 .n2 in
+    let at11 = at9 .before .before in let both = at11 .both in
+    let at12 = at11 .before in let entry-hit2 = at12 .entry-hit2 in
+    let at13 = at12 .before in let entry-hit = at13 .entry-hit in
+    c .cut-hit .ensures ∙ rw (restarted .ensures) (cut-again _ _ _ _ _ (entry-hit .ensures) (entry-hit2 .ensures) (both .ensures) (n2 .given .1) (is-ok .ensures) (if1 .left) (position .ensures) (cut-contains .ensures) (if3 .left) (if2 .left))
+
+entry-hit-returns : (t : ℕ) → entry-hit-lts.Need-returns (entry-hit-claims t) (entry-hit-at t) entry-hit.Post
+unfolding read shapeHit
+entry-hit-returns t c = rw (c .before .if1 .taken, c .no-hit .ensures)
+
+entry-hit-entry-hit-requires : (t : ℕ) → entry-hit-lts.Need-entry-hit-requires (entry-hit-claims t) (entry-hit-at t) entry-hit.Post
+entry-hit-entry-hit-requires t c κs = (omega arith, tt)
+
+entry-hit-cut-hit-requires : (t : ℕ) → entry-hit-lts.Need-cut-hit-requires (entry-hit-claims t) (entry-hit-at t) entry-hit.Post
+entry-hit-cut-hit-requires t c κs = (omega arith, tt)
+
+entry-hit-returns-2 : (t : ℕ) → entry-hit-lts.Need-returns-2 (entry-hit-claims t) (entry-hit-at t) entry-hit.Post
+unfolding shapeOf shapeHit
+entry-hit-returns-2 t c =
+    let at2 = c .before .before in let e = at2 .e in
+    let at4 = at2 .before .before in let entry-at = at4 .entry-at in
+    let at5 = at4 .before in let if1 = at5 .if1 in
+    rw (decode-as _ _ _ _ _ (if1 .left) (entry-at .ensures) (e .given .1), c .intersect .ensures)
+
+entry-hit-returns-3 : (t : ℕ) → entry-hit-lts.Need-returns-3 (entry-hit-claims t) (entry-hit-at t) entry-hit.Post
+unfolding shapeOf shapeHit read
+entry-hit-returns-3 t c =
+    let at1 = c .before in let entry-hit = at1 .entry-hit in
+    let at2 = at1 .before in let mul-ray = at2 .mul-ray in
+    let at4 = at2 .before .before in let e2 = at4 .e2 in
+    let at6 = at4 .before .before in let entry-at = at6 .entry-at in
+    let at7 = at6 .before in let if1 = at7 .if1 in
+    rw (decode-as _ _ _ _ _ (if1 .left) (entry-at .ensures) (e2 .given .1), ← (mul-ray .ensures), ← (entry-hit .ensures)) (c .rescaled .ensures)
+
+entry-hit-returns-4 : (t : ℕ) → entry-hit-lts.Need-returns-4 (entry-hit-claims t) (entry-hit-at t) entry-hit.Post
+unfolding shapeOf shapeHit
+entry-hit-returns-4 t c =
+    let at2 = c .before .before in let e3 = at2 .e3 in
+    let at4 = at2 .before .before in let entry-at = at4 .entry-at in
+    let at5 = at4 .before in let if1 = at5 .if1 in
+    rw (decode-as _ _ _ _ _ (if1 .left) (entry-at .ensures) (e3 .given .1)) (c .cut-hit .ensures)
+
+entry-hit-returns-5 : (t : ℕ) → entry-hit-lts.Need-returns-5 (entry-hit-claims t) (entry-hit-at t) entry-hit.Post
+unfolding shapeOf shapeHit
+entry-hit-returns-5 t c =
+    let at1 = c .before in let enum-told = at1 .enum-told in
+    let at3 = at1 .before .before in let entry-at = at3 .entry-at in
+    let at4 = at3 .before in let if1 = at4 .if1 in
+    rw (decode-as _ _ _ _ _ (if1 .left) (entry-at .ensures) (enum-told .given .1), c .no-hit2 .ensures)
+
+pub +cut-hit+entry-hit-spec : {M : Type 1} → statement M
++cut-hit+entry-hit-spec = close μ-cut-hit μ-entry-hit (λ t. cut-hit-lts.spec (cut-hit-claims t)
+    (cut-hit-at t)
+    cut-hit.Post
+    (cut-hit-entry-hit-requires t)
+    (cut-hit-entry-hit-requires-2 t)
+    (λ c κs. search needs)
+    (λ c. search needs)
+    (λ c. search needs)
+    (λ c κs. search needs)
+    (cut-hit-returns t)
+    (λ c κs. search needs)
+    (λ c κs. search needs)
+    (cut-hit-returns-2 t)
+    (cut-hit-returns-3 t)
+    (λ c κs. search needs)
+    (λ c. search needs)
+    (cut-hit-cut-hit-requires t)
+    (cut-hit-returns-4 t)
+    (cut-hit-returns-5 t))
+    λ t. entry-hit-lts.spec (entry-hit-claims t)
+    (entry-hit-at t)
+    entry-hit.Post
+    (λ c κs. search needs)
+    (entry-hit-returns t)
+    (λ c κs. search needs)
+    (λ c. search needs)
+    (λ c κs. search needs)
+    (λ c. search needs)
+    (λ c κs. search needs)
+    (λ c. search needs)
+    (entry-hit-entry-hit-requires t)
+    (λ c κs. search needs)
+    (λ c. search needs)
+    (λ c. search needs)
+    (entry-hit-cut-hit-requires t)
+    (λ c. search needs)
+    (λ c κs. search needs)
+    (entry-hit-returns-2 t)
+    (entry-hit-returns-3 t)
+    (entry-hit-returns-4 t)
+    (entry-hit-returns-5 t)

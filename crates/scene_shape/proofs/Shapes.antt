@@ -1,0 +1,73 @@
+-- Laws on the reading of a solid and on the steps of a cut, for the proofs of the recursion. Assumes nothing.
+use Prim.Native.Nat.{ℕ, zero, suc, _-_}
+use mathlib.Core.Path.{_≡_, refl}
+use mathlib.Core.List.{List}
+use mathlib.Core.Bool.{Bool, true, false, not, _&&_, _||_}
+use native.Mathlib.Numerals.{sub-one}
+use lib.Ieee.{Float}
+use Rattle.geometry.specs.Rays.{position}
+use Rattle.geometry.specs.Hits.{isOk}
+use Rattle.geometry.specs.declared.vector.Vector.{Vector}
+use Rattle.geometry.specs.declared.ray.Ray.{Ray}
+use Rattle.geometry.specs.declared.hit.Hit.{Hit}
+use Rattle.scene.specs.Entries.{entryAt}
+use Rattle.scene.specs.declared.entry.Entry.{Entry}
+use Rattle.refusals.specs.declared.Refusal.{Refusal}
+use Rattle.refusals.specs.declared.Refusal.the-variants.{Restarts}
+use Rattle.scene_shape.specs.Shapes.{read, decode, shapeOf, cutFrom}
+use Rattle.scene_shape.specs.Cuts.{both, step, acceptedOr, restarted}
+use Rattle.scene_shape.specs.declared.Struck.{Struck}
+use Rattle.scene_shape.specs.declared.Struck.the-variants.{At, Refused}
+
+-- where depth is left, a solid is its entry with the parts read a level down
+pub decode-as : (d : ℕ) (ns vs : List Float) (ms : List ℕ) (i : ℕ) {e x : Entry} → (d ≡ 0 → ⊥) → e ≡ entryAt ns vs ms i → e ≡ x → decode d ns vs ms i ≡ shapeOf (decode (d - 1) ns vs ms) x
+unfolding read
+decode-as zero ns vs ms i f p q = absurd (f refl)
+decode-as (suc d) ns vs ms i f p q = rw (sub-one, ← q, p)
+
+pub and-then : {r a s b : Bool} → r ≡ a → r ≡ true → s ≡ b → s ≡ (a && b)
+and-then p h q = rw (← p, h, q)
+
+pub and-not : {r a : Bool} (b : Bool) → r ≡ a → r ≡ false → false ≡ (a && b)
+and-not b p h = rw (← p, h)
+
+-- A cut's answer, by what a turn finds: x and y are what the parts answer, and z the first refusal or the nearer hit.
+module _ (n : ℕ) (a b : Ray → Struck) (inside : Vector → Bool) (r : Ray) {x y z : Struck} (ex : x ≡ a r) (ey : y ≡ b r) (ez : z ≡ both x y) where
+  cut-refuses : (m : ℕ) (k : Refusal) → z ≡ Refused k → Refused k ≡ cutFrom m a b inside r
+  unfolding cutFrom step
+  cut-refuses zero k e = rw (← ex, ← ey, ← ez, e)
+  cut-refuses (suc m) k e = rw (← ex, ← ey, ← ez, e)
+
+  pub cut-refused : {k : Refusal} → z ≡ Refused k → Refused k ≡ cutFrom n a b inside r
+  cut-refused {k} e = cut-refuses n k e
+
+  module _ {h : Hit} (e : z ≡ At h) where
+    cut-keeps : (m : ℕ) → (not (isOk h) || inside (position r (h .t))) ≡ true → At h ≡ cutFrom m a b inside r
+    unfolding cutFrom step acceptedOr
+    cut-keeps zero q = rw (← ex, ← ey, ← ez, e, q)
+    cut-keeps (suc m) q = rw (← ex, ← ey, ← ez, e, q)
+
+    pub cut-missed : {u : Bool} → u ≡ isOk h → not u ≡ true → At h ≡ cutFrom n a b inside r
+    cut-missed p q = cut-keeps n (rw (← p, q))
+
+    module _ {u w : Bool} {v : Vector} (p : u ≡ isOk h) (q : not u ≡ false) (pv : v ≡ position r (h .t)) (pw : w ≡ inside v) where
+      rejects : (w ≡ false) → (not (isOk h) || inside (position r (h .t))) ≡ false
+      rejects f = rw (← p, q, ← pv, ← pw, f)
+
+      pub cut-inside : w ≡ true → At h ≡ cutFrom n a b inside r
+      cut-inside f = cut-keeps n (rw (← p, q, ← pv, ← pw, f))
+
+      spent : (m : ℕ) → m ≡ 0 → w ≡ false → Refused Restarts ≡ cutFrom m a b inside r
+      unfolding cutFrom step acceptedOr
+      spent m z0 f = rw (z0, ← ex, ← ey, ← ez, e, rejects f)
+
+      pub cut-spent : n ≡ 0 → w ≡ false → Refused Restarts ≡ cutFrom n a b inside r
+      cut-spent z0 f = spent n z0 f
+
+      again : (m : ℕ) → (m ≡ 0 → ⊥) → w ≡ false → cutFrom (m - 1) a b inside (restarted r (h .t)) ≡ cutFrom m a b inside r
+      unfolding cutFrom step acceptedOr
+      again zero g f = absurd (g refl)
+      again (suc m) g f = rw (sub-one, ← ex, ← ey, ← ez, e, rejects f)
+
+      pub cut-again : (n ≡ 0 → ⊥) → w ≡ false → cutFrom (n - 1) a b inside (restarted r (h .t)) ≡ cutFrom n a b inside r
+      cut-again g f = again n g f

@@ -1,0 +1,178 @@
+// Hits and insides of the solids of a scene: placed parts (shape.rs) and cuts (csg.rs), whose parts may
+// be such themselves.
+ghost use mathlib.Core.Path.{_≡_};
+ghost use Rattle.scene_shape.specs.Cuts as Cuts;
+ghost use Rattle.scene_shape.specs.Shapes.{decode, shapeContains, shapeHit, cutHit};
+use geometry::hit::Hit;
+use geometry::ray::Ray;
+use geometry::vector::Vector;
+use refusals::Refusal;
+use scene::entry::Entry;
+use scene::entry::Op;
+
+// The hit of a ray, or why there is none.
+pub enum Struck {
+    At(Hit),
+    Refused(Refusal),
+}
+
+fn rescaled(scale: f64, a: Struck) -> Struck
+    ensures { λ r. ⌜ r ≡ Cuts.rescaled scale a ⌝ }
+{
+    match a {
+        Struck::At(h) => Struck::At(Hit {
+            t: h.t / scale,
+            ok: h.ok,
+        }),
+        Struck::Refused(n) => Struck::Refused(n),
+    }
+}
+
+// The first refusal, or the nearer hit.
+fn both(a: Struck, b: Struck) -> Struck
+    ensures { λ r. ⌜ r ≡ Cuts.both a b ⌝ }
+{
+    match a {
+        Struck::Refused(n) => Struck::Refused(n),
+        Struck::At(g) => match b {
+            Struck::Refused(n) => Struck::Refused(n),
+            Struck::At(h) => Struck::At(g.min(h)),
+        },
+    }
+}
+
+// The ray put again from 0.01 beyond t.
+fn restarted(r: Ray, t: f64) -> Ray
+    ensures { λ q. ⌜ q ≡ Cuts.restarted r t ⌝ }
+{
+    Ray::new(r.position(t + 0.01), r.direction)
+}
+
+// Whether the solid at entry i, nested at most `depth` deep, contains p, widened by f.
+pub fn entry_contains(
+    numbers: &[f64],
+    inverses: &[f64],
+    marks: &[u32],
+    i: usize,
+    p: Vector,
+    f: f64,
+    depth: usize,
+) -> bool
+    ensures { λ r. ⌜ r ≡ shapeContains (decode depth (now (numbers .entry)) (now (inverses .entry)) (now (marks .entry)) i) p f ⌝ }
+{
+    if depth == 0 {
+        return false;
+    }
+    let e = scene::entry::entry_at(numbers, inverses, marks, i);
+    match e {
+        Entry::Simple(s) => s.contains(p, f),
+        Entry::Placed(_, v, k) => {
+            entry_contains(numbers, inverses, marks, k, v.mul_position(p), f, depth - 1)
+        }
+        Entry::Cut(op, a, b) => cut_contains(numbers, inverses, marks, op, a, b, p, depth - 1),
+        Entry::None => false,
+    }
+}
+
+fn cut_contains(
+    numbers: &[f64],
+    inverses: &[f64],
+    marks: &[u32],
+    op: Op,
+    a: usize,
+    b: usize,
+    p: Vector,
+    depth: usize,
+) -> bool
+    ensures { λ r. ⌜ r ≡ Cuts.cutContains op (shapeContains (decode depth (now (numbers .entry)) (now (inverses .entry)) (now (marks .entry)) a)) (shapeContains (decode depth (now (numbers .entry)) (now (inverses .entry)) (now (marks .entry)) b)) p ⌝ }
+{
+    match op {
+        Op::Intersection => {
+            if entry_contains(numbers, inverses, marks, a, p, 1e-3, depth) {
+                entry_contains(numbers, inverses, marks, b, p, 1e-3, depth)
+            } else {
+                false
+            }
+        }
+        Op::Difference => {
+            if entry_contains(numbers, inverses, marks, a, p, 1e-3, depth) {
+                !entry_contains(numbers, inverses, marks, b, p, -1e-3, depth)
+            } else {
+                false
+            }
+        }
+    }
+}
+
+// The hit that the solid at entry i, nested at most `depth` deep, gives a ray.
+pub fn entry_hit(
+    numbers: &[f64],
+    inverses: &[f64],
+    marks: &[u32],
+    i: usize,
+    r: Ray,
+    depth: usize,
+) -> Struck
+    ensures { λ h. ⌜ h ≡ shapeHit (decode depth (now (numbers .entry)) (now (inverses .entry)) (now (marks .entry)) i) r ⌝ }
+{
+    if depth == 0 {
+        return Struck::At(Hit::no_hit());
+    }
+    let e = scene::entry::entry_at(numbers, inverses, marks, i);
+    match e {
+        Entry::Simple(s) => Struck::At(s.intersect(r)),
+        Entry::Placed(_, v, k) => {
+            let q = v.mul_ray(r);
+            rescaled(
+                q.scale,
+                entry_hit(numbers, inverses, marks, k, q.ray, depth - 1),
+            )
+        }
+        Entry::Cut(op, a, b) => cut_hit(numbers, inverses, marks, op, a, b, r, depth - 1, 64),
+        Entry::None => Struck::At(Hit::no_hit()),
+    }
+}
+
+// The hit of a cut, with so many restarts left.
+fn cut_hit(
+    numbers: &[f64],
+    inverses: &[f64],
+    marks: &[u32],
+    op: Op,
+    a: usize,
+    b: usize,
+    r: Ray,
+    depth: usize,
+    restarts: usize,
+) -> Struck
+    ensures { λ h. ⌜ h ≡ cutHit op restarts (decode depth (now (numbers .entry)) (now (inverses .entry)) (now (marks .entry))) a b r ⌝ }
+{
+    let ha = entry_hit(numbers, inverses, marks, a, r, depth);
+    let hb = entry_hit(numbers, inverses, marks, b, r, depth);
+    let n = both(ha, hb);
+    match n {
+        Struck::Refused(k) => Struck::Refused(k),
+        Struck::At(h) => {
+            if !h.is_ok() {
+                return Struck::At(h);
+            }
+            if cut_contains(numbers, inverses, marks, op, a, b, r.position(h.t), depth) {
+                return Struck::At(h);
+            }
+            if restarts == 0 {
+                return Struck::Refused(Refusal::Restarts);
+            }
+            cut_hit(
+                numbers,
+                inverses,
+                marks,
+                op,
+                a,
+                b,
+                restarted(r, h.t),
+                depth,
+                restarts - 1,
+            )
+        }
+    }
+}

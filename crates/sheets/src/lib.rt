@@ -1,1 +1,0 @@
-// Demand 3 in a draw: definitions and theorems, in specs/.

@@ -1,4 +1,0 @@
-pub mod MergeLaws
-pub mod EachLaws
-pub mod SortLaws
-pub mod InsertLaws

@@ -1,1 +1,0 @@
-// What an accepted scene has: theorems about the definitions, in specs/. No code of its own.

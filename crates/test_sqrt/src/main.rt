@@ -1,0 +1,50 @@
+// Reads records of two words of 8 bytes, the bit pattern of an f64 and that of its root, and writes how
+// many there are and how many of the roots are not what `sqrt` gives. A NaN's pattern is
+// 7FF8000000000000. The list is made by tools/vectors/sqrt.py.
+ghost use mathlib.Core.Path.{_≡_};
+ghost use Prim.Native.Nat.{_+_, _*_, _≤_};
+ghost use lib.ListN.{length};
+ghost use lib.Ieee.{binary64, toBits};
+ghost use Rattle.test_sqrt.specs.Records.{rootRight, wrongRoots};
+
+// The bit pattern of v.
+fn pattern(v: f64) -> u64
+    ensures { λ r. ⌜ r ≡ toBits binary64 v ⌝ }
+{
+    if v == v {
+        return f64::to_bits(v);
+    }
+    0x7ff8_0000_0000_0000
+}
+
+// Whether the root of record i is right.
+fn root_right(s: &[u8], i: usize) -> bool
+    requires { ⌜ 16 * i + 16 ≤ length (now s) ⌝ }
+    ensures { λ r. ⌜ r ≡ rootRight (now (s .entry)) i ⌝ }
+{
+    let root = sqrt::sqrt(test_words::float_at(s, 2 * i));
+    test_words::is(s, 2 * i + 1, pattern(root))
+}
+
+// How many of the records are wrong.
+fn wrong(s: &[u8]) -> u64
+    ensures { λ r. ⌜ r ≡ wrongRoots (now (s .entry)) ⌝ }
+{
+    let count = s.len() / 16;
+    let mut n: u64 = 0;
+    let mut i = 0usize;
+    while i < count {
+        n += test_words::miss(root_right(s, i));
+        i += 1;
+    }
+    n
+}
+
+fn main() {
+    let mut buffer = [0u8; 131072];
+    let n = io::read_full(0, &mut buffer);
+    io::print_decimal(1, (n / 16) as u64);
+    io::write_all(1, b" roots, ");
+    io::print_decimal(1, wrong(&buffer[..n]));
+    io::write_all(1, b" wrong\n");
+}

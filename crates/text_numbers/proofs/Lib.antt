@@ -1,0 +1,2 @@
+-- Laws of words of digits.
+pub mod Digits

@@ -1,0 +1,236 @@
+// The text of `yard` to a view and a scene in lent slices.
+ghost use mathlib.Core.Path.{_≡_};
+ghost use Prim.Native.Nat.{_+_, _≤_};
+ghost use lib.ListN.{length};
+ghost use Rattle.floats.specs.Arith.{zeroF};
+ghost use Rattle.rows.specs.Rows.{padded};
+ghost use Rattle.text_tokens.specs.Tokens.{left, part};
+ghost use Rattle.text_heads.specs.Cursors.{WithinNext, Sized};
+ghost use Rattle.text_scene.specs.Texts as Texts;
+ghost use Rattle.text_scene.specs.Answers.{readingNumber, readOf, readingOf, sceneRead, roomy};
+ghost use Rattle.text_scene.specs.Readings.{lineAs, LineWithin, sceneAs, readingAs, WithinReading, ReadingFits};
+use text_heads::Cursor;
+use text_heads::Next;
+use text_heads::Viewed;
+use view::View;
+
+// A view with how many entries, points and lines were read, or document 01's number 1.
+pub enum Reading {
+    Scene(View, usize, usize, usize),
+    Refused,
+}
+
+impl Reading {
+    // Document 01's number, 0 where the text is read.
+    pub fn number(self) -> u32
+        ensures { λ n. ⌜ n ≡ readingNumber self ⌝ }
+    {
+        match self {
+            Reading::Scene(_, _, _, _) => 0,
+            Reading::Refused => 1,
+        }
+    }
+}
+
+// The end of the line that begins at `at`.
+fn line_end(text: &[u8], at: usize) -> usize
+    requires { ⌜ at ≤ length (now text) ⌝ }
+    ensures { λ r. ⌜ (at ≤ r) × ((r ≤ length (now (text .entry))) × (Texts.linesLeft (now (text .entry)) at ≡ Texts.unlessEmpty (left (part at r (now (text .entry))) 0) (Texts.linesLeft (now (text .entry)) (r + 1)))) ⌝ }
+{
+    let mut i = at;
+    while i < text.len() {
+        if text[i] == 10 {
+            return i;
+        }
+        i += 1;
+    }
+    i
+}
+
+// Where a line begins and ends, or that none is left.
+pub enum Line {
+    At(usize, usize),
+    Over,
+}
+
+// The first line from `at` on that has tokens.
+fn next_line(text: &[u8], at: usize) -> Line
+    requires { ⌜ length (now text) ≤ 65536 ⌝ }
+    ensures { λ r. ⌜ Texts.linesLeft (now (text .entry)) at ≡ lineAs (now (text .entry)) r ⌝ }
+    ensures { λ r. ⌜ LineWithin (length (now (text .entry))) at r ⌝ }
+{
+    let mut a = at;
+    while a <= text.len() {
+        let e = line_end(text, a);
+        if !text_tokens::is_over(&text[a..e], 0) {
+            return Line::At(a, e);
+        }
+        a = e + 1;
+    }
+    Line::Over
+}
+
+// The forms of the lines from `at` on.
+fn forms(
+    text: &[u8],
+    at: usize,
+    numbers: &mut [f64],
+    marks: &mut [u32],
+    points: &mut [f64],
+    starts: &mut [usize],
+    owners: &mut [u32],
+) -> Next
+    requires { ⌜ (length (now text) ≤ 65536) × Sized (now numbers) (now marks) (now points) (now starts) (now owners) ⌝ }
+    ensures { λ r. ⌜ sceneAs r (now (numbers .exit)) (now (marks .exit)) (now (points .exit)) (now (starts .exit)) (now (owners .exit)) ≡ Texts.formsIn Texts.emptyScene (Texts.linesLeft (now (text .entry)) at) ⌝ }
+    ensures { λ r. ⌜ WithinNext r ⌝ }
+{
+    let mut i = at;
+    let mut c = Cursor {
+        at: 0,
+        entries: 0,
+        points: 0,
+        lines: 0,
+    };
+    loop {
+        let l = next_line(text, i);
+        let Line::At(a, e) = l else {
+            return Next::To(c);
+        };
+        let d = Cursor {
+            at: 0,
+            entries: c.entries,
+            points: c.points,
+            lines: c.lines,
+        };
+        let f = text_forms::form(&text[a..e], d, 512, numbers, marks, points, starts, owners);
+        let Next::To(g) = f else {
+            return Next::No;
+        };
+        if !text_tokens::is_over(&text[a..e], g.at) {
+            return Next::No;
+        }
+        c = g;
+        i = e + 1;
+    }
+}
+
+// The view and the forms after it.
+fn yard(
+    text: &[u8],
+    numbers: &mut [f64],
+    marks: &mut [u32],
+    points: &mut [f64],
+    starts: &mut [usize],
+    owners: &mut [u32],
+) -> Reading
+    requires { ⌜ Sized (now numbers) (now marks) (now points) (now starts) (now owners) ⌝ }
+    ensures { λ r. ⌜ readingAs r (now (numbers .exit)) (now (marks .exit)) (now (points .exit)) (now (starts .exit)) (now (owners .exit)) ≡ Texts.yardOf (now (text .entry)) ⌝ }
+    ensures { λ r. ⌜ WithinReading r ⌝ }
+{
+    if text.len() > 65536 {
+        return Reading::Refused;
+    }
+    let l = next_line(text, 0);
+    let Line::At(a, e) = l else {
+        return Reading::Refused;
+    };
+    let v = text_heads::view_at(&text[a..e], 0);
+    let Viewed::Seen(view, k) = v else {
+        return Reading::Refused;
+    };
+    if !text_tokens::is_over(&text[a..e], k) {
+        return Reading::Refused;
+    }
+    let f = forms(text, e + 1, numbers, marks, points, starts, owners);
+    let Next::To(c) = f else {
+        return Reading::Refused;
+    };
+    Reading::Scene(view, c.entries, c.points, c.lines)
+}
+
+// Whether the slices have the places of `yard`.
+fn has_room(
+    numbers: &[f64],
+    marks: &[u32],
+    points: &[f64],
+    starts: &[usize],
+    owners: &[u32],
+) -> bool
+    ensures { λ r. ⌜ r ≡ roomy (now (numbers .entry)) (now (marks .entry)) (now (points .entry)) (now (starts .entry)) (now (owners .entry)) ⌝ }
+{
+    if numbers.len() < 8192 {
+        return false;
+    }
+    if marks.len() < 2048 {
+        return false;
+    }
+    if points.len() < 6144 {
+        return false;
+    }
+    if starts.len() < 2048 {
+        return false;
+    }
+    if owners.len() < 2048 {
+        return false;
+    }
+    true
+}
+
+// Reads a text into the first places of the slices.
+fn fill(
+    text: &[u8],
+    numbers: &mut [f64],
+    marks: &mut [u32],
+    points: &mut [f64],
+    starts: &mut [usize],
+    owners: &mut [u32],
+) -> Reading
+    ensures { λ r. ⌜ readingAs r (now (numbers .exit)) (now (marks .exit)) (now (points .exit)) (now (starts .exit)) (now (owners .exit)) ≡ readOf (now (text .entry)) (now (numbers .entry)) (now (marks .entry)) (now (points .entry)) (now (starts .entry)) (now (owners .entry)) ⌝ }
+    ensures { λ r. ⌜ ReadingFits r (now (numbers .exit)) (now (marks .exit)) (now (points .exit)) (now (starts .exit)) (now (owners .exit)) ⌝ }
+    ensures { λ r. ⌜ WithinReading r ⌝ }
+{
+    if !has_room(numbers, marks, points, starts, owners) {
+        return Reading::Refused;
+    }
+    yard(text, numbers, marks, points, starts, owners)
+}
+
+// Reads a text: its view, and its scene into the slices, then zeros. Where it is refused, zeros throughout.
+// The counts of the answer are those of the scene's places, which the slices have.
+pub fn read(
+    text: &[u8],
+    numbers: &mut [f64],
+    marks: &mut [u32],
+    points: &mut [f64],
+    starts: &mut [usize],
+    owners: &mut [u32],
+) -> Reading
+    ensures { λ r. ⌜ r ≡ readingOf (readOf (now (text .entry)) (now (numbers .entry)) (now (marks .entry)) (now (points .entry)) (now (starts .entry)) (now (owners .entry))) ⌝ }
+    ensures { λ r. ⌜ now (numbers .exit) ≡ padded zeroF (length (now (numbers .entry))) (sceneRead (readOf (now (text .entry)) (now (numbers .entry)) (now (marks .entry)) (now (points .entry)) (now (starts .entry)) (now (owners .entry))) .numbers) ⌝ }
+    ensures { λ r. ⌜ now (marks .exit) ≡ padded 0 (length (now (marks .entry))) (sceneRead (readOf (now (text .entry)) (now (numbers .entry)) (now (marks .entry)) (now (points .entry)) (now (starts .entry)) (now (owners .entry))) .marks) ⌝ }
+    ensures { λ r. ⌜ now (points .exit) ≡ padded zeroF (length (now (points .entry))) (sceneRead (readOf (now (text .entry)) (now (numbers .entry)) (now (marks .entry)) (now (points .entry)) (now (starts .entry)) (now (owners .entry))) .points) ⌝ }
+    ensures { λ r. ⌜ now (starts .exit) ≡ padded 0 (length (now (starts .entry))) (sceneRead (readOf (now (text .entry)) (now (numbers .entry)) (now (marks .entry)) (now (points .entry)) (now (starts .entry)) (now (owners .entry))) .starts) ⌝ }
+    ensures { λ r. ⌜ now (owners .exit) ≡ padded 0 (length (now (owners .entry))) (sceneRead (readOf (now (text .entry)) (now (numbers .entry)) (now (marks .entry)) (now (points .entry)) (now (starts .entry)) (now (owners .entry))) .owners) ⌝ }
+    ensures { λ r. ⌜ readingAs r (now (numbers .exit)) (now (marks .exit)) (now (points .exit)) (now (starts .exit)) (now (owners .exit)) ≡ readOf (now (text .entry)) (now (numbers .entry)) (now (marks .entry)) (now (points .entry)) (now (starts .entry)) (now (owners .entry)) ⌝ }
+    ensures { λ r. ⌜ ReadingFits r (now (numbers .exit)) (now (marks .exit)) (now (points .exit)) (now (starts .exit)) (now (owners .exit)) ⌝ }
+{
+    let r = fill(text, numbers, marks, points, starts, owners);
+    match r {
+        Reading::Scene(view, e, p, l) => {
+            rows::clear(numbers, e * 16);
+            rows::clear_marks(marks, e * 4);
+            rows::clear(points, p * 3);
+            rows::clear_starts(starts, l);
+            rows::clear_marks(owners, l);
+            Reading::Scene(view, e, p, l)
+        }
+        Reading::Refused => {
+            rows::clear(numbers, 0);
+            rows::clear_marks(marks, 0);
+            rows::clear(points, 0);
+            rows::clear_starts(starts, 0);
+            rows::clear_marks(owners, 0);
+            Reading::Refused
+        }
+    }
+}

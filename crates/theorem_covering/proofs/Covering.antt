@@ -1,0 +1,81 @@
+-- Demand 3 on hiding, of scenes and of the public calls on them: the proofs.
+use Prim.Native.Nat.{ℕ, _<_}
+use mathlib.Core.Path.{_≡_, refl, sym, ap, subst, _∙_}
+use mathlib.Core.List.{List, [], _∷_}
+use native.Mathlib.Omega.{arith}
+use lib.ListN.{length}
+use lib.Ieee.{Float}
+use Rattle.geometry.specs.Limits.{Within}
+use Rattle.geometry.specs.declared.vector.Vector.{Vector}
+use Rattle.geometry.specs.declared.ray.Ray.{Ray}
+use Rattle.scene_shape.specs.Shapes.{Shape, shapeBox, shapeHit, solidOf}
+use Rattle.lists.specs.Lists.{Member}
+use Rattle.check_parts.specs.Drawn.{drawn}
+use Rattle.scene.specs.Scenes.{Scene}
+use Rattle.check_scene.proofs.Accepted.{accepted-numbers}
+use Rattle.theorem_solids.proofs.Same.{same-solid}
+use Rattle.tree_walk.specs.Walks.{walkRows}
+use Rattle.tree_sight.specs.Sights.{sees, Answered}
+use Rattle.tree_sight.specs.declared.Sight.{Sight}
+use Rattle.tree_sight.specs.declared.Sight.the-variants.{Visible, Hidden, Refused as NotSeen}
+use Rattle.theorem_hiding.proofs.Hiding.{covered-is-hidden, hidden-falls-short, nothing-is-hidden}
+use Rattle.query_scene.specs.Queries.{ownHits, visibleOf}
+use Rattle.theorem_covering.specs.Scenes.{CoversPoint, Short, Draws, BuiltRows}
+use Rattle.theorem_covering.specs.Covering.{CoveredPointHidden, HiddenPointShort, CoversAlike, OthersChangeNothing}
+use Rattle.theorem_covering.proofs.Trees.{scene-tree}
+use Rattle.theorem_covering.proofs.Rows.{accepted-scene, sees-tree, sees-nothing, visible-sees}
+
+some-drawn : (l : List ℕ) (i : ℕ) → Member i l → 0 < length l
+some-drawn [] i m = absurd m
+some-drawn (x ∷ l) i m = omega arith
+
+pub covered-point-hidden : CoveredPointHidden
+covered-point-hidden solid eye point covers premise s draws nodeBoxes nodeMarks order R answered =
+    let acc = accepted-scene s nodeBoxes nodeMarks order R in
+    let some = some-drawn (drawn (s .marks)) (draws .0) (draws .1) in
+    let e = visible-sees s (acc .0) (acc .1) nodeBoxes nodeMarks order eye point answered ∙ sees-tree s nodeBoxes nodeMarks order R some eye point in
+    e
+    ∙ covered-is-hidden Shape shapeBox shapeHit solid eye point covers premise (solidOf (s .numbers) (s .marks)) (drawn (s .marks)) _ (scene-tree s (acc .0) (acc .1) some) draws
+    (subst Answered e answered)
+
+-- ---- the eye test says no: it is answered
+abbrev isHidden : Sight → ℕ
+isHidden Visible = 0
+isHidden Hidden = 1
+isHidden (NotSeen k) = 0
+
+no-answers : (a : Sight) → a ≡ Hidden → Answered a
+no-answers a h k e = let q : isHidden (NotSeen k) ≡ isHidden Hidden = ap isHidden (sym e ∙ h) in omega (arith, q)
+
+visible-not : Visible ≡ Hidden → ⊥
+visible-not e = let q : isHidden Visible ≡ isHidden Hidden = ap isHidden e in omega (arith, q)
+
+module _ (s : Scene) (nodeBoxes : List Float) (nodeMarks order : List ℕ) (R : BuiltRows s nodeBoxes nodeMarks order) (eye point : Vector) (eye-in : Within eye) (point-in : Within point) where
+  seen : visibleOf s nodeBoxes nodeMarks order eye point ≡ Hidden → visibleOf s nodeBoxes nodeMarks order eye point ≡ sees (λ (r : Ray). walkRows (ownHits s r) r nodeBoxes nodeMarks order) eye point
+  seen h = let acc = accepted-scene s nodeBoxes nodeMarks order R in visible-sees s (acc .0) (acc .1) nodeBoxes nodeMarks order eye point (no-answers _ h)
+
+  not-hidden : drawn (s .marks) ≡ [] → visibleOf s nodeBoxes nodeMarks order eye point ≡ Hidden → ⊥
+  not-hidden none h = visible-not (sym (seen h ∙ sees-nothing s nodeBoxes nodeMarks order R none eye point ∙ nothing-is-hidden eye point eye-in point-in) ∙ h)
+
+  short-of-tree : 0 < length (drawn (s .marks)) → visibleOf s nodeBoxes nodeMarks order eye point ≡ Hidden → (solid : Shape) × Draws s solid × Short solid eye point
+  short-of-tree some h =
+      let acc = accepted-scene s nodeBoxes nodeMarks order R in
+      hidden-falls-short Shape shapeBox shapeHit eye point eye-in point-in (solidOf (s .numbers) (s .marks)) (drawn (s .marks)) _ (scene-tree s (acc .0) (acc .1) some)
+      (sym (seen h ∙ sees-tree s nodeBoxes nodeMarks order R some eye point) ∙ h)
+
+pub hidden-point-short : HiddenPointShort
+hidden-point-short eye point eye-in point-in s nodeBoxes nodeMarks order R hidden = go (drawn (s .marks)) refl
+  where
+    go : (l : List ℕ) → drawn (s .marks) ≡ l → (solid : Shape) × Draws s solid × Short solid eye point
+    go [] none = absurd (not-hidden s nodeBoxes nodeMarks order R eye point eye-in point-in none hidden)
+    go (i ∷ l) some = short-of-tree s nodeBoxes nodeMarks order R eye point eye-in point-in (rw some (omega arith)) hidden
+
+pub covers-alike : CoversAlike
+covers-alike s s′ n n′ is is′ i j same eye point c =
+    subst (λ (x : Shape). CoversPoint x eye point)
+    (same-solid (s .numbers) (s .marks) (s′ .numbers) (s′ .marks) (omega (arith, accepted-numbers s n is)) (omega (arith, accepted-numbers s′ n′ is′)) i j same) c
+
+pub others-change-nothing : OthersChangeNothing
+others-change-nothing s s′ n is i j same drawn′ eye point c premise nodeBoxes nodeMarks order R answered =
+    let acc = accepted-scene s′ nodeBoxes nodeMarks order R in
+    covered-point-hidden (solidOf (s′ .numbers) (s′ .marks) j) eye point (covers-alike s s′ n (acc .0) is (acc .1) i j same eye point c) premise s′ (j, drawn′, refl) nodeBoxes nodeMarks order R answered

@@ -1,0 +1,1 @@
+// Demand 3 in a draw: statements in specs/, proofs in proofs/.

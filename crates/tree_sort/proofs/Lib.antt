@@ -1,0 +1,4 @@
+pub mod Merging
+pub mod Sorted
+pub mod Sorting
+pub mod Inserting

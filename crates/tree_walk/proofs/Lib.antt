@@ -1,0 +1,4 @@
+pub mod Turns
+pub mod Stacks
+pub mod Layouts
+pub mod Visits

@@ -1,2 +1,0 @@
--- The list of texts.
-pub mod Records
