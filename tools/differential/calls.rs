@@ -38,7 +38,7 @@ pub enum Call {
     Contains = 6,
 }
 
-/// The calls as tools/host/larnt.h declares them.
+/// The calls as host/larnt.h declares them.
 pub struct Calls {
     pub sqrt: extern "C" fn(f64) -> f64,
     pub box_test: extern "C" fn(&[f64; 6], &[f64; 6], &mut [f64; 2]),

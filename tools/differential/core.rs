@@ -1,4 +1,4 @@
-//! The compiled core: target/staticlib/libhost.a, called directly and through tools/host/larnt.rs.
+//! The compiled core: target/staticlib/libhost.a, called directly and through host/larnt.rs.
 
 use crate::calls::Calls;
 use crate::host::{self, raw};

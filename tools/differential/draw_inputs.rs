@@ -10,8 +10,8 @@ use oracle::generate::{self, Rng};
 use oracle::{Answer, Lines, Places, Room, Scene, Trouble, View, draw_measured};
 use std::fmt::Write;
 
-/// How many slices a draw is lent: out, begins, work, work_starts, chopped, chopped_starts, hulls,
-/// records, order.
+/// How many slices a draw is lent: out, begins, work, work_starts, chopped, chopped_starts, node_boxes,
+/// node_marks, order.
 pub const SLICES: usize = 9;
 
 /// What a place takes of each slice. Work is eight slices end to end.
@@ -47,12 +47,13 @@ impl Rooms {
 
 /// The places of slices of these lengths.
 fn room(lengths: &Lengths) -> Room {
-    let [out, begins, work, work_starts, chopped, chopped_starts, hulls, records, order] = *lengths;
+    let [out, begins, work, work_starts, chopped, chopped_starts, node_boxes, node_marks, order] =
+        *lengths;
     Room {
         work: Places { points: work / 24, starts: work_starts / 8 },
         chopped: Places { points: chopped / 3, starts: chopped_starts },
         out: Places { points: out / 3, starts: begins },
-        nodes: (hulls / 6).min(records / 3),
+        nodes: (node_boxes / 6).min(node_marks / 3),
         order,
     }
 }

@@ -21,8 +21,8 @@ struct Lent {
     work_starts: Vec<usize>,
     chopped: Vec<f64>,
     chopped_starts: Vec<usize>,
-    hulls: Vec<f64>,
-    records: Vec<u32>,
+    node_boxes: Vec<f64>,
+    node_marks: Vec<u32>,
     order: Vec<u32>,
     points: usize,
     paths: usize,
@@ -48,8 +48,8 @@ impl Lent {
             work_starts: counts(3),
             chopped: floats(4),
             chopped_starts: counts(5),
-            hulls: floats(6),
-            records: marks(7),
+            node_boxes: floats(6),
+            node_marks: marks(7),
             order: marks(8),
             points: 7,
             paths: 7,
@@ -67,8 +67,8 @@ impl Lent {
         put(&mut words, self.work_starts.len(), |k| self.work_starts[k] as u64);
         put_floats(&mut words, &self.chopped, 0);
         put(&mut words, self.chopped_starts.len(), |k| self.chopped_starts[k] as u64);
-        put_floats(&mut words, &self.hulls, 0);
-        put(&mut words, self.records.len(), |k| u64::from(self.records[k]));
+        put_floats(&mut words, &self.node_boxes, 0);
+        put(&mut words, self.node_marks.len(), |k| u64::from(self.node_marks[k]));
         put(&mut words, self.order.len(), |k| u64::from(self.order[k]));
         Words(words)
     }
@@ -82,8 +82,8 @@ impl Lent {
         lent.work_starts.fill(0);
         lent.chopped.fill(0.0);
         lent.chopped_starts.fill(0);
-        lent.hulls.fill(0.0);
-        lent.records.fill(0);
+        lent.node_boxes.fill(0.0);
+        lent.node_marks.fill(0);
         lent.order.fill(0);
         (lent.points, lent.paths) = (0, 0);
         if let Ok(lines) = answer {
@@ -112,10 +112,10 @@ fn core_draw(s: &Scene, view: &[f64; 22], lent: &mut Lent) -> u32 {
         lent.chopped.len(),
         lent.chopped_starts.as_mut_ptr(),
         lent.chopped_starts.len(),
-        lent.hulls.as_mut_ptr(),
-        lent.hulls.len(),
-        lent.records.as_mut_ptr(),
-        lent.records.len(),
+        lent.node_boxes.as_mut_ptr(),
+        lent.node_boxes.len(),
+        lent.node_marks.as_mut_ptr(),
+        lent.node_marks.len(),
         lent.order.as_mut_ptr(),
         lent.order.len(),
         &mut lent.points,
@@ -129,8 +129,8 @@ fn host_draw(s: &Scene, view: &[f64; 22], lent: &mut Lent) -> u32 {
         work_starts: &mut lent.work_starts,
         chopped: &mut lent.chopped,
         chopped_starts: &mut lent.chopped_starts,
-        hulls: &mut lent.hulls,
-        records: &mut lent.records,
+        node_boxes: &mut lent.node_boxes,
+        node_marks: &mut lent.node_marks,
         order: &mut lent.order,
     };
     let result = host::draw(core::lent(s), view, &mut lent.out, &mut lent.begins, work);

@@ -12,7 +12,7 @@ mod demand;
 mod draw_inputs;
 mod draws;
 mod harness;
-#[path = "../host/larnt.rs"]
+#[path = "../../host/larnt.rs"]
 mod host;
 mod inputs;
 mod leaves;

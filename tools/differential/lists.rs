@@ -1,4 +1,4 @@
-//! Writes the records that crates/leaves_check replays: hand-made cases, then seeded ones.
+//! Writes the records that crates/test_leaves replays: hand-made cases, then seeded ones.
 //!
 //!     lists FOLDER    writes FOLDER/stdin and FOLDER/stdout
 

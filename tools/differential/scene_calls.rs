@@ -17,7 +17,7 @@ pub struct Found {
     pub count: usize,
 }
 
-/// The calls as tools/host/larnt.h declares them; each answers 0 or the number of the refusal.
+/// The calls as host/larnt.h declares them; each answers 0 or the number of the refusal.
 pub struct SceneCalls {
     pub check: fn(&Scene, &mut Found) -> u32,
     pub own_hit: fn(&Scene, usize, &[f64; 6], &mut f64, &mut bool) -> u32,

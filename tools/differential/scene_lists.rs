@@ -1,4 +1,4 @@
-//! Writes the records that crates/scenes_check replays: hand-made scenes, then seeded ones.
+//! Writes the records that crates/test_scenes replays: hand-made scenes, then seeded ones.
 //!
 //!     scene_lists FOLDER    writes FOLDER/stdin and FOLDER/stdout
 

@@ -83,8 +83,11 @@ fn draw() {
 }
 
 fn depth(rows: &Rows, node: usize) -> usize {
-    let (first, count, axis) =
-        (rows.records[3 * node] as usize, rows.records[3 * node + 1], rows.records[3 * node + 2]);
+    let (first, count, axis) = (
+        rows.node_marks[3 * node] as usize,
+        rows.node_marks[3 * node + 1],
+        rows.node_marks[3 * node + 2],
+    );
     if axis == 0 || count > 0 {
         return 1;
     }

@@ -12,17 +12,17 @@ pub const NODES: usize = 2 * MOST - 1;
 
 /// What a build fills.
 pub struct Rows {
-    pub hulls: Vec<f64>,
-    pub records: Vec<u32>,
+    pub node_boxes: Vec<f64>,
+    pub node_marks: Vec<u32>,
     pub order: Vec<u32>,
     pub count: usize,
 }
 
 impl Rows {
     /// Slices of these lengths, with something in each place.
-    pub fn new(hulls: usize, records: usize, order: usize) -> Rows {
-        let (hulls, records) = (vec![UNFILLED; hulls], vec![7; records]);
-        Rows { hulls, records, order: vec![7; order], count: 7 }
+    pub fn new(node_boxes: usize, node_marks: usize, order: usize) -> Rows {
+        let (node_boxes, node_marks) = (vec![UNFILLED; node_boxes], vec![7; node_marks]);
+        Rows { node_boxes, node_marks, order: vec![7; order], count: 7 }
     }
 
     /// With room for every tree.
@@ -31,11 +31,15 @@ impl Rows {
     }
 
     fn lent(&self) -> host::Tree<'_> {
-        host::Tree { hulls: &self.hulls, records: &self.records, order: &self.order }
+        host::Tree {
+            node_boxes: &self.node_boxes,
+            node_marks: &self.node_marks,
+            order: &self.order,
+        }
     }
 }
 
-/// The calls as tools/host/larnt.h declares them; each answers 0 or the number of the refusal.
+/// The calls as host/larnt.h declares them; each answers 0 or the number of the refusal.
 pub struct TreeCalls {
     pub build: fn(&Scene, &mut Rows) -> u32,
     pub intersect: fn(&Scene, &Rows, &[f64; 6], &mut f64, &mut bool) -> u32,
@@ -54,10 +58,10 @@ macro_rules! on_rows {
         direct!(
             $call,
             $s,
-            $rows.hulls.as_ptr(),
-            $rows.hulls.len(),
-            $rows.records.as_ptr(),
-            $rows.records.len(),
+            $rows.node_boxes.as_ptr(),
+            $rows.node_boxes.len(),
+            $rows.node_marks.as_ptr(),
+            $rows.node_marks.len(),
             $rows.order.as_ptr(),
             $rows.order.len(),
             $($more),*
@@ -66,14 +70,14 @@ macro_rules! on_rows {
 }
 
 fn core_build(s: &Scene, rows: &mut Rows) -> u32 {
-    let Rows { hulls, records, order, count } = rows;
+    let Rows { node_boxes, node_marks, order, count } = rows;
     direct!(
         larnt_build,
         s,
-        hulls.as_mut_ptr(),
-        hulls.len(),
-        records.as_mut_ptr(),
-        records.len(),
+        node_boxes.as_mut_ptr(),
+        node_boxes.len(),
+        node_marks.as_mut_ptr(),
+        node_marks.len(),
         order.as_mut_ptr(),
         order.len(),
         count
@@ -90,7 +94,7 @@ fn core_visible(s: &Scene, rows: &Rows, eye: &[f64; 3], point: &[f64; 3], seen: 
 
 fn host_build(s: &Scene, rows: &mut Rows) -> u32 {
     let number;
-    let built = host::build(lent(s), &mut rows.hulls, &mut rows.records, &mut rows.order);
+    let built = host::build(lent(s), &mut rows.node_boxes, &mut rows.node_marks, &mut rows.order);
     (number, rows.count) = numbered(built);
     number
 }
@@ -107,9 +111,9 @@ fn host_visible(s: &Scene, rows: &Rows, eye: &[f64; 3], point: &[f64; 3], seen: 
     number
 }
 
-/// The walk and the eye test of crate bench: on a scene that is checked already, with its inverses.
+/// The walk and the eye test of crate host_bench: on a scene that is checked already, with its inverses.
 mod bench {
-    #[link(name = "bench", kind = "static")]
+    #[link(name = "host_bench", kind = "static")]
     unsafe extern "C" {
         pub fn bench_intersect(
             numbers: *const f64,
@@ -118,10 +122,10 @@ mod bench {
             inverses_count: usize,
             marks: *const u32,
             marks_count: usize,
-            hulls: *const f64,
-            hulls_count: usize,
-            records: *const u32,
-            records_count: usize,
+            node_boxes: *const f64,
+            node_boxes_count: usize,
+            node_marks: *const u32,
+            node_marks_count: usize,
             order: *const u32,
             order_count: usize,
             ray: &[f64; 6],
@@ -135,10 +139,10 @@ mod bench {
             inverses_count: usize,
             marks: *const u32,
             marks_count: usize,
-            hulls: *const f64,
-            hulls_count: usize,
-            records: *const u32,
-            records_count: usize,
+            node_boxes: *const f64,
+            node_boxes_count: usize,
+            node_marks: *const u32,
+            node_marks_count: usize,
             order: *const u32,
             order_count: usize,
             eye: &[f64; 3],
@@ -165,10 +169,10 @@ macro_rules! inner {
                 $c.found.inverses.len(),
                 $c.scene.marks.as_ptr(),
                 $c.scene.marks.len(),
-                $c.rows.hulls.as_ptr(),
-                $c.rows.hulls.len(),
-                $c.rows.records.as_ptr(),
-                $c.rows.records.len(),
+                $c.rows.node_boxes.as_ptr(),
+                $c.rows.node_boxes.len(),
+                $c.rows.node_marks.as_ptr(),
+                $c.rows.node_marks.len(),
                 $c.rows.order.as_ptr(),
                 $c.rows.order.len(),
                 $($more),*
@@ -202,26 +206,26 @@ impl Checked<'_> {
 /// The answer, the count, then each slice: how much of it there is before zeros alone follow, and
 /// that. NaNs are written alike; zeros too, among the results.
 pub fn build(call: fn(&Scene, &mut Rows) -> u32, case: &Build) -> Words {
-    let [hulls, records, order] = case.lengths;
-    let mut rows = Rows::new(hulls, records, order);
+    let [node_boxes, node_marks, order] = case.lengths;
+    let mut rows = Rows::new(node_boxes, node_marks, order);
     let number = call(&case.scene, &mut rows);
     let mut words = vec![u64::from(number), rows.count as u64];
-    put_floats(&mut words, &rows.hulls, 6 * rows.count);
-    put(&mut words, rows.records.len(), |k| u64::from(rows.records[k]));
+    put_floats(&mut words, &rows.node_boxes, 6 * rows.count);
+    put(&mut words, rows.node_marks.len(), |k| u64::from(rows.node_marks[k]));
     put(&mut words, rows.order.len(), |k| u64::from(rows.order[k]));
     Words(words)
 }
 
 pub fn rust_build(scene: &Scene, rows: &mut Rows) -> u32 {
-    let places = (rows.hulls.len() / 6).min(rows.records.len() / 3);
+    let places = (rows.node_boxes.len() / 6).min(rows.node_marks.len() / 3);
     let answer = oracle::build(scene, places, rows.order.len());
-    rows.hulls.fill(0.0);
-    rows.records.fill(0);
+    rows.node_boxes.fill(0.0);
+    rows.node_marks.fill(0);
     rows.order.fill(0);
     rows.count = 0;
     if let Ok(built) = &answer {
-        copy(&mut rows.hulls, &built.boxes);
-        copy(&mut rows.records, &built.marks);
+        copy(&mut rows.node_boxes, &built.boxes);
+        copy(&mut rows.node_marks, &built.marks);
         copy(&mut rows.order, &built.order);
         rows.count = built.marks.len() / 3;
     }

@@ -25,8 +25,8 @@ impl Shown for Build {
     }
 
     fn text(&self) -> String {
-        let [hulls, records, order] = self.lengths;
-        format!("{} {hulls} {records} {order}", self.case().text())
+        let [node_boxes, node_marks, order] = self.lengths;
+        format!("{} {node_boxes} {node_marks} {order}", self.case().text())
     }
 }
 

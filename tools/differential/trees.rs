@@ -62,9 +62,9 @@ pub fn compare(run: &mut Run) {
 
 /// No place of a slice is left.
 fn full(case: &Build, a: &Words) -> bool {
-    let [hulls, records, _] = case.lengths;
+    let [node_boxes, node_marks, _] = case.lengths;
     let nodes = a.0[1] as usize;
-    hulls == 6 * nodes && records == 3 * nodes
+    node_boxes == 6 * nodes && node_marks == 3 * nodes
 }
 
 /// The computed distance of an eye and a point.

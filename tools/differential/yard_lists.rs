@@ -1,4 +1,4 @@
-//! Writes the texts that crates/yard_check replays, with the oracle's answers: every refusal that `yard` can meet,
+//! Writes the texts that crates/test_yard replays, with the oracle's answers: every refusal that `yard` can meet,
 //! its bounds, spoilt forms, and the example yards.
 //!
 //!     yard_lists FOLDER    writes FOLDER/stdin and FOLDER/stdout

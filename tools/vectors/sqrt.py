@@ -1,5 +1,5 @@
 #!/usr/bin/env python3
-"""sqrt.py: write the vectors of crates/sqrt_check, its stdin and stdout.
+"""sqrt.py: write the vectors of crates/test_sqrt, its stdin and stdout.
 
 A record is 16 bytes: the bit pattern of an f64 and that of its root, most significant byte first. The roots are found from whole numbers,
 by math.isqrt, and only compared with math.sqrt afterwards. A NaN is written 7FF8000000000000. The same list comes out each time.
@@ -86,7 +86,7 @@ def vectors():
     for _ in range(300): yield rand.getrandbits(64)
 
 def main():
-    here = os.path.join(os.path.dirname(os.path.abspath(__file__)), '..', '..', 'crates', 'sqrt_check')
+    here = os.path.join(os.path.dirname(os.path.abspath(__file__)), '..', '..', 'crates', 'test_sqrt')
     records, seen = [], set()
     for b in vectors():
         assert 0 <= b < 2 * SIGN

@@ -61,12 +61,12 @@ uint32_t larnt_own_contains(LARNT_SCENE, size_t entry, const double point[3], do
 /* A tree: 6 numbers (box, min and max) and 3 marks a node (first child or first place in the order, count,
    axis: 0 none, 1 X, 2 Y, 3 Z), and the drawn entries in the leaves' order. */
 #define LARNT_TREE \
-    const double *hulls, size_t hulls_count, const uint32_t *records, size_t records_count, \
+    const double *node_boxes, size_t node_boxes_count, const uint32_t *node_marks, size_t node_marks_count, \
     const uint32_t *order, size_t order_count
 
 /* The tree of a scene's drawn entries, followed by zeros in each slice; count is how many nodes it has.
    13 where a slice is too short. */
-uint32_t larnt_build(LARNT_SCENE, double *hulls, size_t hulls_count, uint32_t *records, size_t records_count,
+uint32_t larnt_build(LARNT_SCENE, double *node_boxes, size_t node_boxes_count, uint32_t *node_marks, size_t node_marks_count,
                      uint32_t *order, size_t order_count, size_t *count);
 
 /* The nearest hit on the tree that larnt_build made of the scene; 8 for the ray, 11 for a cut's restarts,
@@ -86,7 +86,7 @@ uint32_t larnt_visible(LARNT_SCENE, LARNT_TREE, const double eye[3], const doubl
 uint32_t larnt_chop(const double view[22], const double *points, size_t points_count, const size_t *starts,
                     size_t starts_count, LARNT_PATHS);
 
-/* The paths simplified. The call goes as deep as the path's vertices need: see docs/SPEED.md. */
+/* The paths simplified. The call goes as deep as the path's vertices need: see docs/MEASURES.md. */
 uint32_t larnt_simplify(const double *points, size_t points_count, const size_t *starts, size_t starts_count,
                         double threshold, LARNT_PATHS);
 
@@ -97,8 +97,8 @@ uint32_t larnt_simplify(const double *points, size_t points_count, const size_t 
 uint32_t larnt_draw(LARNT_SCENE, const double view[22], double *out, size_t out_count, size_t *begins,
                     size_t begins_count, double *work, size_t work_count, size_t *work_starts,
                     size_t work_starts_count, double *chopped, size_t chopped_count, size_t *chopped_starts,
-                    size_t chopped_starts_count, double *hulls, size_t hulls_count, uint32_t *records,
-                    size_t records_count, uint32_t *order, size_t order_count, size_t *points_out,
+                    size_t chopped_starts_count, double *node_boxes, size_t node_boxes_count, uint32_t *node_marks,
+                    size_t node_marks_count, uint32_t *order, size_t order_count, size_t *points_out,
                     size_t *paths_out);
 
 #ifdef __cplusplus

@@ -94,19 +94,19 @@ pub mod raw {
             inside: &mut bool,
         );
         fn larnt_build(
-            hulls: *mut f64,
-            hulls_count: usize,
-            records: *mut u32,
-            records_count: usize,
+            node_boxes: *mut f64,
+            node_boxes_count: usize,
+            node_marks: *mut u32,
+            node_marks_count: usize,
             order: *mut u32,
             order_count: usize,
             count: &mut usize,
         );
         fn larnt_intersect(
-            hulls: *const f64,
-            hulls_count: usize,
-            records: *const u32,
-            records_count: usize,
+            node_boxes: *const f64,
+            node_boxes_count: usize,
+            node_marks: *const u32,
+            node_marks_count: usize,
             order: *const u32,
             order_count: usize,
             ray: &[f64; 6],
@@ -114,10 +114,10 @@ pub mod raw {
             ok: &mut bool,
         );
         fn larnt_visible(
-            hulls: *const f64,
-            hulls_count: usize,
-            records: *const u32,
-            records_count: usize,
+            node_boxes: *const f64,
+            node_boxes_count: usize,
+            node_marks: *const u32,
+            node_marks_count: usize,
             order: *const u32,
             order_count: usize,
             eye: &[f64; 3],
@@ -138,10 +138,10 @@ pub mod raw {
             chopped_count: usize,
             chopped_starts: *mut usize,
             chopped_starts_count: usize,
-            hulls: *mut f64,
-            hulls_count: usize,
-            records: *mut u32,
-            records_count: usize,
+            node_boxes: *mut f64,
+            node_boxes_count: usize,
+            node_marks: *mut u32,
+            node_marks_count: usize,
             order: *mut u32,
             order_count: usize,
             points_out: &mut usize,
@@ -267,44 +267,48 @@ pub fn own_contains(s: Scene, entry: usize, p: &[f64; 3], f: f64) -> Result<bool
 /// The rows of a tree, as `build` leaves them.
 #[derive(Clone, Copy)]
 pub struct Tree<'a> {
-    pub hulls: &'a [f64],
-    pub records: &'a [u32],
+    pub node_boxes: &'a [f64],
+    pub node_marks: &'a [u32],
     pub order: &'a [u32],
 }
 
 /// Fills the rows of the scene's tree and answers how many nodes it has, or the number of the refusal.
 pub fn build(
     s: Scene,
-    hulls: &mut [f64],
-    records: &mut [u32],
+    node_boxes: &mut [f64],
+    node_marks: &mut [u32],
     order: &mut [u32],
 ) -> Result<usize, u32> {
     let mut count = 0;
     let number = on_scene!(
         larnt_build,
         s,
-        hulls.as_mut_ptr(),
-        hulls.len(),
-        records.as_mut_ptr(),
-        records.len(),
+        node_boxes.as_mut_ptr(),
+        node_boxes.len(),
+        node_marks.as_mut_ptr(),
+        node_marks.len(),
         order.as_mut_ptr(),
         order.len(),
         &mut count
     );
-    if number == 0 { Ok(count) } else { Err(number) }
+    if number == 0 {
+        Ok(count)
+    } else {
+        Err(number)
+    }
 }
 
 /// A raw call on a scene and the rows of its tree.
 macro_rules! on_tree {
     ($call:ident, $s:expr, $t:expr, $($more:expr),*) => {{
-        let Tree { hulls, records, order } = $t;
+        let Tree { node_boxes, node_marks, order } = $t;
         on_scene!(
             $call,
             $s,
-            hulls.as_ptr(),
-            hulls.len(),
-            records.as_ptr(),
-            records.len(),
+            node_boxes.as_ptr(),
+            node_boxes.len(),
+            node_marks.as_ptr(),
+            node_marks.len(),
             order.as_ptr(),
             order.len(),
             $($more),*
@@ -355,7 +359,11 @@ pub fn chop(
             &mut m,
         )
     };
-    if number == 0 { Ok((n, m)) } else { Err(number) }
+    if number == 0 {
+        Ok((n, m))
+    } else {
+        Err(number)
+    }
 }
 
 /// The same of the simplified paths.
@@ -382,7 +390,11 @@ pub fn simplify(
             &mut m,
         )
     };
-    if number == 0 { Ok((n, m)) } else { Err(number) }
+    if number == 0 {
+        Ok((n, m))
+    } else {
+        Err(number)
+    }
 }
 
 /// What a draw works in; zeros throughout afterwards. `work` and `work_starts` are eight equal slices end
@@ -392,8 +404,8 @@ pub struct Work<'a> {
     pub work_starts: &'a mut [usize],
     pub chopped: &'a mut [f64],
     pub chopped_starts: &'a mut [usize],
-    pub hulls: &'a mut [f64],
-    pub records: &'a mut [u32],
+    pub node_boxes: &'a mut [f64],
+    pub node_marks: &'a mut [u32],
     pub order: &'a mut [u32],
 }
 
@@ -422,14 +434,18 @@ pub fn draw(
         work.chopped.len(),
         work.chopped_starts.as_mut_ptr(),
         work.chopped_starts.len(),
-        work.hulls.as_mut_ptr(),
-        work.hulls.len(),
-        work.records.as_mut_ptr(),
-        work.records.len(),
+        work.node_boxes.as_mut_ptr(),
+        work.node_boxes.len(),
+        work.node_marks.as_mut_ptr(),
+        work.node_marks.len(),
         work.order.as_mut_ptr(),
         work.order.len(),
         &mut n,
         &mut m
     );
-    if number == 0 { Ok((n, m)) } else { Err(number) }
+    if number == 0 {
+        Ok((n, m))
+    } else {
+        Err(number)
+    }
 }
