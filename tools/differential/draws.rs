@@ -8,7 +8,7 @@ use crate::host::{self, raw};
 use crate::scene_calls::{Words, copy, number, put, put_floats};
 use crate::stage_inputs::view_numbers;
 use oracle::generate::Rng;
-use oracle::{Answer, Lines, Scene, View, draw_measured, plain};
+use oracle::{Answer, Lines, Room, Scene, View, draw_measured, plain};
 use std::cell::{Cell, RefCell};
 use std::hint::black_box;
 use std::time::{Duration, Instant};
@@ -140,7 +140,12 @@ fn host_draw(s: &Scene, view: &[f64; 22], lent: &mut Lent) -> u32 {
 
 /// What the core draws, given all the room that a short draw needs.
 pub fn amply(scene: &Scene, view: &View) -> Option<Lines> {
-    let mut lent = Lent::new(&draw_inputs::exactly(&draw_inputs::ample(scene)));
+    given(scene, view, &draw_inputs::ample(scene))
+}
+
+/// What the core draws in so much room.
+pub fn given(scene: &Scene, view: &View, room: &Room) -> Option<Lines> {
+    let mut lent = Lent::new(&draw_inputs::exactly(room));
     match core_draw(scene, &view_numbers(view), &mut lent) {
         0 => {
             let points = lent.out[..3 * lent.points].to_vec();

@@ -1,13 +1,19 @@
-//! The stack that the recursive calls take: it is painted, and what a call leaves unpainted is counted.
+//! The stack that the calls take: it is painted, and what a call leaves unpainted is counted.
 
+use crate::core::CORE_SCENES;
 use crate::draws;
 use crate::host;
+use crate::scene_calls::unfilled;
 use crate::tree_calls::{CORE, Rows};
-use oracle::{Scene, View};
+use oracle::{Lines, Room, Scene, View};
 
 const MUCH: usize = 64 << 20;
 const PAINTED: usize = 48 << 20;
 const PAINT: u8 = 0xA5;
+
+/// What host/larnt.h says that a draw's local arrays take, and the little that is left beside them.
+const ARRAYS: usize = 201 << 10;
+const LITTLE: usize = 256 << 10;
 
 pub fn run() {
     for n in [2, 9, 100, 1000, 1024] {
@@ -23,10 +29,8 @@ pub fn run() {
             depth(&rows, 0)
         );
     }
-    for n in [2, 3, 100, 1000, 2048] {
-        let points: Vec<f64> = (0..n)
-            .flat_map(|k| [if k % 2 == 0 { k as f64 } else { -(k as f64) }, 0.0, 0.0])
-            .collect();
+    for n in [2, 3, 100, 1000, 2048, 21_500, 50_000] {
+        let points = to_and_fro(n).concat();
         let (mut out, mut begins) = (vec![0.0; 3 * n], vec![0; 1]);
         let mut kept = 0;
         let bytes = taken(|| {
@@ -43,10 +47,96 @@ pub fn run() {
         assert_eq!(host::chop(&view, &corners, &[0], &mut out, &mut begins), Err(13));
     });
     println!("chop of a longest segment: {bytes} bytes");
+    questions();
     draw();
+    for n in [20_000, 60_000] {
+        zigzag(n);
+    }
 }
 
-/// A draw of many equal boxes, whose tree is deepest; of a line to and fro, which is simplified deepest;
+/// So many points to and fro, each farther out than the one before: every one splits the path.
+fn to_and_fro(n: usize) -> Vec<[f64; 3]> {
+    (0..n).map(|k| [if k % 2 == 0 { k as f64 } else { -(k as f64) }, 0.0, 0.0]).collect()
+}
+
+/// A long zigzag, simplified and drawn on a small stack, is what the Rust makes of it on a large one.
+fn zigzag(n: usize) {
+    let lines = Lines { points: to_and_fro(n).concat(), starts: vec![0] };
+    let rust =
+        oracle::with_stack(|| oracle::simplify(0.0, &lines, Room::ENDLESS.out)).expect("an answer");
+    let (mut out, mut begins) = (vec![0.0; 3 * n], vec![0; 1]);
+    let told = within(LITTLE, || host::simplify(&lines.points, &[0], 0.0, &mut out, &mut begins));
+    let (points, paths) = told.expect("an answer");
+    let core = Lines { points: out[..3 * points].to_vec(), starts: begins[..paths].to_vec() };
+    assert!(draws::alike(&core, &rust), "simplify of {n} points to and fro differs");
+    println!("simplify of {n} points to and fro: {points} kept, in a thread of {LITTLE} bytes");
+
+    let mut scene = Scene::default();
+    let ball = scene.push([1, 0, 0, 0], &[0.0, 0.0, -3000.0, 1.0]);
+    scene.push_line(ball, &to_and_fro(n));
+    let mut matrix = [0.0; 16];
+    for k in [0, 5, 10] {
+        matrix[k] = 1.0 / 131_072.0;
+    }
+    matrix[15] = 1.0;
+    let view = View { matrix, eye: [1e3, 2e3, 9e3], width: 1e3, height: 1e3, step: 1e3 };
+    let (rust, room) = oracle::with_stack(|| oracle::draw_measured(&scene, &view, Room::ENDLESS));
+    let rust = rust.expect("a drawing");
+    let mut core = None;
+    within(ARRAYS + LITTLE, || core = draws::given(&scene, &view, &room));
+    let core = core.expect("a drawing");
+    assert!(draws::alike(&core, &rust), "draw of {n} points to and fro differs");
+    let points = core.points.len() / 3;
+    println!(
+        "draw of {n} points to and fro: {points} drawn, in a thread of {} bytes",
+        ARRAYS + LITTLE
+    );
+}
+
+/// The work, on a thread with so much stack.
+fn within<T: Send>(stack: usize, work: impl FnOnce() -> T + Send) -> T {
+    std::thread::scope(|scope| {
+        let thread = std::thread::Builder::new().stack_size(stack);
+        thread.spawn_scoped(scope, work).expect("a thread").join().unwrap()
+    })
+}
+
+/// Cuts in cuts, as deep as a scene may nest them.
+fn cuts() -> Scene {
+    let mut scene = Scene::default();
+    let mut so_far = scene.push([4, 1, 0, 0], &[-500.0, -500.0, -500.0, 500.0, 500.0, 500.0]);
+    for k in 0..7 {
+        let at = 100.0 * f64::from(k) - 400.0;
+        let b = scene.push([4, 1, 0, 0], &[at, at, at, at + 50.0, at + 50.0, 600.0]);
+        so_far = scene.push([7, 1, so_far, b], &[]);
+    }
+    scene
+}
+
+/// The check of a scene, and the questions that a host asks of one: each goes through all the cuts.
+fn questions() {
+    let scene = cuts();
+    let last = scene.entries() - 1;
+    let (eye, point) = ([-380.0, -380.0, 9000.0], [-380.0, -380.0, -9000.0]);
+    let ray = [eye[0], eye[1], eye[2], 0.0, 0.0, -1.0];
+    let (mut found, mut rows) = (unfilled(), Rows::ample());
+    let (mut t, mut ok) = (0.0, false);
+    let bytes = taken(|| assert_eq!((CORE_SCENES.check)(&scene, &mut found), 0));
+    println!("check: {bytes} bytes");
+    let bytes = taken(|| assert_eq!((CORE_SCENES.own_hit)(&scene, last, &ray, &mut t, &mut ok), 0));
+    println!("own hit: {bytes} bytes, at {t}");
+    let bytes = taken(|| {
+        assert_eq!((CORE_SCENES.own_contains)(&scene, last, &point, 0.0, &mut ok), 0);
+    });
+    println!("own contains: {bytes} bytes");
+    assert_eq!((CORE.build)(&scene, &mut rows), 0);
+    let bytes = taken(|| assert_eq!((CORE.intersect)(&scene, &rows, &ray, &mut t, &mut ok), 0));
+    println!("intersect: {bytes} bytes, at {t}");
+    let bytes = taken(|| assert_eq!((CORE.visible)(&scene, &rows, &eye, &point, &mut ok), 0));
+    println!("visible: {bytes} bytes, seen {ok}");
+}
+
+/// A draw of many equal boxes, whose tree is deepest; of a line to and fro, which is split most often;
 /// and of cuts in cuts.
 fn draw() {
     let mut same = Scene::default();
@@ -55,15 +145,7 @@ fn draw() {
     }
     let mut line = Scene::default();
     let ball = line.push([1, 0, 0, 0], &[0.0, 0.0, -3000.0, 1.0]);
-    let to_and_fro = (0..2048).map(|k| [if k % 2 == 0 { k as f64 } else { -(k as f64) }, 0.0, 0.0]);
-    line.push_line(ball, &to_and_fro.collect::<Vec<_>>());
-    let mut cuts = Scene::default();
-    let mut so_far = cuts.push([4, 1, 0, 0], &[-500.0, -500.0, -500.0, 500.0, 500.0, 500.0]);
-    for k in 0..7 {
-        let at = 100.0 * f64::from(k) - 400.0;
-        let b = cuts.push([4, 1, 0, 0], &[at, at, at, at + 50.0, at + 50.0, 600.0]);
-        so_far = cuts.push([7, 1, so_far, b], &[]);
-    }
+    line.push_line(ball, &to_and_fro(2048));
     let mut matrix = [0.0; 16];
     (matrix[0], matrix[5], matrix[10], matrix[15]) =
         (1.0 / 4096.0, 1.0 / 4096.0, 1.0 / 4096.0, 1.0);
@@ -71,7 +153,7 @@ fn draw() {
     for (name, scene, step) in [
         ("800 equal boxes", same, 0.0),
         ("2,048 points to and fro", line, 1000.0),
-        ("7 cuts", cuts, 100.0),
+        ("7 cuts", cuts(), 100.0),
     ] {
         let view = View { matrix, eye, width: 1000.0, height: 1000.0, step };
         let mut points = 0;
@@ -96,10 +178,7 @@ fn depth(rows: &Rows, node: usize) -> usize {
 
 /// How many bytes of stack the work takes.
 fn taken(work: impl FnOnce() + Send) -> usize {
-    std::thread::scope(|scope| {
-        let thread = std::thread::Builder::new().stack_size(MUCH);
-        thread.spawn_scoped(scope, || measured(work)).expect("a thread").join().unwrap()
-    })
+    within(MUCH, || measured(work))
 }
 
 #[inline(never)]

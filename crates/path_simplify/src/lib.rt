@@ -1,47 +1,60 @@
 // Simplification of paths by Ramer, Douglas and Peucker.
 ghost use mathlib.Core.Path.{_≡_};
-ghost use mathlib.Core.Bool.{false};
-ghost use mathlib.Core.List.{[], _∷_};
-ghost use Prim.Native.Nat.{ℕ, _*_, _≤_, _<_};
-ghost use lib.ListN.{length, take};
+ghost use mathlib.Core.Bool.{false, not};
+ghost use Prim.Native.Nat.{ℕ, _+_, _-_, _*_, _≤_, _<_};
+ghost use lib.Dec.{T};
+ghost use lib.ListN.{length, take, getD, set};
 ghost use lib.Seq.{slice};
-ghost use lib.Ieee.{lt};
+ghost use lib.Ieee.{lt, nan, isNan, binary64, ofBits, toBits};
 ghost use Rattle.floats.specs.Arith.{zeroF};
 ghost use Rattle.rows.specs.Points.{points};
-ghost use Rattle.paths.specs.Paths.{pushAll, onePath};
+ghost use Rattle.paths.specs.Paths.{onePath};
 ghost use Rattle.paths.specs.Ends.{places, allPoints, Ends, held, EndsBoth, Finished};
 ghost use Rattle.paths.specs.declared.Counts.the-variants.{Both};
-ghost use Rattle.path_rdp.specs.Rdp.{firstVertex, lastVertex};
-ghost use Rattle.path_simplify.specs.Simplify.{pathSimplify, simplifyPaths, simplifyCall};
+ghost use Rattle.path_simplify.specs.Simplify.{splitPlace, pathSimplify, simplifyPaths, simplifyCall};
 ghost use Rattle.path_simplify.specs.Kept.{Kept};
 use geometry::vector::Vector;
 use paths::Count;
 use paths::Counts;
 use paths::Judgement;
+use refusals::Refusal;
 
-fn push_two(out: &mut [f64], n: usize, a: Vector, b: Vector) -> Count
-    requires { ⌜ n * 3 ≤ length (now out) ⌝ }
-    ensures { λ r. ⌜ Ends (pushAll (places (now (out .entry))) (points n (now (out .entry))) (a ∷ b ∷ [])) (now (out .exit)) r ⌝ }
+// A place of the path waits as a bit pattern, in the cell that has w waiting ones after it.
+fn wait(out: &mut [f64], w: usize, i: usize)
+    requires { ⌜ (w < length (now out)) × (i * 3 < 18446744073709551616) ⌝ }
+    ensures { λ _. ⌜ now (out .exit) ≡ set (now (out .entry)) (length (now (out .entry)) - w - 1) (ofBits binary64 i) ⌝ }
 {
-    let r = paths::push(out, n, a);
-    match r {
-        Count::Refused(k) => Count::Refused(k),
-        Count::At(m) => paths::push(out, m, b),
+    let at = out.len() - w - 1;
+    out[at] = f64::from_bits(i as u64);
+}
+
+// The last of w waiting places.
+fn waiting(out: &[f64], w: usize) -> usize
+    requires { ⌜ (0 < w) × (w ≤ length (now out)) × T (not (isNan (getD (now out) (length (now out) - w) nan))) ⌝ }
+    ensures { λ r. ⌜ r ≡ toBits binary64 (getD (now (out .entry)) (length (now (out .entry)) - w) nan) ⌝ }
+{
+    let x = out[out.len() - w];
+    f64::to_bits(x) as usize
+}
+
+// Where the path from a to b is split, or a.
+fn split(path: &[f64], a: usize, b: usize, threshold: f64) -> usize
+    requires { ⌜ (a < b) × (b * 3 + 3 ≤ length (now path)) × (lt threshold zeroF ≡ false) ⌝ }
+    ensures { λ r. ⌜ r ≡ a + splitPlace threshold (slice a (b + 1) (allPoints (now (path .entry)))) ⌝ }
+{
+    if b - a < 2 {
+        return a;
     }
+    let f = path_rdp::farthest(path, a, b + 1);
+    if !(f.distance > threshold) {
+        return a;
+    }
+    a + f.index
 }
 
-// The first and the last vertex of the path from `from` up to `end`.
-fn push_ends(path: &[f64], from: usize, end: usize, out: &mut [f64], n: usize) -> Count
-    requires { ⌜ (from < end) × (end * 3 ≤ length (now path)) × (n * 3 ≤ length (now out)) ⌝ }
-    ensures { λ r. ⌜ Ends (pushAll (places (now (out .entry))) (points n (now (out .entry))) (firstVertex (slice from end (allPoints (now (path .entry)))) ∷ lastVertex (slice from end (allPoints (now (path .entry)))) ∷ [])) (now (out .exit)) r ⌝ }
-{
-    let a = rows::read_point(path, from);
-    let b = rows::read_point(path, end - 1);
-    push_two(out, n, a, b)
-}
-
-// What is kept of the path from `from` up to `end` goes after the first n points. The first half of a
-// split path is done by a call, the second by the next turn; they share the split vertex.
+// What is kept of the path from `from` up to `end` goes after the first n points. Whatever is before
+// place a is done; a itself and the places that wait, the last of them next, are kept and not yet
+// written. They wait at the end of `out`, one number each, where each will need three.
 fn path_simplify(
     path: &[f64],
     from: usize,
@@ -53,24 +66,37 @@ fn path_simplify(
     requires { ⌜ (from ≤ end) × (end * 3 ≤ length (now path)) × (n * 3 ≤ length (now out)) × (lt threshold zeroF ≡ false) ⌝ }
     ensures { λ r. ⌜ Ends (pathSimplify threshold (places (now (out .entry))) (slice from end (allPoints (now (path .entry)))) (points n (now (out .entry)))) (now (out .exit)) r ⌝ }
 {
-    let mut first = from;
-    let mut m = n;
-    while 3 <= end - first {
-        let f = path_rdp::farthest(path, first, end);
-        if !(f.distance > threshold) {
-            return push_ends(path, first, end, out, m);
-        }
-        let split = first + f.index;
-        let r = path_simplify(path, first, split + 1, threshold, out, m);
-        match r {
-            Count::Refused(k) => return Count::Refused(k),
-            Count::At(q) => {
-                m = q - 1;
-            }
-        }
-        first = split;
+    if end - from < 2 {
+        return paths::extend(path, from, end, out, n);
     }
-    paths::extend(path, first, end, out, m)
+    let room = out.len() / 3;
+    if room - n < 2 {
+        return Count::Refused(Refusal::Room);
+    }
+    wait(out, 0, end - 1);
+    let mut a = from;
+    let mut m = n;
+    let mut w = 1;
+    while 0 < w {
+        let b = waiting(out, w);
+        let s = split(path, a, b, threshold);
+        if a < s {
+            if room <= m + w + 1 {
+                return Count::Refused(Refusal::Room);
+            }
+            wait(out, w, s);
+            w += 1;
+            continue;
+        }
+        let p = rows::read_point(path, a);
+        rows::write_point(out, m, p);
+        a = b;
+        m += 1;
+        w -= 1;
+    }
+    let p = rows::read_point(path, a);
+    rows::write_point(out, m, p);
+    Count::At(m + 1)
 }
 
 // A path is opened, simplified and closed.
