@@ -23,7 +23,7 @@ use Rattle.tree_walk.proofs.Visits.{visit-le, visit-from, visit-hits}
 use Rattle.tree_sight.specs.Sights.{eyeRay}
 use Rattle.tree_sight.proofs.Answers.{answered-best, short-hidden, hidden-best, reaching-visible}
 use Rattle.theorem_hiding.specs.Covers.{Covers, NoMinusZero}
-use Rattle.theorem_hiding.specs.Hiding.{CoveredIsHidden, CoveredInBoth, NamedFallsShort, HiddenFallsShort, NothingIsHidden}
+use Rattle.theorem_hiding.specs.Hiding.{CoveredIsHidden, NamedFallsShort, HiddenFallsShort, NothingIsHidden}
 
 inf-number : T (number INF)
 unfolding ofBits
@@ -46,10 +46,6 @@ covered-is-hidden S box hit s eye point covers p solid entries tree of holds ans
     let l = visit-hits (λ (j : ℕ). hit (solid j) r) r (eye-ray-usable eye point (p .point-within) (p .direction)) boxes i (of .fine i (holds .1)) (c .falls .own) (c .falls .returned)
     (c .passed) (c .no-later) tree (built-well boxes tree entries (of .fine) (of .built)) (built-below boxes tree entries (of .built) i (holds .1)) 0 nothing b inf-number (found .1) in
     short-hidden nearest eye point (p .apart) b (found .1) (le-lt-trans (b .hit .t) (c .falls .own .t) (distanceOf eye point) l (c .falls .short))
-
-pub covered-in-both : CoveredInBoth
-covered-in-both S box hit s eye point covers p solid solid′ entries entries′ tree tree′ of of′ holds holds′ answered answered′ =
-    (covered-is-hidden S box hit s eye point covers p solid entries tree of holds answered, covered-is-hidden S box hit s eye point covers p solid′ entries′ tree′ of′ holds′ answered′)
 
 pub named-falls-short : NamedFallsShort
 named-falls-short S box hit eye point eye-in point-in solid entries tree of hidden =

@@ -1,2 +1,1 @@
 pub mod Hiding
-pub mod Slices

@@ -23,14 +23,6 @@ CoveredIsHidden =
     → (solid : ℕ → S) (entries : List ℕ) (tree : Tree ℕ) → TreeOf box solid entries tree → Holds solid entries s
     → Answered (seesPast hit solid tree eye point) → seesPast hit solid tree eye point ≡ Hidden
 
--- Two scenes that hold the solid, other solids added, removed or reordered between them, hide the point alike.
-abbrev pub CoveredInBoth : Type 1
-CoveredInBoth =
-    (S : Type 0) (box : S → BBox) (hit : S → Ray → Struck) (s : S) (eye point : Vector) → Covers box hit s eye point → Premise eye point
-    → (solid solid′ : ℕ → S) (entries entries′ : List ℕ) (tree tree′ : Tree ℕ) → TreeOf box solid entries tree → TreeOf box solid′ entries′ tree′
-    → Holds solid entries s → Holds solid′ entries′ s → Answered (seesPast hit solid tree eye point) → Answered (seesPast hit solid′ tree′ eye point)
-    → (seesPast hit solid tree eye point ≡ Hidden) × (seesPast hit solid′ tree′ eye point ≡ Hidden)
-
 -- Where a point is hidden, the entry that the walk names is one of the scene's whose own returned distance falls short of the eye.
 abbrev pub NamedFallsShort : Type 1
 NamedFallsShort =

@@ -1,3 +1,2 @@
 pub mod Covers
 pub mod Hiding
-pub mod Slices

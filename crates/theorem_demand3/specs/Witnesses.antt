@@ -1,0 +1,148 @@
+-- Scenes that bear Demand3 out: that it speaks of something, and why it says no more than it does. What is said of them is computed (proofs/).
+use Prim.Native.Nat.{ℕ, _*_, _≤_}
+use mathlib.Core.Path.{_≡_}
+use mathlib.Core.Bool.{not}
+use mathlib.Core.List.{List, [], _∷_, _++_}
+use lib.ListN.{length}
+use lib.Dec.{T}
+use lib.Ieee.{Float, eq}
+use Rattle.floats.specs.Arith.{bits, zeroF, halfF, oneF, twoF}
+use Rattle.geometry.specs.Vectors.{vec, distanceOf}
+use Rattle.geometry.specs.Boxes.{minusOne}
+use Rattle.geometry.specs.declared.vector.Vector.{Vector}
+use Rattle.matrix.specs.Matrices.{identityM}
+use Rattle.lists.specs.Lists.{Member}
+use Rattle.scene.specs.Scenes.{Scene, sceneOf, entriesOf}
+use Rattle.scene_shape.specs.Shapes.{Shape}
+use Rattle.check_parts.specs.Drawn.{drawn}
+use Rattle.tree_sight.specs.declared.Sight.the-variants.{Visible, Hidden}
+use Rattle.theorem_solids.specs.Same.{SameSolid}
+use Rattle.theorem_covering.specs.Scenes.{CoversPoint, Draws}
+use Rattle.paths.specs.Paths.{Paths, pathsWith, noPaths}
+use Rattle.view.specs.declared.View.{View}
+use Rattle.theorem_filters.specs.Passing.{LeftAfterClipping}
+use Rattle.draw_render.specs.Render.{Places}
+use Rattle.draw.specs.Drawing.{solidIn, Drawing}
+use Rattle.theorem_draws.specs.Sheets.{Put}
+use Rattle.theorem_demand3.specs.Demand3.{EyeTest, PremiseOn, HiddenFrom}
+
+-- ---- what the scenes are made of
+abbrev five : Float
+five = bits 0x4014_0000_0000_0000
+
+-- the 16 numbers of an entry: the first nine, and those of a cube by its two corners
+abbrev nine : Float → Float → Float → Float → Float → Float → Float → Float → Float → List Float
+nine a b c d e f g h i = a ∷ b ∷ c ∷ d ∷ e ∷ f ∷ g ∷ h ∷ i ∷ zeroF ∷ zeroF ∷ zeroF ∷ zeroF ∷ zeroF ∷ zeroF ∷ zeroF ∷ []
+
+abbrev corners : Float → Float → Float → Float → Float → Float → List Float
+corners a b c d e f = nine a b c d e f zeroF zeroF zeroF
+
+-- the marks of a cube with one stripe
+abbrev plainCube : List ℕ
+plainCube = 4 ∷ 1 ∷ 0 ∷ 0 ∷ []
+
+abbrev pub atOrigin : Vector
+atOrigin = vec zeroF zeroF zeroF
+
+-- ---- the eye test: document 01's cube from −1 to 1, seen from (0, 0, 5)
+abbrev pub cubeYard : Scene
+cubeYard = sceneOf (corners minusOne minusOne minusOne oneF oneF oneF) plainCube [] [] []
+
+abbrev pub overhead : Vector
+overhead = vec zeroF zeroF five
+
+abbrev pub farSide : Vector
+farSide = vec zeroF zeroF minusOne
+
+abbrev pub nearSide : Vector
+nearSide = vec zeroF zeroF oneF
+
+-- The cube covers the middle of its far side, which meets the premise and is hidden; it does not cover the middle of its near side, which is visible.
+pub record CubeCovers : Type 0 where
+  pub covers : CoversPoint (solidIn cubeYard 0) overhead farSide
+  pub premise : PremiseOn overhead farSide
+  pub hidden : EyeTest cubeYard overhead farSide Hidden
+  pub uncovered : CoversPoint (solidIn cubeYard 0) overhead nearSide → ⊥
+  pub visible : EyeTest cubeYard overhead nearSide Visible
+
+-- ---- a draw: document 01's yard of one triangle, its view, and the drawing that document 01 prints
+abbrev triangle : List Float
+triangle = nine zeroF zeroF zeroF halfF zeroF zeroF zeroF halfF zeroF
+
+abbrev pub sampleYard : Scene
+sampleYard = sceneOf triangle (5 ∷ 0 ∷ 0 ∷ 0 ∷ []) [] [] []
+
+abbrev pub sampleView : View
+sampleView = record { matrix = identityM; eye = overhead; width = twoF; height = twoF; step = zeroF }
+
+abbrev pub samplePlaces : Places
+samplePlaces = record { lines = record { points = 8; starts = 8; chopped = 8; begins = 8 }; nodes = 8; order = 8; points = 8; starts = 8 }
+
+abbrev pub sampleDrawing : Paths
+sampleDrawing =
+    pathsWith (vec oneF oneF zeroF ∷ vec (bits 0x3ff8_0000_0000_0000) oneF zeroF ∷ vec oneF (bits 0x3ff8_0000_0000_0000) zeroF ∷ vec oneF oneF zeroF ∷ []) (0 ∷ [])
+
+-- the same yard behind a cube of z from 2 to 3
+abbrev pub sampleBehind : Scene
+sampleBehind =
+    sceneOf (triangle ++ corners minusOne minusOne twoF oneF oneF (bits 0x4008_0000_0000_0000)) (5 ∷ 0 ∷ 0 ∷ 0 ∷ plainCube) [] [] []
+
+abbrev pub widerPlaces : Places
+widerPlaces = record { lines = record { points = 64; starts = 64; chopped = 64; begins = 64 }; nodes = 8; order = 8; points = 64; starts = 64 }
+
+-- The draw is answered with that drawing. Behind the cube, whose own corners are clipped away, it is answered with an empty sheet: a corner of the triangle is put to step 4
+-- and left after clipping, and the cube covers it.
+pub record SampleDraws : Type 0 where
+  pub sheet : Drawing sampleYard sampleView samplePlaces sampleDrawing
+  pub empty : Drawing sampleBehind sampleView widerPlaces noPaths
+  pub put : Put empty atOrigin
+  pub left : LeftAfterClipping (sampleView .matrix) atOrigin
+  pub covers : CoversPoint (solidIn sampleBehind 1) (sampleView .eye) atOrigin
+  pub premise : PremiseOn (sampleView .eye) atOrigin
+
+-- ---- the premise on −0: a flat cube at x = 0, alone and with a cube of x from 0 to 1 beside it, and the point (0, 0, 0) seen from (−0, 0, 5)
+abbrev flat : List Float
+flat = corners zeroF minusOne oneF zeroF oneF twoF
+
+abbrev pub flatAlone : Scene
+flatAlone = sceneOf flat plainCube [] [] []
+
+abbrev pub flatBeside : Scene
+flatBeside = sceneOf (flat ++ corners zeroF minusOne oneF oneF oneF twoF) (plainCube ++ plainCube) [] [] []
+
+abbrev pub minusEye : Vector
+minusEye = vec (bits 0x8000_0000_0000_0000) zeroF five
+
+-- Without "no direction component is −0" the demand is false: the flat cube covers the point and alone hides it, and the cube beside it brings the point back.
+pub record MinusZeroNeeded : Type 0 where
+  pub same : SameSolid (flatAlone .numbers) (flatAlone .marks) (flatBeside .numbers) (flatBeside .marks) 0 0
+  pub remains : Member 0 (drawn (flatBeside .marks))
+  pub covers : CoversPoint (solidIn flatAlone 0) minusEye atOrigin
+  pub apart : T (not (eq (distanceOf minusEye atOrigin) zeroF))
+  pub hidden : EyeTest flatAlone minusEye atOrigin Hidden
+  pub back : EyeTest flatBeside minusEye atOrigin Visible
+  -- the first clause of Demand3, with the premise on the computed distance alone
+  pub refuted : ((s s′ : Scene) (i j : ℕ) → SameSolid (s .numbers) (s .marks) (s′ .numbers) (s′ .marks) i j → entriesOf s * 16 ≤ length (s .numbers) → Member j (drawn (s′ .marks))
+      → (eye point : Vector) → CoversPoint (solidIn s i) eye point → T (not (eq (distanceOf eye point) zeroF)) → HiddenFrom s′ eye point) → ⊥
+
+-- ---- hidden and not covered: document 01's cube less a box, and the point (0, 0, 5) seen from (0, 0, 0.5), in the hole
+abbrev minusHalf : Float
+minusHalf = bits 0xbfe0_0000_0000_0000
+
+abbrev pub openBin : Scene
+openBin =
+    sceneOf
+    (corners minusOne minusOne minusOne oneF oneF oneF ++ corners minusHalf minusHalf zeroF halfF halfF twoF ++ corners zeroF zeroF zeroF zeroF zeroF zeroF)
+    (4 ∷ 1 ∷ 0 ∷ 0 ∷ 4 ∷ 1 ∷ 0 ∷ 0 ∷ 7 ∷ 1 ∷ 0 ∷ 1 ∷ []) [] [] []
+
+abbrev pub binEye : Vector
+binEye = vec zeroF zeroF halfF
+
+-- Why the last clause on hiding asks for a solid whose own returned distance falls short, and not for one that covers: the cut's t on the ray down is near 0.99, so the point
+-- is hidden before the surface, and the one drawn solid does not cover it.
+pub record ShortNotCovering : Type 0 where
+  pub hidden : EyeTest openBin binEye overhead Hidden
+  pub one-drawn : drawn (openBin .marks) ≡ 2 ∷ []
+  pub uncovered : CoversPoint (solidIn openBin 2) binEye overhead → ⊥
+  -- the last clause on hiding, if it asked for a solid that covers
+  pub refuted : ((s : Scene) (eye point : Vector) → EyeTest s eye point Hidden → (solid : Shape) × Draws s solid × CoversPoint solid eye point) → ⊥

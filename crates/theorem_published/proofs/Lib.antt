@@ -1,0 +1,6 @@
+pub mod Overlaps
+pub mod Slabs
+pub mod Whole
+pub mod Cramer
+pub mod Farthest
+pub mod Peucker

@@ -1,0 +1,3 @@
+pub mod Slabs
+pub mod Cramer
+pub mod Peucker
