@@ -1,7 +1,12 @@
 /* The calls that libhost.a exports (`rt staticlib host`). Nothing checks these declarations against
    crates/host/src/lib.rt: whoever changes the one changes the other. The pointers must not be null,
    not even those of no elements, and what is filled must overlap neither what is read nor anything
-   else that is filled. Matrices stand by rows. */
+   else that is filled. Matrices stand by rows.
+
+   Stack, measured (docs/MEASURES.md): larnt_draw and larnt_build need about 201 KB for local arrays and 512
+   bytes for each level of the tree, at most 1,023 levels, so 725 KB at most. larnt_own_hit,
+   larnt_own_contains, larnt_intersect and larnt_visible need about 200 KB, larnt_check 9 KB. larnt_chop needs
+   25 KB and larnt_simplify 4 KB, however long the paths are. */
 #ifndef LARNT_H
 #define LARNT_H
 
@@ -70,7 +75,10 @@ uint32_t larnt_build(LARNT_SCENE, double *node_boxes, size_t node_boxes_count, u
                      uint32_t *order, size_t order_count, size_t *count);
 
 /* The nearest hit on the tree that larnt_build made of the scene; 8 for the ray, 11 for a cut's restarts,
-   12 for the walk's waiting places. */
+   12 for the walk's waiting places. On rows that no build of this scene left, this call and the next still end
+   and stay within their slices, and answer what a walk of those rows finds. Zeros, as a refused build leaves
+   them, are an empty tree: nothing is hit and every point is visible. So a host asks these two only where
+   larnt_build answered 0. */
 uint32_t larnt_intersect(LARNT_SCENE, LARNT_TREE, const double ray[6], double *t, bool *ok);
 
 /* Whether the eye sees a point past the solids of that tree; 8 for the eye, 9 for the point, 11, 12. */
@@ -86,7 +94,7 @@ uint32_t larnt_visible(LARNT_SCENE, LARNT_TREE, const double eye[3], const doubl
 uint32_t larnt_chop(const double view[22], const double *points, size_t points_count, const size_t *starts,
                     size_t starts_count, LARNT_PATHS);
 
-/* The paths simplified. The call goes as deep as the path's vertices need: see docs/MEASURES.md. */
+/* The paths simplified. */
 uint32_t larnt_simplify(const double *points, size_t points_count, const size_t *starts, size_t starts_count,
                         double threshold, LARNT_PATHS);
 
