@@ -4,3 +4,4 @@ pub mod Whole
 pub mod Cramer
 pub mod Farthest
 pub mod Peucker
+pub mod Demand2
