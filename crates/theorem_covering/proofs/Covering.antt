@@ -1,5 +1,5 @@
--- Demand 3 on hiding, of scenes and of the public calls on them: the proofs.
-use Prim.Native.Nat.{ℕ, _<_}
+-- Hiding, of scenes and of the public calls on them: the proofs.
+use Prim.Native.Nat.{ℕ, _*_, _<_, _≤_}
 use mathlib.Core.Path.{_≡_, refl, sym, ap, subst, _∙_}
 use mathlib.Core.List.{List, [], _∷_}
 use native.Mathlib.Omega.{arith}
@@ -11,8 +11,11 @@ use Rattle.geometry.specs.declared.ray.Ray.{Ray}
 use Rattle.scene_shape.specs.Shapes.{Shape, shapeBox, shapeHit, solidOf}
 use Rattle.lists.specs.Lists.{Member}
 use Rattle.check_parts.specs.Drawn.{drawn}
-use Rattle.scene.specs.Scenes.{Scene}
+use Rattle.scene.specs.Scenes.{Scene, entriesOf}
+use Rattle.check_scene.specs.Checks.{checkOf}
+use Rattle.check_scene.specs.declared.Verdict.the-variants.{Accepted}
 use Rattle.check_scene.proofs.Accepted.{accepted-numbers}
+use Rattle.theorem_solids.specs.Same.{SameSolid}
 use Rattle.theorem_solids.proofs.Same.{same-solid}
 use Rattle.tree_walk.specs.Walks.{walkRows}
 use Rattle.tree_sight.specs.Sights.{sees, Answered}
@@ -21,7 +24,7 @@ use Rattle.tree_sight.specs.declared.Sight.the-variants.{Visible, Hidden, Refus
 use Rattle.theorem_hiding.proofs.Hiding.{covered-is-hidden, hidden-falls-short, nothing-is-hidden}
 use Rattle.query_scene.specs.Queries.{ownHits, visibleOf}
 use Rattle.theorem_covering.specs.Scenes.{CoversPoint, Short, Draws, BuiltRows}
-use Rattle.theorem_covering.specs.Covering.{CoveredPointHidden, HiddenPointShort, CoversAlike, OthersChangeNothing}
+use Rattle.theorem_covering.specs.Covering.{CoveredPointHidden, HiddenPointShort}
 use Rattle.theorem_covering.proofs.Trees.{scene-tree}
 use Rattle.theorem_covering.proofs.Rows.{accepted-scene, sees-tree, sees-nothing, visible-sees}
 
@@ -70,12 +73,8 @@ hidden-point-short eye point eye-in point-in s nodeBoxes nodeMarks order R hidde
     go [] none = absurd (not-hidden s nodeBoxes nodeMarks order R eye point eye-in point-in none hidden)
     go (i ∷ l) some = short-of-tree s nodeBoxes nodeMarks order R eye point eye-in point-in (rw some (omega arith)) hidden
 
-pub covers-alike : CoversAlike
-covers-alike s s′ n n′ is is′ i j same eye point c =
-    subst (λ (x : Shape). CoversPoint x eye point)
-    (same-solid (s .numbers) (s .marks) (s′ .numbers) (s′ .marks) (omega (arith, accepted-numbers s n is)) (omega (arith, accepted-numbers s′ n′ is′)) i j same) c
-
-pub others-change-nothing : OthersChangeNothing
-others-change-nothing s s′ n is i j same drawn′ eye point c premise nodeBoxes nodeMarks order R answered =
-    let acc = accepted-scene s′ nodeBoxes nodeMarks order R in
-    covered-point-hidden (solidOf (s′ .numbers) (s′ .marks) j) eye point (covers-alike s s′ n (acc .0) is (acc .1) i j same eye point c) premise s′ (j, drawn′, refl) nodeBoxes nodeMarks order R answered
+-- The same solid in two scenes covers the same points, whatever its index: entry i of s, with 16 numbers an entry, and entry j of an accepted s′.
+pub covers-alike : (s s′ : Scene) (i j : ℕ) → SameSolid (s .numbers) (s .marks) (s′ .numbers) (s′ .marks) i j → entriesOf s * 16 ≤ length (s .numbers) → (n : ℕ) → checkOf s′ ≡ Accepted n
+    → (eye point : Vector) → CoversPoint (solidOf (s .numbers) (s .marks) i) eye point → CoversPoint (solidOf (s′ .numbers) (s′ .marks) j) eye point
+covers-alike s s′ i j same long n is eye point covers =
+    subst (λ (x : Shape). CoversPoint x eye point) (same-solid (s .numbers) (s .marks) (s′ .numbers) (s′ .marks) long (omega (arith, accepted-numbers s′ n is)) i j same) covers

@@ -1,17 +1,12 @@
--- Demand 3 on hiding, of scenes and of the public calls on them.
+-- Hiding, of scenes and of the public calls on them: what demand 3 rests on. The demand itself is `Demand3` (theorem_demand3/specs/Demand3.antt).
 use Prim.Native.Nat.{ℕ}
 use mathlib.Core.Path.{_≡_}
 use mathlib.Core.List.{List}
 use lib.Ieee.{Float}
 use Rattle.geometry.specs.Limits.{Within}
 use Rattle.geometry.specs.declared.vector.Vector.{Vector}
-use Rattle.scene_shape.specs.Shapes.{Shape, solidOf}
-use Rattle.lists.specs.Lists.{Member}
-use Rattle.check_parts.specs.Drawn.{drawn}
-use Rattle.check_scene.specs.Checks.{checkOf}
+use Rattle.scene_shape.specs.Shapes.{Shape}
 use Rattle.scene.specs.Scenes.{Scene}
-use Rattle.check_scene.specs.declared.Verdict.the-variants.{Accepted}
-use Rattle.theorem_solids.specs.Same.{SameSolid}
 use Rattle.tree_sight.specs.Sights.{Answered}
 use Rattle.tree_sight.specs.declared.Sight.the-variants.{Hidden}
 use Rattle.theorem_hiding.specs.Covers.{Premise}
@@ -31,17 +26,3 @@ abbrev pub HiddenPointShort : Type 0
 HiddenPointShort =
     (eye point : Vector) → Within eye → Within point → (s : Scene) (nodeBoxes : List Float) (nodeMarks order : List ℕ) → BuiltRows s nodeBoxes nodeMarks order
     → visibleOf s nodeBoxes nodeMarks order eye point ≡ Hidden → (solid : Shape) × Draws s solid × Short solid eye point
-
--- The same solid in two scenes covers the same points.
-abbrev pub CoversAlike : Type 0
-CoversAlike =
-    (s s′ : Scene) (n n′ : ℕ) → checkOf s ≡ Accepted n → checkOf s′ ≡ Accepted n′ → (i j : ℕ) → SameSolid (s .numbers) (s .marks) (s′ .numbers) (s′ .marks) i j
-    → (eye point : Vector) → CoversPoint (solidOf (s .numbers) (s .marks) i) eye point → CoversPoint (solidOf (s′ .numbers) (s′ .marks) j) eye point
-
--- Other solids removed, added or reordered: a point that a solid of the one scene covers is hidden in the other, if that draws the same solid and is answered.
-abbrev pub OthersChangeNothing : Type 0
-OthersChangeNothing =
-    (s s′ : Scene) (n : ℕ) → checkOf s ≡ Accepted n → (i j : ℕ) → SameSolid (s .numbers) (s .marks) (s′ .numbers) (s′ .marks) i j → Member j (drawn (s′ .marks))
-    → (eye point : Vector) → CoversPoint (solidOf (s .numbers) (s .marks) i) eye point → Premise eye point
-    → (nodeBoxes : List Float) (nodeMarks order : List ℕ) → BuiltRows s′ nodeBoxes nodeMarks order
-    → Answered (visibleOf s′ nodeBoxes nodeMarks order eye point) → visibleOf s′ nodeBoxes nodeMarks order eye point ≡ Hidden

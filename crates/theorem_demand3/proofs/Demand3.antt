@@ -4,7 +4,6 @@ use mathlib.Core.Path.{_≡_, refl, sym, subst, _∙_}
 use mathlib.Core.Logic.{inl, inr}
 use mathlib.Core.Bool.{Bool, true, false, not}
 use mathlib.Core.List.{List}
-use native.Mathlib.Omega.{arith}
 use lib.ListN.{length}
 use lib.Dec.{T}
 use lib.Ieee.{Float, eq}
@@ -16,11 +15,9 @@ use Rattle.limits.specs.Limits.{withinPoint}
 use Rattle.limits.proofs.Limits.{within-point}
 use Rattle.lists.specs.Lists.{Member}
 use Rattle.scene.specs.Scenes.{Scene, entriesOf}
-use Rattle.scene_shape.specs.Shapes.{Shape}
 use Rattle.check_parts.specs.Drawn.{drawn}
 use Rattle.check_scene.specs.Checks.{checkOf}
 use Rattle.check_scene.specs.declared.Verdict.the-variants.{Accepted as Passing}
-use Rattle.check_scene.proofs.Accepted.{accepted-numbers}
 use Rattle.tree_nodes.specs.Nodes.{placesOf}
 use Rattle.tree_sight.specs.Sights.{eyeRay, Answered}
 use Rattle.tree_sight.specs.declared.Sight.{Sight}
@@ -29,11 +26,10 @@ use Rattle.query_scene.specs.declared.Built.{Built}
 use Rattle.query_scene.specs.declared.Built.the-variants.{Nodes}
 use Rattle.query_scene.specs.Queries.{ifBuilt, TreeBuilt, seenAfter, visibleOf}
 use Rattle.theorem_solids.specs.Same.{SameSolid}
-use Rattle.theorem_solids.proofs.Same.{same-solid}
 use Rattle.theorem_hiding.specs.Covers.{NoMinusZero}
 use Rattle.theorem_covering.specs.Scenes.{CoversPoint, BuiltRows}
 use Rattle.theorem_covering.proofs.Rows.{accepted-scene}
-use Rattle.theorem_covering.proofs.Covering.{covered-point-hidden, hidden-point-short}
+use Rattle.theorem_covering.proofs.Covering.{covered-point-hidden, hidden-point-short, covers-alike}
 use Rattle.paths.specs.Paths.{Paths, pathsOf}
 use Rattle.paths.specs.Ends.{allPoints}
 use Rattle.path_simplify.proofs.Calls.{call-ends}
@@ -43,11 +39,11 @@ use Rattle.draw_render.specs.Render.{Places}
 use Rattle.draw.specs.Drawing.{solidIn, seenIn, Drawing}
 use Rattle.theorem_draws.specs.Sheets.{Put, PassedIn, HiddenIn}
 use Rattle.theorem_draws.proofs.Seeing.{visible-is-seen}
-use Rattle.theorem_draws.proofs.Sheets.{call-drawn, build-answered, each-point, step-four, step-four-asks-visible, covered-point-dropped, dropped-point-short, simplified-so}
+use Rattle.theorem_draws.proofs.Sheets.{call-drawn, build-answered, step-four-leaves, step-four, step-four-asks-visible, covered-point-dropped, dropped-point-short, each-point, simplified-so, unsimplified-so, sheet-paths}
 use Rattle.theorem_demand3.specs.Demand3.{EyeTest, PremiseOn, SomeShort, Asked, Demand3}
 use Rattle.theorem_demand3.proofs.Answers.{rows-left, yes-or-no}
 use Rattle.theorem_demand3.proofs.Chains.{all-in-words, with-points}
-use Rattle.theorem_demand3.proofs.Traces.{passed-left, on-sheet}
+use Rattle.theorem_demand3.proofs.Traces.{on-sheet}
 
 -- ---- where the eye test is answered, eye and point have passed 8 and 9
 module _ {s : Scene} {eye point : Vector} {a : Sight} (E : EyeTest s eye point a) where
@@ -67,8 +63,7 @@ module _ {s : Scene} {eye point : Vector} {a : Sight} (E : EyeTest s eye point a
 module _ (s s′ : Scene) (i j : ℕ) (same : SameSolid (s .numbers) (s .marks) (s′ .numbers) (s′ .marks) i j) (long : entriesOf s * 16 ≤ length (s .numbers)) (mem : Member j (drawn (s′ .marks)))
     (eye point : Vector) (covers : CoversPoint (solidIn s i) eye point) (premise : PremiseOn eye point) where
   covers-there : (n : ℕ) → checkOf s′ ≡ Passing n → CoversPoint (solidIn s′ j) eye point
-  covers-there n is =
-      subst (λ (x : Shape). CoversPoint x eye point) (same-solid (s .numbers) (s .marks) (s′ .numbers) (s′ .marks) long (omega (arith, accepted-numbers s′ n is)) i j same) covers
+  covers-there n is = covers-alike s s′ i j same long n is eye point covers
 
   by-eye : (a : Sight) → EyeTest s′ eye point a → a ≡ Hidden
   by-eye a E =
@@ -111,8 +106,8 @@ module _ {s : Scene} {v : View} {w : Places} {q : Paths} (D : Drawing s v w q) (
       let e = step-four-asks-visible D point put left _ _ _ rows in
       let f = step-four D point put left in
       record {
-        answer = seenIn s (v .eye) point;
         test = record { nodeBoxes = _; nodeMarks = _; order = _; built = rows; asked = sym e; answers = sure };
+        on-all-rows = step-four-asks-visible D point put left;
         passed-if-yes = f .0;
         dropped-if-no = f .1;
       }
@@ -147,11 +142,15 @@ demand-3 = record {
   hidden-by-a-solid = by-a-solid;
   dropped-by-a-solid = λ s v D point put hidden. dropped-point-short D point put hidden;
   one-answer = one-sight;
+  builds = λ s v D. build-answered D;
   step-four = λ s v D point put left. asked-in-draw D point put left;
-  none-lost = λ s v D point put pass. passed-left D point put pass;
-  all-seen = λ s v D path among x on. on-sheet D path among x on;
+  each = λ s v D point put. each-point D point put;
+  leaves = λ s v D. step-four-leaves D;
   simplified-alone = λ xs ss t room startRoom n m ys us r i j e f. all-in-words t _ _ (with-points (pathsOf (allPoints xs) ss)) (call-ends xs ss t room startRoom n m f .1 i j e);
   simplified-in-a-draw = λ s v D h. all-in-words millionth _ _ (with-points (pathsOf (D .passed .vertices) (D .passed .starts))) (simplified-so D h);
+  unsimplified = λ s v D h. unsimplified-so D h;
+  sheet = λ s v D. sheet-paths D;
+  all-seen = λ s v D path among x on. on-sheet D path among x on;
   of-build = built-so;
   of-draw = λ s v w n m xs ss r i j e f. call-drawn s v w n m f i j e;
 }

@@ -55,11 +55,24 @@ use Rattle.theorem_demand3.specs.Demand3.{PremiseOn}
 use Rattle.theorem_demand3.specs.Witnesses.{atOrigin, sampleYard, sampleView, samplePlaces, sampleDrawing, sampleBehind, widerPlaces, SampleDraws}
 
 drawn-there : drawOf sampleYard sampleView samplePlaces ≡ answered sampleDrawing
-unfolding drawOf drawnAfter render rendered staged seenLines onTree nearestOf stepping mapped collectedAll collected readLined linedOf bare detailAt ownLines solidPaths ownPaths trianglePaths addPaths clipFilter bySight filteredFrom pathFilter stepped push pushAll front pathsOf opened closedStarts closed onePath each stage viewOk extentOk stepOk viewport argsOf plantedOf sees byDistance visit scan tried nearer backward padded flat checkOf firstMet lengthsAgree allOf known isKind isStripes names namedBefore deepest depthsTo partsFree entryOk partsOk ownersOk goodStarts measured simpleMeasured solidMeasured triangleMeasured exceeds placingOk withinBox withinPoint within listTo finiteFour finiteMatrix simpleOf simpleOr entryOf ownEntry shapeOf read shapeBox shapeHit hitOf triangleHit triangleBox solidBox unnamed nodesFor orderFor layout rootOf belowOf leaves belowRoot treeOf planOf planAxis arranged splitBy hullOf hull boxTest overlap slab ordered contains inRange extendBox identityM scaleM translateM rowMul mulM mulPosition mulPositionW eyeRay sqrtOf distanceOf lengthOf lengthSquared subV divV divScalar dot minV maxV minComponent maxComponent minOf maxOf addV mulScalar cross add sub mul div lt le eq neg isNan ofBits
+unfolding drawOf drawnAfter render rendered staged seenLines onTree nearestOf stepping mapped collectedAll collected readLined linedOf bare detailAt ownLines solidPaths ownPaths
+    trianglePaths addPaths clipFilter bySight filteredFrom pathFilter stepped push pushAll front pathsOf opened closedStarts closed onePath each stage viewOk extentOk stepOk viewport argsOf
+    plantedOf sees byDistance visit scan tried nearer backward padded flat checkOf firstMet lengthsAgree allOf known isKind isStripes names namedBefore deepest depthsTo partsFree entryOk
+    partsOk ownersOk goodStarts measured simpleMeasured solidMeasured triangleMeasured exceeds placingOk withinBox withinPoint within listTo finiteFour finiteMatrix simpleOf simpleOr entryOf
+    ownEntry shapeOf read shapeBox shapeHit hitOf triangleHit triangleBox solidBox unnamed nodesFor orderFor layout rootOf belowOf leaves belowRoot treeOf planOf planAxis arranged splitBy
+    hullOf hull boxTest overlap slab ordered contains inRange extendBox identityM scaleM translateM rowMul mulM mulPosition mulPositionW eyeRay sqrtOf distanceOf lengthOf lengthSquared subV
+    divV divScalar dot minV maxV minComponent maxComponent minOf maxOf addV mulScalar cross add sub mul div lt le eq neg isNan ofBits
 drawn-there = refl
 
 nothing-there : drawOf sampleBehind sampleView widerPlaces ≡ answered noPaths
-unfolding drawOf drawnAfter render rendered staged seenLines onTree nearestOf stepping mapped collectedAll collected readLined linedOf bare detailAt ownLines solidPaths ownPaths trianglePaths addPaths clipFilter bySight filteredFrom pathFilter stepped push pushAll front pathsOf opened closedStarts closed onePath each stage viewOk extentOk stepOk viewport argsOf plantedOf sees byDistance visit scan tried nearer backward padded flat checkOf firstMet lengthsAgree allOf known isKind isStripes names namedBefore deepest depthsTo partsFree entryOk partsOk ownersOk goodStarts measured simpleMeasured solidMeasured triangleMeasured exceeds placingOk withinBox withinPoint within listTo finiteFour finiteMatrix simpleOf simpleOr entryOf ownEntry shapeOf read shapeBox shapeHit hitOf triangleHit triangleBox solidBox unnamed nodesFor orderFor layout rootOf belowOf leaves belowRoot treeOf planOf planAxis arranged splitBy hullOf hull boxTest overlap slab ordered contains inRange extendBox identityM scaleM translateM rowMul mulM mulPosition mulPositionW eyeRay sqrtOf distanceOf lengthOf lengthSquared subV divV divScalar dot minV maxV minComponent maxComponent minOf maxOf addV mulScalar cross add sub mul div lt le eq neg isNan ofBits cubeMeasured cubeHit pathsStriped faces stripe stripesFrom stripeAt sides across ofInt
+unfolding drawOf drawnAfter render rendered staged seenLines onTree nearestOf stepping mapped collectedAll collected readLined linedOf bare detailAt ownLines solidPaths ownPaths
+    trianglePaths addPaths clipFilter bySight filteredFrom pathFilter stepped push pushAll front pathsOf opened closedStarts closed onePath each stage viewOk extentOk stepOk viewport argsOf
+    plantedOf sees byDistance visit scan tried nearer backward padded flat checkOf firstMet lengthsAgree allOf known isKind isStripes names namedBefore deepest depthsTo partsFree entryOk
+    partsOk ownersOk goodStarts measured simpleMeasured solidMeasured triangleMeasured exceeds placingOk withinBox withinPoint within listTo finiteFour finiteMatrix simpleOf simpleOr entryOf
+    ownEntry shapeOf read shapeBox shapeHit hitOf triangleHit triangleBox solidBox unnamed nodesFor orderFor layout rootOf belowOf leaves belowRoot treeOf planOf planAxis arranged splitBy
+    hullOf hull boxTest overlap slab ordered contains inRange extendBox identityM scaleM translateM rowMul mulM mulPosition mulPositionW eyeRay sqrtOf distanceOf lengthOf lengthSquared subV
+    divV divScalar dot minV maxV minComponent maxComponent minOf maxOf addV mulScalar cross add sub mul div lt le eq neg isNan ofBits cubeMeasured cubeHit pathsStriped faces stripe
+    stripesFrom stripeAt sides across ofInt
 nothing-there = refl
 
 empty-sheet : Drawing sampleBehind sampleView widerPlaces noPaths

@@ -13,7 +13,7 @@ use Rattle.geometry.specs.declared.vector.Vector.{Vector}
 use Rattle.matrix.specs.Matrices.{mulPosition, mulPositionW}
 use Rattle.rows.specs.Starts.{nextStart}
 use Rattle.lists.specs.Lists.{Member, Pairwise}
-use Rattle.lists.proofs.Members.{member-append, append-member}
+use Rattle.lists.proofs.Members.{member-append}
 use Rattle.scene.specs.Scenes.{Scene}
 use Rattle.paths.specs.Paths.{Paths, pathsOf, withPoints}
 use Rattle.paths.specs.Ends.{nowhere}
@@ -30,7 +30,7 @@ use Rattle.theorem_filters.proofs.Passing.{clipped-is-dropped}
 use Rattle.draw_render.specs.Render.{Places, stepping}
 use Rattle.floats.specs.Arith.{millionth}
 use Rattle.draw.specs.Drawing.{seenIn, Drawing}
-use Rattle.theorem_draws.specs.Sheets.{Put, PassedIn, HiddenIn}
+use Rattle.theorem_draws.specs.Sheets.{Put, ClippedIn, PassedIn, HiddenIn}
 use Rattle.theorem_draws.proofs.Sheets.{each-point, step-four, step-four-leaves, simplified-so, unsimplified-so, sheet-paths}
 use Rattle.theorem_demand3.specs.Demand3.{Seen}
 use Rattle.theorem_demand3.proofs.Chains.{with-points}
@@ -109,24 +109,6 @@ module _ (test : Vector → Test) where
     | inr h ↦ let r = kept-from ps x h in record { path = r .path; among = inr (r .among); point = r .point; on = r .on; kept = r .kept }
   ]
 
-  -- and what it keeps is there
-  kept-there : (vs : List Vector) (v : Vector) → Member v vs → (x : Vector) → test v ≡ Keep x → Member x (keptIn test vs)
-  unfolding keptIn before
-  kept-there [] v m x e = absurd m
-  kept-there (u ∷ vs) v (inl h) x e = let k : test u ≡ Keep x = ap test h ∙ e in rw k (inl refl)
-  kept-there (u ∷ vs) v (inr m) x e = go (test u) (kept-there vs v m x e)
-    where
-      go : (t : Test) → Member x (keptIn test vs) → Member x (before t (keptIn test vs))
-      go (Keep w) h = inr h
-      go Drop h = h
-      go (Refused k) h = h
-
-  kept-all : (ps : List (List Vector)) (p : List Vector) → Member p ps → (v : Vector) → Member v p → (x : Vector) → test v ≡ Keep x → Member x (keptOf test ps)
-  unfolding keptOf
-  kept-all [] p m v n x e = absurd m
-  kept-all (r ∷ ps) p (inl h) v n x e = append-member x (keptIn test r) (keptOf test ps) (inl (kept-there r v (subst (λ (l : List Vector). Member v l) (sym h) n) x e))
-  kept-all (r ∷ ps) p (inr m) v n x e = append-member x (keptIn test r) (keptOf test ps) (inr (kept-all ps p m v n x e))
-
 -- ---- a simplified path has points of the path alone
 kept-places : (bs : List ℕ) (a z : ℕ) → Chain _<_ a bs z → (c : ℕ) → Member c (a ∷ bs) → c < suc z
 unfolding Chain
@@ -169,7 +151,7 @@ module _ {s : Scene} {v : View} {w : Places} {q : Paths} (D : Drawing s v w q) w
       go y (src .point) put (src .kept) (each-point D (src .point) put)
     where
       go : (y u : Vector) (put : Put D u) → test u ≡ Keep y
-          → ((LeftAfterClipping (v .matrix) u → ⊥) × (test u ≡ Drop)) ⊎ (PassedIn s v u ⊎ HiddenIn s v u) → Seen D (mulPosition (viewport (v .width) (v .height)) y)
+          → ClippedIn s v u ⊎ (PassedIn s v u ⊎ HiddenIn s v u) → Seen D (mulPosition (viewport (v .width) (v .height)) y)
       go y u put k (inl out) = absurd (keep-drop (sym k ∙ out .1))
       go y u put k (inr (inr hid)) = absurd (keep-drop (sym k ∙ hid .dropped))
       go y u put k (inr (inl pass)) =
@@ -181,12 +163,6 @@ module _ {s : Scene} {v : View} {w : Places} {q : Paths} (D : Drawing s v w q) w
             seen = step-four D u put left .0 .0 pass;
             lands = ap (mulPosition (viewport (v .width) (v .height))) (keep-same (sym k ∙ pass));
           }
-
-  -- what step 4 passes it leaves
-  pub passed-left : (point : Vector) → Put D point → PassedIn s v point → Member (mulPositionW (v .matrix) point) (D .passed .vertices)
-  passed-left point put pass =
-      subst (λ (l : List Vector). Member (mulPositionW (v .matrix) point) l) (sym (step-four-leaves D))
-      (kept-all test (pathsOf (D .lines .vertices) (D .lines .starts)) (put .path) (put .among) point (put .on) (mulPositionW (v .matrix) point) pass)
 
   left-passed : (b : Bool) → stepping v ≡ b → (p : List Vector) → Member p (pathsOf (D .left .vertices) (D .left .starts)) → (y : Vector) → Member y p → Member y (D .passed .vertices)
   left-passed true h p m y n =

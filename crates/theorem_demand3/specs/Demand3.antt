@@ -6,13 +6,16 @@
 --   shapeBox, shapeHit    scene_shape/specs/Shapes.antt: the solid's own box, and the hit that it gives a ray with no tree and no other solid
 --   SameSolid             theorem_solids/specs/Same.antt: kinds, used marks (part indices aside) and used numbers agree throughout
 --   drawn, Draws          check_parts/specs/Drawn.antt, theorem_covering/specs/Scenes.antt: the entries that nobody names; the solid is that of one of them
---   visibleOf, BuiltRows  query_scene/specs/Queries.antt, theorem_covering/specs/Scenes.antt: the public eye test; the rows that the public build leaves of a scene
---   Drawing, Put          draw/specs/Drawing.antt, theorem_draws/specs/Sheets.antt: the six steps of an answered draw; a point that is put to its step 4
---   HiddenIn, PassedIn    theorem_draws/specs/Sheets.antt: step 4 drops the point as hidden; step 4 passes it
+--   buildOf, visibleOf    query_scene/specs/Queries.antt: what the public build answers of a scene; the public eye test
+--   BuiltRows             theorem_covering/specs/Scenes.antt: the rows that the public build leaves of a scene
+--   Drawing, seenIn       draw/specs/Drawing.antt: the six steps of an answered draw; the eye test that its step 4 puts, on the tree of the scene
+--   Put, ClippedIn        theorem_draws/specs/Sheets.antt: the point is put to step 4; step 4 clips it away
+--   PassedIn, HiddenIn    theorem_draws/specs/Sheets.antt: step 4 passes the point; step 4 drops it as hidden
+--   clipFilter, keptOf    draw_clip/specs/Clip.antt, theorem_filters/specs/Kept.antt: step 4's test of a point; what a test keeps of the points of all paths, in order
 use Prim.Native.Nat.{ℕ, _*_, _-_, _<_, _≤_}
 use mathlib.Core.Path.{_≡_}
 use mathlib.Core.Logic.{_⊎_}
-use mathlib.Core.Bool.{true, not}
+use mathlib.Core.Bool.{true, false, not}
 use mathlib.Core.List.{List, [], _∷_, map}
 use lib.ListN.{length, take}
 use lib.Dec.{T}
@@ -34,7 +37,7 @@ use Rattle.tree_sight.specs.declared.Sight.{Sight}
 use Rattle.tree_sight.specs.declared.Sight.the-variants.{Visible, Hidden}
 use Rattle.query_scene.specs.declared.Built.{Built}
 use Rattle.query_scene.specs.declared.Built.the-variants.{Nodes}
-use Rattle.query_scene.specs.Queries.{TreeBuilt, visibleOf}
+use Rattle.query_scene.specs.Queries.{TreeBuilt, buildOf, visibleOf}
 use Rattle.theorem_solids.specs.Same.{SameSolid}
 use Rattle.theorem_hiding.specs.Covers.{NoMinusZero}
 use Rattle.theorem_covering.specs.Scenes.{CoversPoint, Short, Draws, BuiltRows}
@@ -46,11 +49,13 @@ use Rattle.path_rdp.specs.Rdp.{vertex}
 use Rattle.path_simplify.specs.Simplify.{simplifyCall}
 use Rattle.view.specs.Views.{viewport}
 use Rattle.view.specs.declared.View.{View}
+use Rattle.draw_clip.specs.Clip.{clipFilter}
+use Rattle.theorem_filters.specs.Kept.{keptOf}
 use Rattle.theorem_filters.specs.Passing.{Exactly, LeftAfterClipping}
 use Rattle.draw_render.specs.Render.{Places, stepping}
 use Rattle.draw.specs.Draw.{drawOf}
 use Rattle.draw.specs.Drawing.{solidIn, seenIn, Drawing}
-use Rattle.theorem_draws.specs.Sheets.{Put, PassedIn, HiddenIn}
+use Rattle.theorem_draws.specs.Sheets.{Put, ClippedIn, PassedIn, HiddenIn}
 
 -- ---- hiding
 -- Document 01's answered, of the eye test: the public build is answered and leaves these rows; the public visible, asked on them, answers a, which is no refusal.
@@ -77,12 +82,14 @@ pub record HiddenFrom (s : Scene) (eye point : Vector) : Type 0 where
 abbrev pub SomeShort : Scene → Vector → Vector → Type 0
 SomeShort s eye point = (solid : Shape) × Draws s solid × Short solid eye point
 
--- A draw's step 4 puts that question: there is an answer, and the point is passed exactly if it is yes, and dropped as hidden exactly if it is no.
+-- A draw's step 4 puts that question: its answer is the public visible's, on all rows that the public build leaves; the point is passed exactly if it is yes, and dropped as
+-- hidden exactly if it is no.
 pub record Asked (s : Scene) (v : View) (point : Vector) : Type 0 where
-  pub answer : Sight
-  pub test : EyeTest s (v .eye) point answer
-  pub passed-if-yes : Exactly (PassedIn s v point) (answer ≡ Visible)
-  pub dropped-if-no : Exactly (HiddenIn s v point) (answer ≡ Hidden)
+  pub test : EyeTest s (v .eye) point (seenIn s (v .eye) point)
+  pub on-all-rows : (nodeBoxes : List Float) (nodeMarks order : List ℕ) → BuiltRows s nodeBoxes nodeMarks order
+      → visibleOf s nodeBoxes nodeMarks order (v .eye) point ≡ seenIn s (v .eye) point
+  pub passed-if-yes : Exactly (PassedIn s v point) (seenIn s (v .eye) point ≡ Visible)
+  pub dropped-if-no : Exactly (HiddenIn s v point) (seenIn s (v .eye) point ≡ Hidden)
 
 -- what stands on a sheet at x: a point that was put to step 4, left after clipping and seen, as it is projected and mapped
 pub record Seen {s : Scene} {v : View} {w : Places} {q : Paths} (D : Drawing s v w q) (x : Vector) : Type 0 where
@@ -138,17 +145,26 @@ pub record Demand3 : Type 0 where
   -- No point is hidden, or dropped as hidden, unless some solid's own returned distance falls short.
   pub hidden-by-a-solid : (s : Scene) (eye point : Vector) → EyeTest s eye point Hidden → SomeShort s eye point
   pub dropped-by-a-solid : (s : Scene) (v : View) {w : Places} {q : Paths} (D : Drawing s v w q) (point : Vector) → Put D point → HiddenIn s v point → SomeShort s (v .eye) point
-  -- The eye test has one answer, whatever the lengths of the slices; a draw puts that question for each point left after clipping; what it passes is left by step 4, and
-  -- nothing stands on the sheet that was not seen.
+  -- The eye test has one answer, whatever the lengths of the slices. Where a draw is answered the public build is answered too, with as many places, and step 4 puts that
+  -- question for each point left after clipping. Each point put to step 4 is clipped away, or passed, or dropped as hidden: there is no fourth way. Step 4 leaves the points that
+  -- it passes, as they are projected, in order.
   pub one-answer : (s : Scene) (eye point : Vector) (a b : Sight) → EyeTest s eye point a → EyeTest s eye point b → a ≡ b
+  pub builds : (s : Scene) (v : View) {w : Places} {q : Paths} (D : Drawing s v w q) → buildOf s (w .nodes) (w .order) ≡ Nodes (D .nodes)
   pub step-four : (s : Scene) (v : View) {w : Places} {q : Paths} (D : Drawing s v w q) (point : Vector) → Put D point → LeftAfterClipping (v .matrix) point → Asked s v point
-  pub none-lost : (s : Scene) (v : View) {w : Places} {q : Paths} (D : Drawing s v w q) (point : Vector) → Put D point → PassedIn s v point → Member (mulPositionW (v .matrix) point) (D .passed .vertices)
-  pub all-seen : (s : Scene) (v : View) {w : Places} {q : Paths} (D : Drawing s v w q) (path : List Vector) → Member path (pathsOf (q .vertices) (q .starts)) → (x : Vector) → Member x path → Seen D x
+  pub each : (s : Scene) (v : View) {w : Places} {q : Paths} (D : Drawing s v w q) (point : Vector) → Put D point → ClippedIn s v point ⊎ (PassedIn s v point ⊎ HiddenIn s v point)
+  pub leaves : (s : Scene) (v : View) {w : Places} {q : Paths} (D : Drawing s v w q)
+      → D .passed .vertices ≡ keptOf (clipFilter (v .matrix) (seenIn s (v .eye))) (pathsOf (D .lines .vertices) (D .lines .starts))
   -- A simplified path, whatever its threshold: in the public call simplify, of the slices that it leaves; and in a draw with step > 0, from what step 4 leaves to what step 6 maps.
+  -- At step 0 nothing is simplified.
   pub simplified-alone : (xs : List Float) (ss : List ℕ) (t : Float) (room startRoom n m : ℕ) (ys : List Float) (us : List ℕ) (r : Counts) (i j : ℕ) → r ≡ Both i j
       → Finished (simplifyCall xs ss t room startRoom) n m ys us r → AllSimplified t (pathsOf (allPoints xs) ss) (pathsOf (points i ys) (take j us))
   pub simplified-in-a-draw : (s : Scene) (v : View) {w : Places} {q : Paths} (D : Drawing s v w q) → stepping v ≡ true
       → AllSimplified millionth (pathsOf (D .passed .vertices) (D .passed .starts)) (pathsOf (D .left .vertices) (D .left .starts))
+  pub unsimplified : (s : Scene) (v : View) {w : Places} {q : Paths} (D : Drawing s v w q) → stepping v ≡ false → D .left ≡ D .passed
+  -- The sheet, path by path: what is left, each point mapped by the viewport matrix. Nothing stands on it that was not seen.
+  pub sheet : (s : Scene) (v : View) {w : Places} {q : Paths} (D : Drawing s v w q)
+      → pathsOf (q .vertices) (q .starts) ≡ map (map (mulPosition (viewport (v .width) (v .height)))) (pathsOf (D .left .vertices) (D .left .starts))
+  pub all-seen : (s : Scene) (v : View) {w : Places} {q : Paths} (D : Drawing s v w q) (path : List Vector) → Member path (pathsOf (q .vertices) (q .starts)) → (x : Vector) → Member x path → Seen D x
   -- What `query_scene::build` and `draw::draw` promise (`ensures`), where they answer, is what is asked above of a build and of a draw.
   pub of-build : (s : Scene) (boxes₀ : List Float) (marks₀ order₀ : List ℕ) (r : Built) (nodeBoxes : List Float) (nodeMarks order : List ℕ) (n : ℕ) → r ≡ Nodes n
       → TreeBuilt s boxes₀ marks₀ order₀ r nodeBoxes nodeMarks order → BuiltRows s nodeBoxes nodeMarks order

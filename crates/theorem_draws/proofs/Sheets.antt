@@ -1,4 +1,4 @@
--- Demand 3 in a draw, proved: the statements are in specs/Sheets.antt.
+-- What demand 3 rests on in a draw, wherever one is answered.
 use Prim.Native.Nat.{ℕ, zero, suc, _<_}
 use mathlib.Core.Path.{_≡_, refl, sym, ap, subst, _∙_}
 use mathlib.Core.Logic.{_⊎_, inl, inr}
@@ -22,10 +22,7 @@ use Rattle.lists.specs.Lists.{Member, Pairwise}
 use Rattle.limits.specs.Limits.{withinPoint, finiteMatrix}
 use Rattle.limits.proofs.Limits.{within-point}
 use Rattle.check_parts.specs.Drawn.{drawn}
-use Rattle.check_scene.specs.Checks.{checkOf}
 use Rattle.scene.specs.Scenes.{Scene}
-use Rattle.check_scene.specs.declared.Verdict.the-variants.{Accepted as Passing}
-use Rattle.theorem_solids.specs.Same.{SameSolid}
 use Rattle.tree_sight.specs.Sights.{eyeRay, Answered}
 use Rattle.tree_sight.specs.declared.Sight.{Sight}
 use Rattle.tree_sight.specs.declared.Sight.the-variants.{Visible, Hidden, Refused as NotSeen}
@@ -35,7 +32,6 @@ use Rattle.query_scene.specs.Queries.{buildOf, visibleOf}
 use Rattle.query_scene.specs.declared.Built.the-variants.{Nodes}
 use Rattle.theorem_covering.proofs.Trees.{scene-tree}
 use Rattle.theorem_covering.specs.Scenes.{CoversPoint, Short, Draws, BuiltRows}
-use Rattle.theorem_covering.proofs.Covering.{covers-alike}
 use Rattle.paths.specs.Answers.{answered, refused}
 use Rattle.paths.specs.Paths.{Paths, pathsOf, withPoints}
 use Rattle.paths.specs.Ends.{held, Finished}
@@ -62,7 +58,7 @@ use Rattle.draw_render.specs.Render.{Places, stepping, simplifiedLines, mapped}
 use Rattle.draw.specs.Draw.{drawOf}
 use Rattle.draw.specs.Drawing.{solidIn, seenIn, Drawing}
 use Rattle.draw.proofs.Answered.{drawn-so}
-use Rattle.theorem_draws.specs.Sheets.{Put, PassedIn, HiddenIn, DrawHolds, DrawClaims}
+use Rattle.theorem_draws.specs.Sheets.{Put, ClippedIn, PassedIn, HiddenIn}
 use Rattle.theorem_draws.proofs.Seeing.{build-alike, seen-nothing, seen-tree, visible-is-seen}
 
 -- The public call, where it answers with so many points and paths: they stand in its slices, and are the drawing.
@@ -159,24 +155,16 @@ module _ {s : Scene} {v : View} {w : Places} {q : Paths} (D : Drawing s v w q) w
   dropped-point-short point put d = short-of-eye point put (d .left) (step-four point put (d .left) .1 .0 d)
 
   -- Each point put to step 4 is clipped away, or passed, or dropped as hidden: there is no fourth way.
-  pub each-point : (point : Vector) → Put D point → ((LeftAfterClipping (v .matrix) point → ⊥) × (clipFilter (v .matrix) (seenIn s (v .eye)) point ≡ Drop)) ⊎ (PassedIn s v point ⊎ HiddenIn s v point)
+  pub each-point : (point : Vector) → Put D point → ClippedIn s v point ⊎ (PassedIn s v point ⊎ HiddenIn s v point)
   each-point point put = go (clipped-or-left (contains clipBox (mulPositionW (v .matrix) point)))
     where
       by : LeftAfterClipping (v .matrix) point → (seenIn s (v .eye) point ≡ Visible) ⊎ (seenIn s (v .eye) point ≡ Hidden) → PassedIn s v point ⊎ HiddenIn s v point
       by left (inl e) = inl (step-four point put left .0 .1 e)
       by left (inr e) = inr (step-four point put left .1 .1 e)
 
-      go : (LeftAfterClipping (v .matrix) point → ⊥) ⊎ LeftAfterClipping (v .matrix) point
-          → ((LeftAfterClipping (v .matrix) point → ⊥) × (clipFilter (v .matrix) (seenIn s (v .eye)) point ≡ Drop)) ⊎ (PassedIn s v point ⊎ HiddenIn s v point)
+      go : (LeftAfterClipping (v .matrix) point → ⊥) ⊎ LeftAfterClipping (v .matrix) point → ClippedIn s v point ⊎ (PassedIn s v point ⊎ HiddenIn s v point)
       go (inl out) = inl (out, clipped-is-dropped (v .matrix) (seenIn s (v .eye)) point out)
       go (inr left) = inr (by left (yes-or-no (seenIn s (v .eye) point) (judged point put left .1)))
-
--- Solids added, removed or reordered: a point that a solid of the one scene covers is dropped as hidden in each draw of the other, if that draws the same solid.
-pub others-bring-nothing-back : (s s′ : Scene) (n : ℕ) → checkOf s ≡ Passing n → (i j : ℕ) → SameSolid (s .numbers) (s .marks) (s′ .numbers) (s′ .marks) i j → Member j (drawn (s′ .marks))
-    → (v : View) (point : Vector) → CoversPoint (solidIn s i) (v .eye) point → T (not (eq (distanceOf (v .eye) point) zeroF)) → NoMinusZero (eyeRay (v .eye) point .direction)
-    → {w : Places} {q : Paths} (D : Drawing s′ v w q) → Put D point → LeftAfterClipping (v .matrix) point → HiddenIn s′ v point × (PassedIn s′ v point → ⊥)
-others-bring-nothing-back s s′ n is i j same drawn′ v point c apart direction D put left =
-    covered-point-dropped D point put left (solidIn s′ j) (covers-alike s s′ n (D .count) is (D .accepted) i j same (v .eye) point c) apart direction (j, drawn′, refl)
 
 -- ---- simplification
 handed-over : (p : Paths) {o : Paths} → handed p ≡ answered o → (pointsOk (p .vertices) ≡ true) × (p ≡ o)
@@ -235,27 +223,3 @@ pub sheet-paths : {s : Scene} {v : View} {w : Places} {q : Paths} (D : Drawing s
 unfolding mapped
 sheet-paths {s} {v} D =
     ap (λ (p : Paths). pathsOf (p .vertices) (p .starts)) (D .maps) ∙ paths-map (mulPosition (viewport (v .width) (v .height))) (D .left .vertices) (D .left .starts)
-
-holds : {s : Scene} {v : View} {w : Places} {q : Paths} (D : Drawing s v w q) → DrawHolds D
-holds D =
-    record {
-      builds = build-answered D;
-      leaves = step-four-leaves D;
-      tests = step-four D;
-      asks = step-four-asks-visible D;
-      covered = λ point put left solid covers apart draws. covered-point-dropped D point put left solid covers (apart .distance) (apart .direction) draws;
-      short = dropped-point-short D;
-      each = each-point D;
-      simplified = simplified-so D;
-      unsimplified = unsimplified-so D;
-      sheet = sheet-paths D;
-    }
-
--- Demand 3 in a draw.
-pub draw-claims : DrawClaims
-draw-claims =
-    record {
-      call = call-drawn;
-      draw = holds;
-      others = λ s s′ n is i j same drawn′ v point c apart. others-bring-nothing-back s s′ n is i j same drawn′ v point c (apart .distance) (apart .direction);
-    }

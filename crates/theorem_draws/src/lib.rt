@@ -1,1 +1,1 @@
-// Demand 3 in a draw: statements in specs/, proofs in proofs/.
+// Demand 3 in a draw: terms in specs/, what the demand rests on in proofs/.
