@@ -1,30 +1,28 @@
 -- What the public call answers and leaves. Assumes nothing.
 use Prim.Native.Nat.{ℕ, _+_, _-_, _*_, _/_, _≤_, _<_}
-use mathlib.Core.Path.{_≡_, refl, sym, ap, _∙_}
-use mathlib.Core.Bool.{Bool, true, false, _&&_}
+use mathlib.Core.Path.{_≡_, sym, ap, _∙_}
+use mathlib.Core.Bool.{Bool, true, false}
 use mathlib.Core.List.{List, [], _++_}
 use native.Mathlib.Omega.{arith}
-use lib.Dec.{leb}
 use lib.Ieee.{Float}
 use lib.ListN.{length, take, replicate}
 use lib.Seq.{length-take-le, take-at}
-use borrow.Author.Tests.{lt-leb, le-leb, leb-true}
+use borrow.Author.Tests.{lt-leb, le-leb}
 use Rattle.floats.specs.Arith.{zeroF}
-use Rattle.floats.proofs.Tests.{clash}
 use Rattle.rows.specs.Rows.{padded}
 use Rattle.rows.proofs.Rows.{padded-take}
 use Rattle.view.specs.declared.View.{View}
 use Rattle.scene.specs.Scenes.{sceneOf}
 use Rattle.text_tokens.specs.Tokens.{Got, no, got, andThen, left, part, isOver}
 use Rattle.text_heads.specs.Heads.{viewIn}
-use Rattle.text_heads.specs.Cursors.{sceneUpto, viewedAs, Sized}
+use Rattle.text_heads.specs.Cursors.{sceneUpto, viewedAs}
 use Rattle.text_heads.specs.declared.Cursor.{Cursor}
 use Rattle.text_heads.specs.declared.Next.{Next}
 use Rattle.text_heads.specs.declared.Next.the-variants.{To, No}
 use Rattle.text_heads.specs.declared.Viewed.{Viewed}
 use Rattle.text_heads.specs.declared.Viewed.the-variants.{Seen, Unseen}
 use Rattle.text_scene.specs.Texts.{Yard, linesLeft, wholeLine, formsIn, emptyScene, yardIn, yardOf}
-use Rattle.text_scene.specs.Answers.{roomy, readOf, readingOf, sceneRead}
+use Rattle.text_scene.specs.Answers.{readingOf, sceneRead}
 use Rattle.text_scene.specs.Readings.{lineAs, sceneAs, readingAs, WithinReading, ReadingFits}
 use Rattle.text_scene.specs.declared.Line.{Line}
 use Rattle.text_scene.specs.declared.Line.the-variants.{At, Over}
@@ -70,11 +68,12 @@ module _ (s : List ℕ) where
           unfolding sceneAs andThen readingAs sceneUpto
           yard-read t = sym (seen ∙ rw t)
 
--- ---- the slices
-pub fits-within : (r : Reading) {ns : List Float} {ms : List ℕ} {ps : List Float} {ss os : List ℕ} → WithinReading r → Sized ns ms ps ss os → ReadingFits r ns ms ps ss os
+-- ---- the arrays
+pub fits-within : (r : Reading) (ns : List Float) (ms : List ℕ) (ps : List Float) (ss os : List ℕ) → WithinReading r
+    → length ns ≡ 8192 → length ms ≡ 2048 → length ps ≡ 6144 → length ss ≡ 2048 → length os ≡ 2048 → ReadingFits r ns ms ps ss os
 unfolding WithinReading ReadingFits
-fits-within (SceneRead v e p l) w z = (omega (arith, w .0, z .numbers), (omega (arith, w .0, z .marks), (omega (arith, w .1 .0, z .points), (omega (arith, w .1 .1, z .starts), omega (arith, w .1 .1, z .owners)))))
-fits-within Refused w z = tt
+fits-within (SceneRead v e p l) ns ms ps ss os w a b c d g = (omega (arith, w .0, a), (omega (arith, w .0, b), (omega (arith, w .1 .0, c), (omega (arith, w .1 .1, d), omega (arith, w .1 .1, g)))))
+fits-within Refused ns ms ps ss os w a b c d g = tt
 
 pub read-fits : {r : Reading} {v : View} {e p l : ℕ} (ns : List Float) (ms : List ℕ) (ps : List Float) (ss os : List ℕ) → ReadingFits r ns ms ps ss os → r ≡ SceneRead v e p l
     → (e * 16 ≤ length ns) × ((e * 4 ≤ length ms) × ((p * 3 ≤ length ps) × ((l ≤ length ss) × (l ≤ length os))))
@@ -181,66 +180,3 @@ module _ (x : Got Yard) (ns : List Float) (ms : List ℕ) (ps : List Float) (ss 
 pub refused-fits : (ns : List Float) (ms : List ℕ) (ps : List Float) (ss os : List ℕ) → ReadingFits Refused ns ms ps ss os
 unfolding ReadingFits
 refused-fits ns ms ps ss os = tt
-
--- ---- the places of the slices
-and-first : (a b : Bool) → (a && b) ≡ true → a ≡ true
-and-first true b e = refl
-and-first false b e = e
-
-and-second : (a b : Bool) → (a && b) ≡ true → b ≡ true
-and-second true b e = e
-and-second false b e = clash e
-
-module _ (ns : List Float) (ms : List ℕ) (ps : List Float) (ss os : List ℕ) where
-  pub roomy-sized : {b : Bool} → b ≡ roomy ns ms ps ss os → b ≡ true → Sized ns ms ps ss os
-  unfolding roomy
-  roomy-sized e t =
-      let a : roomy ns ms ps ss os ≡ true = sym e ∙ t in
-      let b = and-second (leb 8192 (length ns)) _ a in
-      let c = and-second (leb 2048 (length ms)) _ b in
-      let d = and-second (leb 6144 (length ps)) _ c in
-      record {
-        numbers = leb-true 8192 (length ns) (and-first (leb 8192 (length ns)) _ a);
-        marks = leb-true 2048 (length ms) (and-first (leb 2048 (length ms)) _ b);
-        points = leb-true 6144 (length ps) (and-first (leb 6144 (length ps)) _ c);
-        starts = leb-true 2048 (length ss) (and-first (leb 2048 (length ss)) (leb 2048 (length os)) d);
-        owners = leb-true 2048 (length os) (and-second (leb 2048 (length ss)) (leb 2048 (length os)) d);
-      }
-
-  module _ (a : 8192 ≤ length ns) where
-    module _ (b : 2048 ≤ length ms) where
-      module _ (c : 6144 ≤ length ps) where
-        module _ (d : 2048 ≤ length ss) where
-          pub roomy-all : 2048 ≤ length os → true ≡ roomy ns ms ps ss os
-          unfolding roomy
-          roomy-all e = rw (le-leb 8192 (length ns) a, le-leb 2048 (length ms) b, le-leb 6144 (length ps) c, le-leb 2048 (length ss) d, le-leb 2048 (length os) e)
-
-          pub few-owners : length os < 2048 → false ≡ roomy ns ms ps ss os
-          unfolding roomy
-          few-owners e = rw (le-leb 8192 (length ns) a, le-leb 2048 (length ms) b, le-leb 6144 (length ps) c, le-leb 2048 (length ss) d, lt-leb 2048 (length os) e)
-
-        pub few-starts : length ss < 2048 → false ≡ roomy ns ms ps ss os
-        unfolding roomy
-        few-starts e = rw (le-leb 8192 (length ns) a, le-leb 2048 (length ms) b, le-leb 6144 (length ps) c, lt-leb 2048 (length ss) e)
-
-      pub few-points : length ps < 6144 → false ≡ roomy ns ms ps ss os
-      unfolding roomy
-      few-points e = rw (le-leb 8192 (length ns) a, le-leb 2048 (length ms) b, lt-leb 6144 (length ps) e)
-
-    pub few-marks : length ms < 2048 → false ≡ roomy ns ms ps ss os
-    unfolding roomy
-    few-marks e = rw (le-leb 8192 (length ns) a, lt-leb 2048 (length ms) e)
-
-  pub few-numbers : length ns < 8192 → false ≡ roomy ns ms ps ss os
-  unfolding roomy
-  few-numbers e = rw (lt-leb 8192 (length ns) e)
-
-  -- a text is read where there is room
-  module _ (s : List ℕ) {b : Bool} (e : b ≡ roomy ns ms ps ss os) where
-    pub read-roomless : b ≡ false → no ≡ readOf s ns ms ps ss os
-    unfolding readOf
-    read-roomless f = rw (← e, f)
-
-    pub read-roomy : b ≡ true → yardOf s ≡ readOf s ns ms ps ss os
-    unfolding readOf
-    read-roomy f = rw (← e, f)

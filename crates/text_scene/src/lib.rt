@@ -1,4 +1,4 @@
-// The text of `yard` to a view and a scene in lent slices.
+// The text of `yard` to a view and a scene in lent arrays.
 ghost use mathlib.Core.Path.{_≡_};
 ghost use Prim.Native.Nat.{_+_, _≤_};
 ghost use lib.ListN.{length};
@@ -7,7 +7,7 @@ ghost use Rattle.rows.specs.Rows.{padded};
 ghost use Rattle.text_tokens.specs.Tokens.{left, part};
 ghost use Rattle.text_heads.specs.Cursors.{WithinNext, Sized};
 ghost use Rattle.text_scene.specs.Texts as Texts;
-ghost use Rattle.text_scene.specs.Answers.{readingNumber, readOf, readingOf, sceneRead, roomy};
+ghost use Rattle.text_scene.specs.Answers.{readingNumber, readingOf, sceneRead};
 ghost use Rattle.text_scene.specs.Readings.{lineAs, LineWithin, sceneAs, readingAs, WithinReading, ReadingFits};
 use text_heads::Cursor;
 use text_heads::Next;
@@ -148,73 +148,27 @@ fn yard(
     Reading::Scene(view, c.entries, c.points, c.lines)
 }
 
-// Whether the slices have the places of `yard`.
-fn has_room(
-    numbers: &[f64],
-    marks: &[u32],
-    points: &[f64],
-    starts: &[usize],
-    owners: &[u32],
-) -> bool
-    ensures { λ r. ⌜ r ≡ roomy (now (numbers .entry)) (now (marks .entry)) (now (points .entry)) (now (starts .entry)) (now (owners .entry)) ⌝ }
-{
-    if numbers.len() < 8192 {
-        return false;
-    }
-    if marks.len() < 2048 {
-        return false;
-    }
-    if points.len() < 6144 {
-        return false;
-    }
-    if starts.len() < 2048 {
-        return false;
-    }
-    if owners.len() < 2048 {
-        return false;
-    }
-    true
-}
-
-// Reads a text into the first places of the slices.
-fn fill(
+// Reads a text: its view, and its scene into the arrays, then zeros. Where it is refused, zeros throughout.
+// The arrays are the places of `yard`: 512 entries, 2,048 points and 2,048 lines.
+pub fn read(
     text: &[u8],
-    numbers: &mut [f64],
-    marks: &mut [u32],
-    points: &mut [f64],
-    starts: &mut [usize],
-    owners: &mut [u32],
+    numbers: &mut [f64; 8192],
+    marks: &mut [u32; 2048],
+    points: &mut [f64; 6144],
+    starts: &mut [usize; 2048],
+    owners: &mut [u32; 2048],
 ) -> Reading
-    ensures { λ r. ⌜ readingAs r (now (numbers .exit)) (now (marks .exit)) (now (points .exit)) (now (starts .exit)) (now (owners .exit)) ≡ readOf (now (text .entry)) (now (numbers .entry)) (now (marks .entry)) (now (points .entry)) (now (starts .entry)) (now (owners .entry)) ⌝ }
+    ensures { λ r. ⌜ r ≡ readingOf (Texts.yardOf (now (text .entry))) ⌝ }
+    ensures { λ _. ⌜ now (numbers .exit) ≡ padded zeroF 8192 (sceneRead (Texts.yardOf (now (text .entry))) .numbers) ⌝ }
+    ensures { λ _. ⌜ now (marks .exit) ≡ padded 0 2048 (sceneRead (Texts.yardOf (now (text .entry))) .marks) ⌝ }
+    ensures { λ _. ⌜ now (points .exit) ≡ padded zeroF 6144 (sceneRead (Texts.yardOf (now (text .entry))) .points) ⌝ }
+    ensures { λ _. ⌜ now (starts .exit) ≡ padded 0 2048 (sceneRead (Texts.yardOf (now (text .entry))) .starts) ⌝ }
+    ensures { λ _. ⌜ now (owners .exit) ≡ padded 0 2048 (sceneRead (Texts.yardOf (now (text .entry))) .owners) ⌝ }
+    ensures { λ r. ⌜ readingAs r (now (numbers .exit)) (now (marks .exit)) (now (points .exit)) (now (starts .exit)) (now (owners .exit)) ≡ Texts.yardOf (now (text .entry)) ⌝ }
     ensures { λ r. ⌜ ReadingFits r (now (numbers .exit)) (now (marks .exit)) (now (points .exit)) (now (starts .exit)) (now (owners .exit)) ⌝ }
     ensures { λ r. ⌜ WithinReading r ⌝ }
 {
-    if !has_room(numbers, marks, points, starts, owners) {
-        return Reading::Refused;
-    }
-    yard(text, numbers, marks, points, starts, owners)
-}
-
-// Reads a text: its view, and its scene into the slices, then zeros. Where it is refused, zeros throughout.
-// The counts of the answer are those of the scene's places, which the slices have.
-pub fn read(
-    text: &[u8],
-    numbers: &mut [f64],
-    marks: &mut [u32],
-    points: &mut [f64],
-    starts: &mut [usize],
-    owners: &mut [u32],
-) -> Reading
-    ensures { λ r. ⌜ r ≡ readingOf (readOf (now (text .entry)) (now (numbers .entry)) (now (marks .entry)) (now (points .entry)) (now (starts .entry)) (now (owners .entry))) ⌝ }
-    ensures { λ r. ⌜ now (numbers .exit) ≡ padded zeroF (length (now (numbers .entry))) (sceneRead (readOf (now (text .entry)) (now (numbers .entry)) (now (marks .entry)) (now (points .entry)) (now (starts .entry)) (now (owners .entry))) .numbers) ⌝ }
-    ensures { λ r. ⌜ now (marks .exit) ≡ padded 0 (length (now (marks .entry))) (sceneRead (readOf (now (text .entry)) (now (numbers .entry)) (now (marks .entry)) (now (points .entry)) (now (starts .entry)) (now (owners .entry))) .marks) ⌝ }
-    ensures { λ r. ⌜ now (points .exit) ≡ padded zeroF (length (now (points .entry))) (sceneRead (readOf (now (text .entry)) (now (numbers .entry)) (now (marks .entry)) (now (points .entry)) (now (starts .entry)) (now (owners .entry))) .points) ⌝ }
-    ensures { λ r. ⌜ now (starts .exit) ≡ padded 0 (length (now (starts .entry))) (sceneRead (readOf (now (text .entry)) (now (numbers .entry)) (now (marks .entry)) (now (points .entry)) (now (starts .entry)) (now (owners .entry))) .starts) ⌝ }
-    ensures { λ r. ⌜ now (owners .exit) ≡ padded 0 (length (now (owners .entry))) (sceneRead (readOf (now (text .entry)) (now (numbers .entry)) (now (marks .entry)) (now (points .entry)) (now (starts .entry)) (now (owners .entry))) .owners) ⌝ }
-    ensures { λ r. ⌜ readingAs r (now (numbers .exit)) (now (marks .exit)) (now (points .exit)) (now (starts .exit)) (now (owners .exit)) ≡ readOf (now (text .entry)) (now (numbers .entry)) (now (marks .entry)) (now (points .entry)) (now (starts .entry)) (now (owners .entry)) ⌝ }
-    ensures { λ r. ⌜ ReadingFits r (now (numbers .exit)) (now (marks .exit)) (now (points .exit)) (now (starts .exit)) (now (owners .exit)) ⌝ }
-{
-    let r = fill(text, numbers, marks, points, starts, owners);
+    let r = yard(text, numbers, marks, points, starts, owners);
     match r {
         Reading::Scene(view, e, p, l) => {
             rows::clear(numbers, e * 16);
