@@ -18,8 +18,16 @@
 extern "C" {
 #endif
 
-/* The square root, correctly rounded: -0 for -0, a NaN for a negative and for a NaN. */
-double larnt_sqrt(double x);
+/* The square root, correctly rounded: -0 for -0, a NaN for a negative and for a NaN. `rest` becomes its exact
+   remainder: for a positive finite x the root is R * 2^k with R from 2^52 to 2^53 - 1, x is S * 4^k, and the
+   remainder is S - R * R; else it is 0. So the root is exact where it is 0, below the true one where it is
+   positive, and above it where it is negative. */
+double larnt_sqrt(double x, int64_t *rest);
+
+/* The length of a vector and the distance of two points, each with the remainder of its root: that of the
+   computed sum of squares. */
+double larnt_length(const double v[3], int64_t *rest);
+double larnt_distance(const double a[3], const double b[3], int64_t *rest);
 
 /* Where a ray (origin, direction) enters and leaves a box (min, max). */
 void larnt_box_test(const double box[6], const double ray[6], double span[2]);

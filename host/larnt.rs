@@ -6,7 +6,9 @@
 pub mod raw {
     #[link(name = "host", kind = "static")]
     unsafe extern "C" {
-        pub safe fn larnt_sqrt(x: f64) -> f64;
+        pub safe fn larnt_sqrt(x: f64, rest: &mut i64) -> f64;
+        pub safe fn larnt_length(v: &[f64; 3], rest: &mut i64) -> f64;
+        pub safe fn larnt_distance(a: &[f64; 3], b: &[f64; 3], rest: &mut i64) -> f64;
         pub safe fn larnt_box_test(b: &[f64; 6], ray: &[f64; 6], span: &mut [f64; 2]);
         pub safe fn larnt_project(m: &[f64; 16], p: &[f64; 3], projected: &mut [f64; 3]);
         pub safe fn larnt_inverse(m: &[f64; 16], inverse: &mut [f64; 16]) -> f64;
@@ -150,8 +152,25 @@ pub mod raw {
     }
 }
 
-pub fn sqrt(x: f64) -> f64 {
-    raw::larnt_sqrt(x)
+/// The root and its exact remainder: 0 where the root is exact, positive where it lies below the true one.
+pub fn sqrt(x: f64) -> (f64, i64) {
+    let mut rest = 0;
+    let root = raw::larnt_sqrt(x, &mut rest);
+    (root, rest)
+}
+
+/// The length, and the remainder of its root: that of the computed sum of squares.
+pub fn length(v: &[f64; 3]) -> (f64, i64) {
+    let mut rest = 0;
+    let root = raw::larnt_length(v, &mut rest);
+    (root, rest)
+}
+
+/// The same of the distance of two points.
+pub fn distance(a: &[f64; 3], b: &[f64; 3]) -> (f64, i64) {
+    let mut rest = 0;
+    let root = raw::larnt_distance(a, b, &mut rest);
+    (root, rest)
 }
 
 /// Where the ray enters and leaves the box.

@@ -1,4 +1,4 @@
-//! The calls of the leaves, their inputs and answers as words, and larnt's own answers.
+//! The calls of the roots and of the leaves, their inputs and answers as words, and larnt's own answers.
 //!
 //! A word is a float's bits or a whole number. Inputs and answers stand in the order of
 //! README.md's table of records; what is left of them is 0.
@@ -36,11 +36,15 @@ pub enum Call {
     Hit = 4,
     Box = 5,
     Contains = 6,
+    Length = 7,
+    Distance = 8,
 }
 
 /// The calls as host/larnt.h declares them.
 pub struct Calls {
-    pub sqrt: extern "C" fn(f64) -> f64,
+    pub sqrt: extern "C" fn(f64, &mut i64) -> f64,
+    pub length: extern "C" fn(&[f64; 3], &mut i64) -> f64,
+    pub distance: extern "C" fn(&[f64; 3], &[f64; 3], &mut i64) -> f64,
     pub box_test: extern "C" fn(&[f64; 6], &[f64; 6], &mut [f64; 2]),
     pub project: extern "C" fn(&[f64; 16], &[f64; 3], &mut [f64; 3]),
     pub inverse: extern "C" fn(&[f64; 16], &mut [f64; 16]) -> f64,
@@ -62,7 +66,11 @@ pub fn answer(calls: &Calls, call: Call, input: &Input) -> Answer {
     let mut answer = [0; ANSWERS];
     let kind = input[0] as u32;
     match call {
-        Call::Sqrt => answer[0] = nan_alike((calls.sqrt)(f64::from_bits(input[0]))),
+        Call::Sqrt => rooted(&mut answer, |rest| (calls.sqrt)(f64::from_bits(input[0]), rest)),
+        Call::Length => rooted(&mut answer, |rest| (calls.length)(&floats(input, 0), rest)),
+        Call::Distance => {
+            rooted(&mut answer, |rest| (calls.distance)(&floats(input, 0), &floats(input, 3), rest))
+        }
         Call::BoxTest => {
             let mut span = [UNFILLED; 2];
             (calls.box_test)(&floats(input, 0), &floats(input, 6), &mut span);
@@ -101,6 +109,13 @@ pub fn answer(calls: &Calls, call: Call, input: &Input) -> Answer {
     answer
 }
 
+/// A root, and its remainder in two's complement.
+fn rooted(answer: &mut Answer, call: impl Fn(&mut i64) -> f64) {
+    let mut rest = UNFILLED as i64;
+    let root = call(&mut rest);
+    fill(answer, &[nan_alike(root), rest as u64]);
+}
+
 fn floats<const N: usize>(input: &Input, at: usize) -> [f64; N] {
     std::array::from_fn(|i| f64::from_bits(input[at + i]))
 }
@@ -122,9 +137,11 @@ fn filled(number: u32) -> fn(f64) -> u64 {
     if number == 0 { alike } else { f64::to_bits }
 }
 
-/// larnt, behind the same boundary as the compiled core. Only the refusal is not larnt's.
+/// larnt, behind the same boundary as the compiled core. Only the refusal and the remainders are not larnt's.
 pub const RUST: Calls = Calls {
     sqrt: rust_sqrt,
+    length: rust_length,
+    distance: rust_distance,
     box_test: rust_box_test,
     project: rust_project,
     inverse: rust_inverse,
@@ -135,9 +152,51 @@ pub const RUST: Calls = Calls {
 
 const NO_SUCH_KIND: u32 = 3;
 
+/// larnt as it is timed: it works out no remainder.
+pub const TIMED: Calls = Calls { sqrt: root_alone, ..RUST };
+
 #[inline(never)]
-extern "C" fn rust_sqrt(x: f64) -> f64 {
-    x.sqrt()
+extern "C" fn root_alone(x: f64, _rest: &mut i64) -> f64 {
+    f64::sqrt(x)
+}
+
+#[inline(never)]
+extern "C" fn rust_sqrt(x: f64, rest: &mut i64) -> f64 {
+    let root = x.sqrt();
+    *rest = remainder(x, root);
+    root
+}
+
+#[inline(never)]
+extern "C" fn rust_length(v: &[f64; 3], rest: &mut i64) -> f64 {
+    let v = vector(v, 0);
+    let root = v.length();
+    *rest = remainder(v.length_squared(), root);
+    root
+}
+
+#[inline(never)]
+extern "C" fn rust_distance(a: &[f64; 3], b: &[f64; 3], rest: &mut i64) -> f64 {
+    let (a, b) = (vector(a, 0), vector(b, 0));
+    let root = a.distance(b);
+    *rest = remainder(a.distance_squared(b), root);
+    root
+}
+
+/// A positive finite float as a whole number of 53 bits, or fewer below the normal ones, times a power of 2.
+fn parts(x: f64) -> (u64, i32) {
+    let (exponent, fraction) = (x.to_bits() >> 52, x.to_bits() << 12 >> 12);
+    if exponent == 0 { (fraction, -1074) } else { (fraction | 1 << 52, exponent as i32 - 1075) }
+}
+
+/// S - R * R, where the root is R * 2^k with R of 53 bits, and x is S * 4^k.
+fn remainder(x: f64, root: f64) -> i64 {
+    if !(x > 0.0 && x.is_finite()) {
+        return 0;
+    }
+    let ((m, e), (r, k)) = (parts(x), parts(root));
+    let (s, r) = (i128::from(m) << (e - 2 * k), i128::from(r));
+    i64::try_from(s - r * r).unwrap()
 }
 
 #[inline(never)]

@@ -7,6 +7,8 @@ use oracle::Scene;
 
 pub const CORE: Calls = Calls {
     sqrt: raw::larnt_sqrt,
+    length: raw::larnt_length,
+    distance: raw::larnt_distance,
     box_test: raw::larnt_box_test,
     project: raw::larnt_project,
     inverse: raw::larnt_inverse,
@@ -18,6 +20,8 @@ pub const CORE: Calls = Calls {
 /// The same through the functions that a host in Rust uses.
 pub const HOST: Calls = Calls {
     sqrt: host_sqrt,
+    length: host_length,
+    distance: host_distance,
     box_test: host_box_test,
     project: host_project,
     inverse: host_inverse,
@@ -26,8 +30,22 @@ pub const HOST: Calls = Calls {
     solid_contains: host_solid_contains,
 };
 
-extern "C" fn host_sqrt(x: f64) -> f64 {
-    host::sqrt(x)
+extern "C" fn host_sqrt(x: f64, rest: &mut i64) -> f64 {
+    let root;
+    (root, *rest) = host::sqrt(x);
+    root
+}
+
+extern "C" fn host_length(v: &[f64; 3], rest: &mut i64) -> f64 {
+    let root;
+    (root, *rest) = host::length(v);
+    root
+}
+
+extern "C" fn host_distance(a: &[f64; 3], b: &[f64; 3], rest: &mut i64) -> f64 {
+    let root;
+    (root, *rest) = host::distance(a, b);
+    root
 }
 
 extern "C" fn host_box_test(b: &[f64; 6], ray: &[f64; 6], span: &mut [f64; 2]) {

@@ -16,6 +16,7 @@ mod harness;
 mod host;
 mod inputs;
 mod leaves;
+mod roots;
 mod scene_calls;
 mod scene_inputs;
 mod scenes;
@@ -32,7 +33,8 @@ use std::process::ExitCode;
 /// Its name, what it compares, and what it times.
 type Layer = (&'static str, fn(&mut Run), fn());
 
-const LAYERS: [Layer; 5] = [
+const LAYERS: [Layer; 6] = [
+    ("roots", roots::compare, roots::speed),
     ("leaves", leaves::compare, leaves::speed),
     ("scenes", scenes::compare, scenes::speed),
     ("trees", trees::compare, trees::speed),

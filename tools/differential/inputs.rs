@@ -1,4 +1,4 @@
-//! Seeded inputs of the leaves: a yard's ordinary numbers, and spoilt ones.
+//! Seeded inputs of the roots and of the leaves: a yard's ordinary numbers, and spoilt ones.
 //!
 //! Only sums, products, quotients and square roots are formed, so that a seed gives the same
 //! inputs everywhere.
@@ -34,7 +34,7 @@ pub fn pack(kind: Option<u32>, parts: &[&[f64]]) -> Input {
 pub fn sqrt(rng: &mut Rng) -> Input {
     const HIDDEN: u64 = 1 << 52;
     let s = rng.next();
-    let bits = match rng.below(8) {
+    let bits = match rng.below(9) {
         0 => s,
         1 => s >> 1,
         // a subnormal of any length
@@ -46,6 +46,8 @@ pub fn sqrt(rng: &mut Rng) -> Input {
         }
         5 => 0x3FF0_0000_0000_0000 - HIDDEN / 2 + (s >> 12),
         6 => metres(rng, Grain::Any).abs().to_bits(),
+        // a power of 2, or next to one
+        7 => ((1 + s % 2046) << 52) + (s >> 12) % 3 - 1,
         _ => extreme(rng).to_bits(),
     };
     pack(None, &[&[f64::from_bits(bits)]])
@@ -60,6 +62,21 @@ fn next_to_midpoint(s: u64) -> u64 {
     let digits = (square >> (52 + odd)) as u64 + (s & 1);
     let exponent = 2 * ((s >> 1) % 1022) + u64::from(odd);
     (exponent << 52) + digits
+}
+
+/// Whole metres have exact lengths among them.
+pub fn length(rng: &mut Rng) -> Input {
+    let grain = grain(rng);
+    let mut v = place(rng, grain);
+    spoil(rng, &mut v);
+    pack(None, &[&v])
+}
+
+pub fn distance(rng: &mut Rng) -> Input {
+    let grain = grain(rng);
+    let mut xs = [place(rng, grain), place(rng, grain)].concat();
+    spoil(rng, &mut xs);
+    pack(None, &[&xs])
 }
 
 pub fn box_test(rng: &mut Rng) -> Input {

@@ -1,7 +1,6 @@
-//! The leaves: square root, box test, projection, inverse, and hit, box and contains of the
-//! five kinds.
+//! The leaves: box test, projection, inverse, and hit, box and contains of the five kinds.
 
-use crate::calls::{Answer, Call, Calls, Input, RUST, answer};
+use crate::calls::{Answer, Call, Calls, Input, RUST, TIMED, answer};
 use crate::core::{CORE, HOST};
 use crate::harness::{Run, time};
 use crate::inputs;
@@ -12,7 +11,6 @@ use std::hint::black_box;
 const KINDS: [&str; 5] = ["sphere", "cylinder", "cone", "cube", "triangle"];
 
 pub fn compare(run: &mut Run) {
-    line(run, "sqrt", Call::Sqrt, inputs::sqrt, "number", |a| !float(a[0]).is_nan());
     line(run, "box_test", Call::BoxTest, inputs::box_test, "met", met);
     line(run, "project", Call::Project, inputs::project, "finite", finite);
     line(run, "inverse", Call::Inverse, inputs::inverse, "regular", |a| a[0] != 0 && finite(a));
@@ -32,7 +30,7 @@ pub fn compare(run: &mut Run) {
     line(run, "other.contains", Call::Contains, contains, "refused", refused);
 }
 
-fn line(
+pub fn line(
     run: &mut Run,
     name: &str,
     call: Call,
@@ -46,7 +44,7 @@ fn line(
     run.compare(name, run.count, make, rust, &cores, &[(share, &|_, a| counts(a))]);
 }
 
-fn float(word: u64) -> f64 {
+pub fn float(word: u64) -> f64 {
     f64::from_bits(word)
 }
 
@@ -67,11 +65,6 @@ fn refused(a: &Answer) -> bool {
 const INPUTS: usize = 8192;
 
 pub fn speed() {
-    timed("sqrt", inputs::squared_length, |calls, xs| {
-        for x in xs {
-            black_box((calls.sqrt)(*x));
-        }
-    });
     let boxed = |rng: &mut Rng| {
         let (n, ray) = inputs::solid_and_ray(rng, 4);
         ([n[0], n[1], n[2], n[3], n[4], n[5]], ray)
@@ -119,8 +112,8 @@ pub fn speed() {
 }
 
 /// Which side a pass calls is hidden from the compiler, so that neither is inlined.
-fn timed<I>(name: &str, make: impl Fn(&mut Rng) -> I, pass: impl Fn(&Calls, &[I])) {
+pub fn timed<I>(name: &str, make: impl Fn(&mut Rng) -> I, pass: impl Fn(&Calls, &[I])) {
     let mut rng = Rng::new(1);
     let all: Vec<I> = (0..INPUTS).map(|_| make(&mut rng)).collect();
-    time(name, INPUTS, || pass(black_box(&RUST), &all), || pass(black_box(&CORE), &all));
+    time(name, INPUTS, || pass(black_box(&TIMED), &all), || pass(black_box(&CORE), &all));
 }

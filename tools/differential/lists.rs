@@ -13,8 +13,8 @@ use inputs::{Numbers, Point, Ray};
 use oracle::check::used_numbers;
 use oracle::generate::Rng;
 
-/// The program has places for 399.
-const MOST: usize = 390;
+/// The program has places for 449.
+const MOST: usize = 440;
 
 #[derive(Default)]
 struct List {
@@ -51,6 +51,14 @@ impl List {
 
     fn contains(&mut self, kind: u32, measures: &[f64], p: Point, f: f64) {
         self.add(Call::Contains, inputs::pack(Some(kind), &[&sixteen(measures), &p, &[f]]));
+    }
+
+    fn length(&mut self, v: Point) {
+        self.add(Call::Length, inputs::pack(None, &[&v]));
+    }
+
+    fn distance(&mut self, a: Point, b: Point) {
+        self.add(Call::Distance, inputs::pack(None, &[&a, &b]));
     }
 
     /// Adds the first seeded cases that `wanted` takes, at most `count`: some kinds have none.
@@ -365,6 +373,38 @@ fn other_kinds(list: &mut List) {
     }
 }
 
+fn lengths(list: &mut List) {
+    // exact, with a remainder of either sign, subnormal, too long, and no number
+    list.length([3.0, 4.0, 0.0]);
+    list.length([1.0, 2.0, -2.0]);
+    list.length([0.0, -0.0, 0.0]);
+    list.length([5e-324, 0.0, 0.0]);
+    list.length([3e-162, 0.0, 0.0]);
+    list.length([3e-160, -4e-160, 1e-161]);
+    list.length([1e308, 0.0, 0.0]);
+    list.length([1e154, -1e154, 1e150]);
+    list.length([FAR, 0.0, 0.0]);
+    list.length([0.0, NOT, 0.0]);
+    for x in around(1.0).into_iter().chain(around(2.0)) {
+        list.length([x, 1.0, 1.0]);
+        list.distance([x, 0.0, 0.0], [0.0, 1.0, 0.5]);
+    }
+    list.distance([1.5, 2.0, 3.0], [4.5, -2.0, 3.0]);
+    list.distance([1.0, 2.0, 3.0], [1.0, 2.0, 3.0]);
+    list.distance([FAR, 0.0, 0.0], [FAR, 0.0, 0.0]);
+    list.distance([0.0, 0.0, 0.0], [0.0, 0.0, NOT]);
+    list.distance([1e-200, 0.0, 0.0], [0.0, 1e-200, 0.0]);
+    for (call, make) in [
+        (Call::Length, inputs::length as fn(&mut Rng) -> Input),
+        (Call::Distance, inputs::distance),
+    ] {
+        list.pick(4, call, make, |_, a| (a[1] as i64) > 0);
+        list.pick(4, call, make, |_, a| (a[1] as i64) < 0);
+        list.pick(2, call, make, |i, a| a[1] == 0 && i[0] != 0 && sound(i));
+        list.pick(2, call, make, |i, _| !sound(i));
+    }
+}
+
 fn met(_: &Input, a: &Answer) -> bool {
     let (near, far) = (f64::from_bits(a[0]), f64::from_bits(a[1]));
     near <= far && far > 0.0
@@ -389,6 +429,7 @@ fn main() -> std::io::Result<()> {
     bounds(&mut list);
     insides(&mut list);
     other_kinds(&mut list);
+    lengths(&mut list);
     list.write(std::path::Path::new(&folder))?;
     println!("lists: {} records", list.records.len());
     Ok(())

@@ -1,15 +1,23 @@
-// larnt_sqrt against f64::sqrt: bit for bit (NaNs alike), then the time of each.
+// larnt_sqrt against f64::sqrt, bit for bit (NaNs alike), and its remainder against whole numbers of 128
+// bits; then the time of each.
 use std::hint::black_box;
 use std::time::Instant;
 
 #[link(name = "host", kind = "static")]
 unsafe extern "C" {
-    fn larnt_sqrt(x: f64) -> f64;
+    fn larnt_sqrt(x: f64, rest: &mut i64) -> f64;
 }
 
 #[inline(never)]
 fn proved(x: f64) -> f64 {
-    unsafe { larnt_sqrt(x) }
+    proved_with_rest(x).0
+}
+
+fn proved_with_rest(x: f64) -> (f64, i64) {
+    // what stands there before is no remainder of any root
+    let mut rest = i64::MIN;
+    let root = unsafe { larnt_sqrt(x, &mut rest) };
+    (root, rest)
 }
 
 #[inline(never)]
@@ -32,27 +40,52 @@ impl Random {
     }
 }
 
+// A positive finite f64 as a whole number times a power of 2; the number has 53 bits, or fewer below the
+// normal ones.
+fn parts(x: f64) -> (u64, i32) {
+    let b = x.to_bits();
+    if b < HID {
+        (b, -1074)
+    } else {
+        (b % HID + HID, (b / HID) as i32 - 1075)
+    }
+}
+
+// S - R * R, where the root is R * 2^k with R of 53 bits, and x is S * 4^k.
+fn remainder(x: f64, root: f64) -> i128 {
+    if !(x > 0.0 && x.is_finite()) {
+        return 0;
+    }
+    let ((m, e), (r, k)) = (parts(x), parts(root));
+    (i128::from(m) << (e - 2 * k)) - i128::from(r) * i128::from(r)
+}
+
 #[derive(Default)]
 struct Tally {
     inputs: u64,
     differ: u64,
+    below: u64,
+    above: u64,
 }
 
 impl Tally {
     fn test(&mut self, bits: u64) {
         let x = f64::from_bits(bits);
-        let (a, b) = (proved(x), x.sqrt());
+        let ((a, left), b) = (proved_with_rest(x), x.sqrt());
+        let rest = remainder(x, b);
         self.inputs += 1;
+        self.below += u64::from(rest > 0);
+        self.above += u64::from(rest < 0);
         let same = if b.is_nan() {
             a.is_nan()
         } else {
             a.to_bits() == b.to_bits()
         };
-        if !same {
+        if !same || i128::from(left) != rest {
             self.differ += 1;
             if self.differ <= 10 {
                 println!(
-                    "{bits:016x}: {:016x}, not {:016x}",
+                    "{bits:016x}: {:016x} and {left}, not {:016x} and {rest}",
                     a.to_bits(),
                     b.to_bits()
                 );
@@ -149,7 +182,11 @@ fn main() {
         .map(|a| a.parse::<u64>().expect("a whole number"));
     let (seed, count) = (args.next().expect("SEED"), args.next().expect("COUNT"));
     let t = compare(seed, count);
-    println!("{} inputs, {} differ", t.inputs, t.differ);
+    let exact = t.inputs - t.below - t.above;
+    println!(
+        "{} inputs, {} differ; the root lies below the true one {}, above it {}, and nothing is left over {} times",
+        t.inputs, t.differ, t.below, t.above, exact
+    );
     // in turn, the best round of each
     let (mut h, mut p) = (f64::INFINITY, f64::INFINITY);
     for _ in 0..40 {

@@ -1,10 +1,12 @@
 #!/usr/bin/env python3
 """sqrt.py: write the vectors of crates/test_sqrt, its stdin and stdout.
 
-A record is 16 bytes: the bit pattern of an f64 and that of its root, most significant byte first. The roots are found from whole numbers,
-by math.isqrt, and only compared with math.sqrt afterwards. A NaN is written 7FF8000000000000. The same list comes out each time.
+A record is 24 bytes: the bit pattern of an f64, that of its root and the root's remainder in two's complement, most significant byte first.
+Both are found from whole numbers, by math.isqrt; the root is compared with math.sqrt afterwards, and the remainder with exact fractions. A NaN
+is written 7FF8000000000000. The same list comes out each time.
 """
 import math, os, random, struct
+from fractions import Fraction
 
 NAN, INF, SIGN, HID = 0x7FF8000000000000, 0x7FF0000000000000, 1 << 63, 1 << 52
 
@@ -14,10 +16,11 @@ def parts(b):
     return (t + HID, x - 1075) if x else (t, -1074)
 
 def root(b):
-    if b % SIGN > INF: return NAN
-    if b % SIGN == 0: return b
-    if b & SIGN: return NAN
-    if b == INF: return INF
+    """the pattern of the root of b, and its remainder"""
+    if b % SIGN > INF: return NAN, 0
+    if b % SIGN == 0: return b, 0
+    if b & SIGN: return NAN, 0
+    if b == INF: return INF, 0
     m, e = parts(b)
     # S = m * 2^(e - 2k), of 105 or 106 binary digits: its root has 53
     k = (m.bit_length() + e + 1) // 2 - 53
@@ -25,12 +28,18 @@ def root(b):
     assert 104 < s.bit_length() < 107
     r = math.isqrt(s)
     if s - r * r > r: r += 1    # above r + 1/2, whose square is r * r + r + 1/4: no tie
-    return (k + 1074) * HID + r
+    return (k + 1074) * HID + r, s - r * r
 
 def hardware(b):
+    """the same by the machine's root: (x - root^2) / 4^k, where the root is R * 2^k with R of 53 digits"""
     x, = struct.unpack('>d', b.to_bytes(8, 'big'))
-    if math.isnan(x) or x < 0: return NAN
-    return int.from_bytes(struct.pack('>d', math.sqrt(x)), 'big')
+    if math.isnan(x) or x < 0: return NAN, 0
+    y = math.sqrt(x)
+    r = int.from_bytes(struct.pack('>d', y), 'big')
+    if x == 0 or math.isinf(x): return r, 0
+    rest = (Fraction(x) - Fraction(y) ** 2) / Fraction(4) ** parts(r)[1]
+    assert rest.denominator == 1
+    return r, rest.numerator
 
 def scaled(n, e):
     """the pattern of n * 2^e, for an n of at most 53 digits that gives a normal number"""
@@ -93,9 +102,9 @@ def main():
         if b in seen: continue
         seen.add(b)
         r = root(b)
-        assert r == hardware(b), '%016x: %016x, %016x' % (b, r, hardware(b))
-        records.append(b.to_bytes(8, 'big') + r.to_bytes(8, 'big'))
-    assert [root(b) for b in (0, 0x4022 << 48, 0x4000 << 48, 1, 0x7FEFFFFFFFFFFFFF)] == [0, 0x4008 << 48, 0x3FF6A09E667F3BCD, (1023 - 537) << 52, 0x5FEFFFFFFFFFFFFF]
+        assert r == hardware(b), '%016x: %s, %s' % (b, r, hardware(b))
+        records.append(b.to_bytes(8, 'big') + r[0].to_bytes(8, 'big') + r[1].to_bytes(8, 'big', signed=True))
+    assert [root(b)[0] for b in (0, 0x4022 << 48, 0x4000 << 48, 1, 0x7FEFFFFFFFFFFFFF)] == [0, 0x4008 << 48, 0x3FF6A09E667F3BCD, (1023 - 537) << 52, 0x5FEFFFFFFFFFFFFF]
     assert {b >> 52 for b in seen if b < INF} == set(range(2047)) and 4096 <= len(records) <= 8192
     open(os.path.join(here, 'stdin'), 'wb').write(b''.join(records))
     open(os.path.join(here, 'stdout'), 'w').write('%d roots, 0 wrong\n' % len(records))

@@ -1,9 +1,10 @@
 -- Vectors (vector.rs): the Rust's formulas, in its order of operations.
 use mathlib.Core.Bool.{Bool, cond, _&&_}
+use lib.IntN.{ℤ}
 use lib.Ieee.{Float, eq, lt, le}
 use Rattle.floats.specs.Arith.{_⊕_, _⊖_, _⊗_, _⊘_, zeroF, oneF, EPS}
 use Rattle.floats.specs.Numbers.{minOf, maxOf, absOf}
-use Rattle.sqrt.specs.Root.{sqrtOf}
+use Rattle.sqrt.specs.Root.{sqrtOf, restOf}
 use Rattle.geometry.specs.declared.vector.Vector.{Vector}
 use Rattle.geometry.specs.declared.vector.Normalized.{Normalized}
 use Rattle.geometry.specs.declared.vector.Normalized.the-variants.{Unit, Zero}
@@ -53,6 +54,13 @@ distanceOf a b = lengthOf (subV a b)
 
 unfoldable pub distanceSquared : Vector → Vector → Float
 distanceSquared a b = lengthSquared (subV a b)
+
+-- request (xi): the remainder of the length's root and of the distance's, which are roots of the computed sums of squares
+unfoldable pub lengthRest : Vector → ℤ
+lengthRest a = restOf (lengthSquared a)
+
+unfoldable pub distanceRest : Vector → Vector → ℤ
+distanceRest a b = lengthRest (subV a b)
 
 -- over the length; where that is 0 the Rust panics, and the answer is `Zero`
 unfoldable pub normalizeOf : Vector → Normalized

@@ -1,6 +1,7 @@
 // Vectors of three f64.
 ghost use mathlib.Core.Path.{_≡_};
 ghost use Rattle.geometry.specs.Vectors as Vectors;
+use sqrt::Rooted;
 
 pub struct Vector {
     pub x: f64,
@@ -30,10 +31,11 @@ impl Vector {
         sqrt::root(self.length_squared())
     }
 
-    pub fn length(self) -> f64
-        ensures { λ r. ⌜ r ≡ Vectors.lengthOf self ⌝ }
+    // The length with the exact remainder of its root, of the computed sum of squares.
+    pub fn length(self) -> Rooted
+        ensures { λ r. ⌜ (r .root ≡ Vectors.lengthOf self) × (r .rest ≡ Vectors.lengthRest self) ⌝ }
     {
-        self.norm()
+        sqrt::sqrt(self.length_squared())
     }
 
     // The distance alone, for the callers inside.
@@ -43,10 +45,11 @@ impl Vector {
         self.sub(other).norm()
     }
 
-    pub fn distance(self, other: Vector) -> f64
-        ensures { λ r. ⌜ r ≡ Vectors.distanceOf self other ⌝ }
+    // The distance with the exact remainder of its root.
+    pub fn distance(self, other: Vector) -> Rooted
+        ensures { λ r. ⌜ (r .root ≡ Vectors.distanceOf self other) × (r .rest ≡ Vectors.distanceRest self other) ⌝ }
     {
-        self.gap(other)
+        self.sub(other).length()
     }
 
     pub fn length_squared(self) -> f64

@@ -4,7 +4,8 @@ pub mod stages;
 pub mod trees;
 
 ghost use mathlib.Core.Path.{_≡_};
-ghost use Rattle.sqrt.specs.Root.{sqrtOf};
+ghost use Rattle.sqrt.specs.Root.{sqrtOf, restOf};
+ghost use Rattle.geometry.specs.Vectors.{lengthOf, lengthRest, distanceOf, distanceRest};
 ghost use Rattle.geometry.specs.Boxes.{boxTest};
 ghost use Rattle.matrix.specs.Matrices.{mulPositionW};
 ghost use Rattle.matrix_inverse.specs.Inverses.{inverted};
@@ -88,12 +89,40 @@ fn sixteen(n: &[f64; 16]) -> Numbers
     }
 }
 
-// The square root, correctly rounded.
+// The square root, correctly rounded, and its exact remainder.
 #[no_mangle]
-pub extern "C" fn larnt_sqrt(x: f64) -> f64
-    ensures { λ r. ⌜ r ≡ sqrtOf x ⌝ }
+pub extern "C" fn larnt_sqrt(x: f64, rest: &mut i64) -> f64
+    ensures answer { λ r. ⌜ r ≡ sqrtOf x ⌝ }
+    ensures lent { λ _. ⌜ now (rest .exit) ≡ restOf x ⌝ }
 {
-    sqrt::sqrt(x)
+    let r = sqrt::sqrt(x);
+    let left = r.rest;
+    *rest = left;
+    r.root
+}
+
+// The length of a vector, and the remainder of its root.
+#[no_mangle]
+pub extern "C" fn larnt_length(v: &[f64; 3], rest: &mut i64) -> f64
+    ensures answer { λ r. ⌜ r ≡ lengthOf (pointOf (now (v .entry))) ⌝ }
+    ensures lent { λ _. ⌜ now (rest .exit) ≡ lengthRest (pointOf (now (v .entry))) ⌝ }
+{
+    let r = point(v).length();
+    let left = r.rest;
+    *rest = left;
+    r.root
+}
+
+// The distance of two points, and the remainder of its root.
+#[no_mangle]
+pub extern "C" fn larnt_distance(a: &[f64; 3], b: &[f64; 3], rest: &mut i64) -> f64
+    ensures answer { λ r. ⌜ r ≡ distanceOf (pointOf (now (a .entry))) (pointOf (now (b .entry))) ⌝ }
+    ensures lent { λ _. ⌜ now (rest .exit) ≡ distanceRest (pointOf (now (a .entry))) (pointOf (now (b .entry))) ⌝ }
+{
+    let r = point(a).distance(point(b));
+    let left = r.rest;
+    *rest = left;
+    r.root
 }
 
 // Where a ray (origin, direction) enters and leaves a box (min, max).

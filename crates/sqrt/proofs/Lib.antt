@@ -5,3 +5,4 @@ pub mod Signs
 pub mod Rests
 pub mod Monotone
 pub mod Nearest
+pub mod Remainder

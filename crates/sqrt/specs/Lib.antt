@@ -1,3 +1,4 @@
 pub mod Root
 pub mod Floor
 pub mod Nearest
+pub mod Remainder

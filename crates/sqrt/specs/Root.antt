@@ -1,6 +1,6 @@
 -- Document 01's square root, IEEE 754's at binary64: the f64 nearest the exact root, ties to even, from whole numbers alone, by comparing squares.
 -- A positive finite x is S * 4 ^ k for one whole number k and one whole number S of 105 or 106 binary digits. Its root is R * 2 ^ k, where R is the
--- whole number nearest to the root of S, a tie going to the even one: R has 53 digits. What is left over is S - R * R. Nearest.antt says in full what "the
+-- whole number nearest to the root of S, a tie going to the even one: R has 53 digits. The remainder is S - R * R. Nearest.antt says in full what "the
 -- f64 nearest the exact root" is; that the root defined here is that one is `nearest-of-all` of proofs/Nearest.antt.
 use Prim.Native.Nat.{ℕ, zero, suc, _+_, _-_, _*_, _/_, _^_, compare}
 use mathlib.Core.Bool.{true, false, cond}
@@ -40,7 +40,7 @@ sqrtOf (fin s zero e) = fin s zero e
 sqrtOf (fin true (suc m) e) = nan
 sqrtOf (fin false (suc m) e) = let n = inUnits (suc m) e in odd 53 false (nearestRoot (scaled n)) (dropped n) 1074
 
--- What is left over, S - R * R: 0 for a NaN, an infinity, a zero and a negative
+-- Request (xi)'s remainder, S - R * R: 0 for a NaN, an infinity, a zero and a negative. Remainder.antt has it in the request's words.
 unfoldable pub restOf : Float → ℤ
 unfolding size nearestRoot
 restOf nan = pos 0

@@ -5,6 +5,8 @@
 ghost use mathlib.Core.Path.{_≡_};
 ghost use Prim.Native.Nat.{ℕ, _+_, _*_, _^_, _≤_, _<_};
 ghost use mathlib.Core.Bool.{false};
+ghost use mir.Syntax.{w64};
+ghost use mir.Val.{SFits};
 ghost use lib.Ieee.{binary64, ofBits};
 ghost use lib.Ieee.Exact.{HasValue};
 ghost use Rattle.sqrt.specs.Floor.{FloorRoot, NearestRoot};
@@ -174,17 +176,19 @@ fn rounded(p: WholeRoot) -> NearRoot
     }
 }
 
-// The root of an f64 and what is left over: of the whole number S less R * R, where the root is R of
-// 53 bits times a power of 2.
+// The root of an f64 and its exact remainder: where the root is R * 2^k with R of 53 bits, and the f64
+// is S * 4^k, that is S - R * R. It fits: it is at most R, and above -R.
 pub struct Rooted {
     pub root: f64,
     pub rest: i64,
 }
 
-// The root of the positive finite f64 whose bit pattern is b.
-fn positive(b: u64) -> Rooted
+// The root of the positive finite f64 whose bit pattern is b, with its remainder in `rest`.
+fn positive(b: u64, rest: &mut i64) -> f64
     requires { ⌜ (0 < b) × (b < 0x7ff0_0000_0000_0000) ⌝ }
-    ensures { λ r. ⌜ (r .root ≡ sqrtOf (ofBits binary64 b)) × (r .rest ≡ restOf (ofBits binary64 b)) ⌝ }
+    ensures answer { λ r. ⌜ r ≡ sqrtOf (ofBits binary64 b) ⌝ }
+    ensures lent { λ _. ⌜ now (rest .exit) ≡ restOf (ofBits binary64 b) ⌝ }
+    ensures held { λ _. ⌜ SFits w64 (now (rest .exit)) ⌝ }
 {
     let s = unpack(b);
     let m = s.m;
@@ -193,45 +197,49 @@ fn positive(b: u64) -> Rooted
     let bits = (b + 0x10_0000_0000_0000) % 0x20_0000_0000_0000 + 0x3ff0_0000_0000_0000;
     let r = rounded(root_of(m << (g % 2), bits));
     let whole = r.whole;
-    let rest = r.rest;
+    let left = r.rest;
     let pattern = (g / 2 + 485) * 0x10_0000_0000_0000 + whole;
-    Rooted {
-        root: f64::from_bits(pattern),
-        rest,
-    }
+    *rest = left;
+    f64::from_bits(pattern)
 }
 
-// The square root of x, correctly rounded, and what is left over.
-pub fn sqrt_with_rest(x: f64) -> Rooted
-    ensures { λ r. ⌜ (r .root ≡ sqrtOf x) × (r .rest ≡ restOf x) ⌝ }
+// The root of x, with its remainder in `rest`: 0 but for a positive finite x. The remainder is lent, so
+// that the root comes back in a register; a struct of both would come back through memory. `held`: the
+// prover knows no range of a signed number in a local that was lent.
+fn root_and_rest(x: f64, rest: &mut i64) -> f64
+    ensures answer { λ r. ⌜ r ≡ sqrtOf x ⌝ }
+    ensures lent { λ _. ⌜ now (rest .exit) ≡ restOf x ⌝ }
+    ensures held { λ _. ⌜ SFits w64 (now (rest .exit)) ⌝ }
 {
+    *rest = 0;
     if x > 0.0 {
         let b: u64 = f64::to_bits(x);
         if b < 0x7ff0_0000_0000_0000 {
-            positive(b)
+            positive(b, rest)
         } else {
-            Rooted { root: x, rest: 0 }
+            x
         }
     } else if x == 0.0 {
-        Rooted { root: x, rest: 0 }
+        x
     } else {
-        Rooted {
-            root: 0.0 / 0.0,
-            rest: 0,
-        }
+        0.0 / 0.0
     }
+}
+
+// The square root: the f64 nearest the exact root, ties to even; -0 for -0, a NaN for a negative. With
+// it its exact remainder, which request (xi) asks for: 0 but for a positive finite x.
+pub fn sqrt(x: f64) -> Rooted
+    ensures { λ r. ⌜ (r .root ≡ sqrtOf x) × (r .rest ≡ restOf x) ⌝ }
+{
+    let mut rest: i64 = 0;
+    let root = root_and_rest(x, &mut rest);
+    Rooted { root, rest }
 }
 
 // The root alone, for the callers inside.
 pub fn root(x: f64) -> f64
     ensures { λ r. ⌜ r ≡ sqrtOf x ⌝ }
 {
-    sqrt_with_rest(x).root
-}
-
-// The square root: the f64 nearest the exact root, ties to even; -0 for -0, a NaN for a negative.
-pub fn sqrt(x: f64) -> f64
-    ensures { λ r. ⌜ r ≡ sqrtOf x ⌝ }
-{
-    root(x)
+    let mut rest: i64 = 0;
+    root_and_rest(x, &mut rest)
 }

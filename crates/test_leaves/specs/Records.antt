@@ -4,13 +4,16 @@ use mathlib.Core.List.{List, [], _∷_}
 use Prim.Native.Nat.{ℕ, _+_, _*_, _/_}
 use lib.Dec.{eqb}
 use lib.ListN.{length}
+use lib.IntN.{ℤ}
+use lib.Ieee.{Float}
+use Rattle.geometry.specs.Vectors.{lengthOf, lengthRest, distanceOf, distanceRest}
 use Rattle.geometry.specs.Boxes.{boxTest}
 use Rattle.matrix.specs.Matrices.{mulPositionW}
 use Rattle.matrix_inverse.specs.Inverses.{inverted}
 use Rattle.rows.specs.Entries.{numbersRow}
 use Rattle.rows.specs.Points.{pointRow, boxRow}
 use Rattle.scene.specs.Entries.{matrixOf, matrixNumbers}
-use Rattle.test_words.specs.Words.{wordAt, floatAt, pointAt, rayAt, sameBits, allSame, flagOf}
+use Rattle.test_words.specs.Words.{wordAt, floatAt, pointAt, rayAt, sameBits, allSame, flagOf, signedWord}
 use Rattle.test_words.specs.Counts.{wrongUpto}
 use Rattle.test_leaves.specs.Inputs.{boxFrom, numbersFrom, solidFrom}
 use Rattle.test_leaves.specs.Answers.{simpleAnswer, simpleHit, simpleBox, simpleContains}
@@ -46,7 +49,20 @@ containsRight s k =
     let x = solidFrom s (k + 1) in
     eqb (wordAt s (k + 24)) (simpleAnswer x) && eqb (wordAt s (k + 25)) (flagOf (simpleContains x (pointAt s (k + 18)) (floatAt s (k + 21))))
 
--- a record of none of the six calls is not right
+-- a root and its remainder
+unfoldable pub rootedRight : Float → ℤ → List ℕ → ℕ → Bool
+rootedRight root rest s k = sameBits root (wordAt s k) && eqb (wordAt s (k + 1)) (signedWord rest)
+
+unfoldable pub lengthRight : List ℕ → ℕ → Bool
+lengthRight s k = let v = pointAt s (k + 1) in rootedRight (lengthOf v) (lengthRest v) s (k + 24)
+
+unfoldable pub distanceRight : List ℕ → ℕ → Bool
+distanceRight s k =
+    let a = pointAt s (k + 1) in
+    let b = pointAt s (k + 4) in
+    rootedRight (distanceOf a b) (distanceRest a b) s (k + 24)
+
+-- a record of none of the eight calls is not right
 unfoldable pub callRight : List ℕ → ℕ → Bool
 callRight s k =
     let call = wordAt s k in
@@ -55,7 +71,9 @@ callRight s k =
     (cond (eqb call 3) (inverseRight s k)
     (cond (eqb call 4) (hitRight s k)
     (cond (eqb call 5) (boxRight s k)
-    (cond (eqb call 6) (containsRight s k) false)))))
+    (cond (eqb call 6) (containsRight s k)
+    (cond (eqb call 7) (lengthRight s k)
+    (cond (eqb call 8) (distanceRight s k) false)))))))
 
 abbrev pub wrongCalls : List ℕ → ℕ
 wrongCalls s = wrongUpto (λ i. callRight s (41 * i)) (length s / 328)

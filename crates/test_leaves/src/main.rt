@@ -5,13 +5,14 @@ ghost use Prim.Native.Nat.{_+_, _*_, _≤_};
 ghost use lib.ListN.{length};
 ghost use Rattle.test_leaves.specs.Inputs.{boxFrom, numbersFrom, solidFrom};
 ghost use Rattle.test_leaves.specs.Answers.{simpleAnswer, simpleHit, simpleBox, simpleContains};
-ghost use Rattle.test_leaves.specs.Records.{boxTestRight, projectionRight, inverseRight, hitRight, boxRight, containsRight, callRight, wrongCalls};
+ghost use Rattle.test_leaves.specs.Records.{boxTestRight, projectionRight, inverseRight, hitRight, boxRight, containsRight, rootedRight, lengthRight, distanceRight, callRight, wrongCalls};
 use geometry::bounding_box::BBox;
 use geometry::hit::Hit;
 use geometry::ray::Ray;
 use geometry::vector::Vector;
 use rows::Numbers;
 use scene::entry::Simple;
+use sqrt::Rooted;
 
 // What a record gives from word k on: a box, 16 numbers, a kind and 16 numbers.
 fn box_from(s: &[u8], k: usize) -> BBox
@@ -178,7 +179,35 @@ fn contains_right(s: &[u8], k: usize) -> bool
     test_words::is(s, k + 24, simple_answer(x)) && test_words::is(s, k + 25, test_words::flag(i))
 }
 
-// Whether the record is right: never where its call is none of the six.
+// Whether the words from k on are the pattern of a root and its remainder.
+fn rooted_right(r: Rooted, s: &[u8], k: usize) -> bool
+    requires { ⌜ 8 * k + 16 ≤ length (now s) ⌝ }
+    ensures { λ a. ⌜ a ≡ rootedRight (r .root) (r .rest) (now (s .entry)) k ⌝ }
+{
+    test_words::same(r.root, test_words::word(s, k))
+        && test_words::is(s, k + 1, test_words::signed(r.rest))
+}
+
+// Length: a vector; its length and the root's remainder.
+fn length_right(s: &[u8], k: usize) -> bool
+    requires { ⌜ 8 * k + 328 ≤ length (now s) ⌝ }
+    ensures { λ r. ⌜ r ≡ lengthRight (now (s .entry)) k ⌝ }
+{
+    let v = test_words::point_at(s, k + 1);
+    rooted_right(v.length(), s, k + 24)
+}
+
+// Distance: two points; their distance and the root's remainder.
+fn distance_right(s: &[u8], k: usize) -> bool
+    requires { ⌜ 8 * k + 328 ≤ length (now s) ⌝ }
+    ensures { λ r. ⌜ r ≡ distanceRight (now (s .entry)) k ⌝ }
+{
+    let a = test_words::point_at(s, k + 1);
+    let b = test_words::point_at(s, k + 4);
+    rooted_right(a.distance(b), s, k + 24)
+}
+
+// Whether the record is right: never where its call is none of the eight.
 fn call_right(s: &[u8], k: usize) -> bool
     requires { ⌜ 8 * k + 328 ≤ length (now s) ⌝ }
     ensures { λ r. ⌜ r ≡ callRight (now (s .entry)) k ⌝ }
@@ -202,6 +231,12 @@ fn call_right(s: &[u8], k: usize) -> bool
     if call == 6 {
         return contains_right(s, k);
     }
+    if call == 7 {
+        return length_right(s, k);
+    }
+    if call == 8 {
+        return distance_right(s, k);
+    }
     false
 }
 
@@ -220,7 +255,7 @@ fn wrong(s: &[u8]) -> u64
 }
 
 fn main() {
-    let mut buffer = [0u8; 131072];
+    let mut buffer = [0u8; 147456];
     let n = io::read_full(0, &mut buffer);
     io::print_decimal(1, (n / 328) as u64);
     io::write_all(1, b" calls, ");

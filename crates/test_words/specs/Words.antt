@@ -1,7 +1,8 @@
 -- The words of 8 bytes of a list of bytes, most significant byte first, as numbers, floats, points and rays, and how answers are compared with them.
 use mathlib.Core.Bool.{Bool, true, cond, _&&_, _||_}
 use mathlib.Core.List.{List, [], _∷_}
-use Prim.Native.Nat.{ℕ, _+_, _*_, _%_}
+use Prim.Native.Nat.{ℕ, suc, _+_, _-_, _*_, _%_, _^_}
+use lib.IntN.{ℤ, pos, negsuc}
 use lib.ListN.{getD}
 use lib.Ieee.{Float, isNan, eq}
 use Rattle.floats.specs.Arith.{bits}
@@ -39,6 +40,11 @@ allSame (v ∷ vs) s k = sameBits v (wordAt s k) && allSame vs s (k + 1)
 
 abbrev pub flagOf : Bool → ℕ
 flagOf b = cond b 1 0
+
+-- in two's complement
+abbrev pub signedWord : ℤ → ℕ
+signedWord (pos n) = n
+signedWord (negsuc n) = 2 ^ 64 - suc n
 
 -- the first n of the words from k on, so many and then again from the first: as floats, as numbers of 32 bits, as they are
 abbrev pub floatsFrom : List ℕ → ℕ → ℕ → ℕ → List Float

@@ -4,7 +4,7 @@ ghost use mathlib.Core.Path.{_≡_};
 ghost use Prim.Native.Nat.{_+_, _*_, _≤_, _<_};
 ghost use lib.Dec.{eqb};
 ghost use lib.ListN.{length, take};
-ghost use Rattle.test_words.specs.Words.{halfAt, wordAt, floatAt, pointAt, rayAt, sameBits, allSame, flagOf, floatsFrom, marksFrom, countsFrom};
+ghost use Rattle.test_words.specs.Words.{halfAt, wordAt, floatAt, pointAt, rayAt, sameBits, allSame, flagOf, signedWord, floatsFrom, marksFrom, countsFrom};
 ghost use Rattle.test_words.specs.Counts.{missed};
 use geometry::ray::Ray;
 use geometry::vector::Vector;
@@ -96,6 +96,16 @@ pub fn flag(b: bool) -> u64
     ensures { λ r. ⌜ r ≡ flagOf b ⌝ }
 {
     if b { 1 } else { 0 }
+}
+
+// A signed number as a word, in two's complement.
+pub fn signed(z: i64) -> u64
+    ensures { λ r. ⌜ r ≡ signedWord z ⌝ }
+{
+    if z < 0 {
+        return !(!z as u64);
+    }
+    z as u64
 }
 
 // 1 if a record is wrong, else 0.

@@ -3,6 +3,7 @@ use mathlib.Core.Bool.{false}
 use Prim.Native.Nat.{ℕ, _+_, _*_, _/_, _%_, _^_, _≤_, _<_}
 use native.Mathlib.Omega.{arith}
 use mir.Syntax.{w64}
+use mir.Val.{SFits}
 use mir.ValLaws.{toZ-ofZ}
 use lib.IntN.{pos, _-ℤ_}
 use lib.Ieee.{binary64, ofBits, odd}
@@ -43,12 +44,16 @@ rounded-requires c κs = (small-root (S (c .before)) (c .root-of .result .whole)
 add-pattern-2 : tie.Need-add-pattern-2
 add-pattern-2 c = let k = digits (c .before) in omega arith
 
-float-from-bits-t14 : tie.Need-float-from-bits-t14
-float-from-bits-t14 c =
+float-from-bits-result : tie.Need-float-from-bits-result
+float-from-bits-result c =
     let at1 = c .before in let rounded = at1 .rounded in
     let at3 = at1 .before .before in let unpack = at3 .unpack in
     let k = digits (c .before) in
     no-nan-bits ((unpack .result .g / 2 + 485) * 2 ^ 52 + rounded .result .whole) (omega arith)
+
+-- what owning an `i64` tells: 64 bits hold it
+held : (c : tie.After-struct-told) → SFits w64 (c .before .rounded .result .rest)
+held c = search needs
 
 returns : tie.Need-returns
 returns c′ =
@@ -57,14 +62,18 @@ returns c′ =
     let b = c .before .before .before .args .b in
     let x = ofBits binary64 b in
     let k = digits c in
-    let w = whole-units b (c .before .before .before .pre .1) in (
+    let w = whole-units b (c .before .before .before .pre .1) in
+    let told = toZ-ofZ w64 (c .rounded .result .rest) (held c′) in (
       high-is (u .result .g / 2 + 485) (c .rounded .result .whole) (k .0) (k .1) (omega arith)
           ∙ ap (λ (r : ℕ). odd 53 false r (u .result .g / 2 + 485) 1074) (answer c .root)
           ∙ sym (root-at (u .result .m) (u .result .g) (u .ensures .1 .0) (u .ensures .1 .1) x (w .0) (w .1) (u .ensures .0)),
-      toZ-ofZ w64 (c .rounded .result .rest) (search needs)
-          ∙ answer c .left
-          ∙ ap (λ (r : ℕ). pos (S (c .before .before)) -ℤ pos (r * r)) (answer c .root)
-          ∙ sym (rest-at (u .result .m) (u .result .g) (u .ensures .1 .0) (u .ensures .1 .1) x (w .0) (w .1) (u .ensures .0)),
+      (
+        told
+            ∙ answer c .left
+            ∙ ap (λ (r : ℕ). pos (S (c .before .before)) -ℤ pos (r * r)) (answer c .root)
+            ∙ sym (rest-at (u .result .m) (u .result .g) (u .ensures .1 .0) (u .ensures .1 .1) x (w .0) (w .1) (u .ensures .0)),
+        subst (SFits w64) (sym told) (held c′),
+      ),
     )
 
 pub positive-spec : {M : Type 1} → statement M
@@ -72,4 +81,4 @@ positive-spec =
     tie.close
     (tie.spec
     (λ c κs. search needs) (λ c. search needs) (λ c. search needs) (λ c. search needs) root-of-requires rounded-requires (λ c. search needs)
-    (λ c. search needs) add-pattern-2 float-from-bits-t14 returns)
+    (λ c. search needs) add-pattern-2 float-from-bits-result returns)

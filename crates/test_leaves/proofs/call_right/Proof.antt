@@ -61,13 +61,42 @@ returns-6 c =
 returns-7 : tie.Need-returns-7
 unfolding callRight
 returns-7 c =
-    let at1 = c .before in let if5 = at1 .if5 in
-    let at2 = at1 .before in let if4 = at2 .if4 in
-    let at3 = at2 .before in let if3 = at3 .if3 in
-    let at4 = at3 .before in let if2 = at4 .if2 in
-    let at5 = at4 .before in let if1 = at5 .if1 in
-    let at6 = at5 .before in let word = at6 .word in
-    simp (← word .ensures, ne-eqb _ _ (if1 .left), ne-eqb _ _ (if2 .left), ne-eqb _ _ (if3 .left), ne-eqb _ _ (if4 .left), ne-eqb _ _ (if5 .left), ne-eqb _ _ (c .if6 .left))
+    let at1 = c .before in let if7 = at1 .if7 in
+    let at2 = at1 .before in let if6 = at2 .if6 in
+    let at3 = at2 .before in let if5 = at3 .if5 in
+    let at4 = at3 .before in let if4 = at4 .if4 in
+    let at5 = at4 .before in let if3 = at5 .if3 in
+    let at6 = at5 .before in let if2 = at6 .if2 in
+    let at7 = at6 .before in let if1 = at7 .if1 in
+    let at8 = at7 .before in let word = at8 .word in
+    simp (← word .ensures, ne-eqb _ _ (if1 .left), ne-eqb _ _ (if2 .left), ne-eqb _ _ (if3 .left), ne-eqb _ _ (if4 .left), ne-eqb _ _ (if5 .left), ne-eqb _ _ (if6 .left), eq-eqb _ _ (if7 .taken), ← c .length-right .ensures)
+
+returns-8 : tie.Need-returns-8
+unfolding callRight
+returns-8 c =
+    let at1 = c .before in let if8 = at1 .if8 in
+    let at2 = at1 .before in let if7 = at2 .if7 in
+    let at3 = at2 .before in let if6 = at3 .if6 in
+    let at4 = at3 .before in let if5 = at4 .if5 in
+    let at5 = at4 .before in let if4 = at5 .if4 in
+    let at6 = at5 .before in let if3 = at6 .if3 in
+    let at7 = at6 .before in let if2 = at7 .if2 in
+    let at8 = at7 .before in let if1 = at8 .if1 in
+    let at9 = at8 .before in let word = at9 .word in
+    simp (← word .ensures, ne-eqb _ _ (if1 .left), ne-eqb _ _ (if2 .left), ne-eqb _ _ (if3 .left), ne-eqb _ _ (if4 .left), ne-eqb _ _ (if5 .left), ne-eqb _ _ (if6 .left), ne-eqb _ _ (if7 .left), eq-eqb _ _ (if8 .taken), ← c .distance-right .ensures)
+
+returns-9 : tie.Need-returns-9
+unfolding callRight
+returns-9 c =
+    let at1 = c .before in let if7 = at1 .if7 in
+    let at2 = at1 .before in let if6 = at2 .if6 in
+    let at3 = at2 .before in let if5 = at3 .if5 in
+    let at4 = at3 .before in let if4 = at4 .if4 in
+    let at5 = at4 .before in let if3 = at5 .if3 in
+    let at6 = at5 .before in let if2 = at6 .if2 in
+    let at7 = at6 .before in let if1 = at7 .if1 in
+    let at8 = at7 .before in let word = at8 .word in
+    simp (← word .ensures, ne-eqb _ _ (if1 .left), ne-eqb _ _ (if2 .left), ne-eqb _ _ (if3 .left), ne-eqb _ _ (if4 .left), ne-eqb _ _ (if5 .left), ne-eqb _ _ (if6 .left), ne-eqb _ _ (if7 .left), ne-eqb _ _ (c .if8 .left))
 
 pub call-right-spec : {M : Type 1} → statement M
-call-right-spec = tie.close (tie.spec (λ c κs. search needs) (λ c κs. search needs) returns (λ c κs. search needs) returns-2 (λ c κs. search needs) returns-3 (λ c κs. search needs) returns-4 (λ c κs. search needs) returns-5 (λ c κs. search needs) returns-6 returns-7)
+call-right-spec = tie.close (tie.spec (λ c κs. search needs) (λ c κs. search needs) returns (λ c κs. search needs) returns-2 (λ c κs. search needs) returns-3 (λ c κs. search needs) returns-4 (λ c κs. search needs) returns-5 (λ c κs. search needs) returns-6 (λ c κs. search needs) returns-7 (λ c κs. search needs) returns-8 returns-9)
