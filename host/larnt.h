@@ -3,10 +3,10 @@
    not even those of no elements, and what is filled must overlap neither what is read nor anything
    else that is filled. Matrices stand by rows.
 
-   Stack, measured (docs/MEASURES.md): larnt_draw and larnt_build need about 201 KB for local arrays and 512
-   bytes for each level of the tree, at most 1,023 levels, so 725 KB at most. larnt_own_hit,
-   larnt_own_contains, larnt_intersect and larnt_visible need about 200 KB, larnt_check 9 KB. larnt_chop needs
-   25 KB and larnt_simplify 4 KB, however long the paths are. */
+   Stack, measured (docs/MEASURES.md): larnt_draw, larnt_draw_with and larnt_build need about 201 KB for
+   local arrays and 512 bytes for each level of the tree, at most 1,023 levels, so 725 KB at most.
+   larnt_own_hit, larnt_own_contains, larnt_intersect and larnt_visible need about 200 KB, larnt_check 9 KB.
+   larnt_chop needs 25 KB and larnt_simplify 4 KB, however long the paths are. */
 #ifndef LARNT_H
 #define LARNT_H
 
@@ -106,7 +106,7 @@ uint32_t larnt_chop(const double view[22], const double *points, size_t points_c
 uint32_t larnt_simplify(const double *points, size_t points_count, const size_t *starts, size_t starts_count,
                         double threshold, LARNT_PATHS);
 
-/* The drawing of a scene by a view. It works in the slices after `begins`, which are zeros throughout
+/* The drawing of a scene by a view, simplified with 1e-4. It works in the slices after `begins`, which are zeros throughout
    afterwards: `work` and `work_starts` are eight equal slices end to end, one for the collected lines and
    one for each cut within a cut; then the result of a chop, and the tree as above. Answers 0, or the number
    of the refusal: 2 to 7 for the scene, 8 for the view, then 9 to 13 for the first trouble met. */
@@ -116,6 +116,15 @@ uint32_t larnt_draw(LARNT_SCENE, const double view[22], double *out, size_t out_
                     size_t chopped_starts_count, double *node_boxes, size_t node_boxes_count, uint32_t *node_marks,
                     size_t node_marks_count, uint32_t *order, size_t order_count, size_t *points_out,
                     size_t *paths_out);
+
+/* The same simplified with a threshold: 1e-6 for a sheet in fine detail, 0 to keep every vertex that is off
+   its segment. 8 where it is not finite or is negative, -0 is 0, and there is no upper bound. */
+uint32_t larnt_draw_with(LARNT_SCENE, const double view[22], double threshold, double *out, size_t out_count,
+                         size_t *begins, size_t begins_count, double *work, size_t work_count, size_t *work_starts,
+                         size_t work_starts_count, double *chopped, size_t chopped_count, size_t *chopped_starts,
+                         size_t chopped_starts_count, double *node_boxes, size_t node_boxes_count,
+                         uint32_t *node_marks, size_t node_marks_count, uint32_t *order, size_t order_count,
+                         size_t *points_out, size_t *paths_out);
 
 #ifdef __cplusplus
 }

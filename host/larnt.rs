@@ -149,6 +149,30 @@ pub mod raw {
             points_out: &mut usize,
             paths_out: &mut usize,
         );
+        fn larnt_draw_with(
+            view: &[f64; 22],
+            threshold: f64,
+            out: *mut f64,
+            out_count: usize,
+            begins: *mut usize,
+            begins_count: usize,
+            work: *mut f64,
+            work_count: usize,
+            work_starts: *mut usize,
+            work_starts_count: usize,
+            chopped: *mut f64,
+            chopped_count: usize,
+            chopped_starts: *mut usize,
+            chopped_starts_count: usize,
+            node_boxes: *mut f64,
+            node_boxes_count: usize,
+            node_marks: *mut u32,
+            node_marks_count: usize,
+            order: *mut u32,
+            order_count: usize,
+            points_out: &mut usize,
+            paths_out: &mut usize,
+        );
     }
 }
 
@@ -428,7 +452,45 @@ pub struct Work<'a> {
     pub order: &'a mut [u32],
 }
 
-/// Fills the drawing of a scene and answers how many points and paths it has.
+/// A raw draw: what is asked, then the slices of the result and of the work. Answers how many points and
+/// paths there are.
+macro_rules! on_work {
+    ($call:ident, $s:expr, $out:expr, $begins:expr, $work:expr, $($asked:expr),*) => {{
+        let (mut n, mut m) = (0, 0);
+        let number = on_scene!(
+            $call,
+            $s,
+            $($asked,)*
+            $out.as_mut_ptr(),
+            $out.len(),
+            $begins.as_mut_ptr(),
+            $begins.len(),
+            $work.work.as_mut_ptr(),
+            $work.work.len(),
+            $work.work_starts.as_mut_ptr(),
+            $work.work_starts.len(),
+            $work.chopped.as_mut_ptr(),
+            $work.chopped.len(),
+            $work.chopped_starts.as_mut_ptr(),
+            $work.chopped_starts.len(),
+            $work.node_boxes.as_mut_ptr(),
+            $work.node_boxes.len(),
+            $work.node_marks.as_mut_ptr(),
+            $work.node_marks.len(),
+            $work.order.as_mut_ptr(),
+            $work.order.len(),
+            &mut n,
+            &mut m
+        );
+        if number == 0 {
+            Ok((n, m))
+        } else {
+            Err(number)
+        }
+    }};
+}
+
+/// Fills the drawing of a scene, simplified with 1e-4, and answers how many points and paths it has.
 pub fn draw(
     s: Scene,
     view: &[f64; 22],
@@ -436,35 +498,17 @@ pub fn draw(
     begins: &mut [usize],
     work: Work,
 ) -> Result<(usize, usize), u32> {
-    let (mut n, mut m) = (0, 0);
-    let number = on_scene!(
-        larnt_draw,
-        s,
-        view,
-        out.as_mut_ptr(),
-        out.len(),
-        begins.as_mut_ptr(),
-        begins.len(),
-        work.work.as_mut_ptr(),
-        work.work.len(),
-        work.work_starts.as_mut_ptr(),
-        work.work_starts.len(),
-        work.chopped.as_mut_ptr(),
-        work.chopped.len(),
-        work.chopped_starts.as_mut_ptr(),
-        work.chopped_starts.len(),
-        work.node_boxes.as_mut_ptr(),
-        work.node_boxes.len(),
-        work.node_marks.as_mut_ptr(),
-        work.node_marks.len(),
-        work.order.as_mut_ptr(),
-        work.order.len(),
-        &mut n,
-        &mut m
-    );
-    if number == 0 {
-        Ok((n, m))
-    } else {
-        Err(number)
-    }
+    on_work!(larnt_draw, s, out, begins, work, view)
+}
+
+/// The same simplified with a threshold; a sheet in fine detail passes 1e-6.
+pub fn draw_with(
+    s: Scene,
+    view: &[f64; 22],
+    threshold: f64,
+    out: &mut [f64],
+    begins: &mut [usize],
+    work: Work,
+) -> Result<(usize, usize), u32> {
+    on_work!(larnt_draw_with, s, out, begins, work, view, threshold)
 }

@@ -17,7 +17,7 @@ use oracle::larnt_plain::matrix::Matrix;
 use oracle::larnt_plain::path::Paths;
 use oracle::larnt_plain::shape::Shape;
 use oracle::larnt_plain::vector::Vector;
-use oracle::{Lines, Scene, Trouble, View, plain};
+use oracle::{COARSE, Lines, Scene, Trouble, View, plain};
 use std::cell::RefCell;
 
 /// What is so of an eye and a point.
@@ -148,7 +148,7 @@ fn rendered(tally: &mut Tally, scene: &Scene, view: &View) -> Lines {
     let matrix = plain::matrix(&view.matrix);
     paths = paths.filter(&ClipFilter::new(matrix, plain::vector(view.eye), visible));
     if view.step > 0.0 {
-        paths = paths.simplify(1e-6);
+        paths = paths.simplify(COARSE);
     }
     let size = Vector::new(view.width / 2.0, view.height / 2.0, 1.0);
     let viewport = Matrix::translate(Vector::new(1.0, 1.0, 0.0)).scaled(size);

@@ -7,7 +7,7 @@ use crate::scene_inputs::{self, Case};
 use crate::stage_inputs;
 use crate::tree_inputs;
 use oracle::generate::{self, Rng};
-use oracle::{Answer, Lines, Places, Room, Scene, Trouble, View, draw_measured};
+use oracle::{Answer, COARSE, FINE, Lines, Places, Room, Scene, Trouble, View, draw_measured};
 use std::fmt::Write;
 
 /// How many slices a draw is lent: out, begins, work, work_starts, chopped, chopped_starts, node_boxes,
@@ -19,18 +19,28 @@ const WIDTHS: [usize; SLICES] = [3, 1, 24, 8, 3, 1, 6, 3, 1];
 
 pub type Lengths = [usize; SLICES];
 
-/// A scene, a view, the lengths of the lent slices, and what the oracle answers.
+/// The threshold that a draw is handed, if it is one that takes it.
+pub type Threshold = Option<f64>;
+
+/// What larnt's `render` must simplify with.
+fn figure(threshold: Threshold) -> f64 {
+    threshold.unwrap_or(COARSE)
+}
+
+/// A scene, a view, a threshold, the lengths of the lent slices, and what the oracle answers.
 pub struct Draw {
     pub scene: Scene,
     pub view: View,
+    pub threshold: Threshold,
     pub lengths: Lengths,
     pub answer: Answer<Lines>,
 }
 
-/// A scene and a view, lent several rooms in turn.
+/// A scene, a view and a threshold, lent several rooms in turn.
 pub struct Rooms {
     pub scene: Scene,
     pub view: View,
+    pub threshold: Threshold,
     pub lent: Vec<(Lengths, Answer<Lines>)>,
 }
 
@@ -40,6 +50,7 @@ impl Rooms {
         Rooms {
             scene: self.scene.clone(),
             view: self.view.clone(),
+            threshold: self.threshold,
             lent: vec![self.lent[k].clone()],
         }
     }
@@ -89,7 +100,8 @@ fn lengths(rng: &mut Rng, places: [usize; SLICES]) -> Lengths {
 impl Shown for Draw {
     fn size(&self) -> u32 {
         let view = stage_inputs::view_numbers(&self.view);
-        let case = Case { scene: self.scene.clone(), i: 0, asked: view.to_vec() };
+        let asked = view.iter().copied().chain(self.threshold).collect();
+        let case = Case { scene: self.scene.clone(), i: 0, asked };
         case.size() + self.lengths.iter().map(|n| n.count_ones()).sum::<u32>()
     }
 
@@ -98,7 +110,7 @@ impl Shown for Draw {
         let v = &self.view;
         let mut text = scene_inputs::scene_text(&self.scene);
         let numbers = [v.width, v.height, v.step].into_iter().chain(v.eye).chain(v.matrix);
-        for x in numbers {
+        for x in numbers.chain([figure(self.threshold)]) {
             write!(text, "{:016X} ", x.to_bits()).unwrap();
         }
         let Room { work, chopped, out, nodes, order } = room(&self.lengths);
@@ -123,7 +135,8 @@ impl Shown for Rooms {
 impl Rooms {
     fn first(&self) -> Draw {
         let (lengths, answer) = self.lent[0].clone();
-        Draw { scene: self.scene.clone(), view: self.view.clone(), lengths, answer }
+        let (scene, view) = (self.scene.clone(), self.view.clone());
+        Draw { scene, view, threshold: self.threshold, lengths, answer }
     }
 }
 
@@ -132,19 +145,39 @@ impl Rooms {
 /// Places that keep a draw short.
 const AMPLE: usize = 4000;
 
+/// Thresholds: those of a sheet in fine detail and of the default, so small that nothing goes, from less
+/// than a point of the sheet up to one that leaves the ends, zeros of either sign, and bad ones.
+pub fn threshold(rng: &mut Rng) -> Threshold {
+    let some = rng.between(0.0, 2.0);
+    Some(match rng.below(100) {
+        0..20 => FINE,
+        20..30 => COARSE,
+        30..42 => 0.0,
+        42..47 => -0.0,
+        47..54 => rng.pick(&[5e-324, 1e-310, 2.2e-308]),
+        54..70 => some,
+        70..78 => some * rng.pick(&[1e-9, 1e-5, 1e-3, 100.0]),
+        78..84 => rng.pick(&[1e300, f64::MAX, 2e6]),
+        84..90 => rng.pick(&[-1.0, -1e-4, -5e-324, -1e300]),
+        90..98 => rng.pick(&[f64::NAN, -f64::NAN, f64::INFINITY, f64::NEG_INFINITY]),
+        _ => inputs::extreme(rng),
+    })
+}
+
 /// A draw with slices of any length. Runs in which larnt would panic normalising `up` are left out,
 /// and counted.
-pub fn draw(rng: &mut Rng, omitted: &mut u64) -> Draw {
+pub fn draw(rng: &mut Rng, omitted: &mut u64, threshold: fn(&mut Rng) -> Threshold) -> Draw {
     loop {
         let (scene, view) = scene_and_view(rng);
-        let (_, used) = draw_measured(&scene, &view, ample(&scene));
+        let threshold = threshold(rng);
+        let (_, used) = draw_measured(&scene, &view, figure(threshold), ample(&scene));
         let lengths = any_lengths(rng, &used);
-        let answer = oracle::draw(&scene, &view, room(&lengths));
+        let answer = oracle::draw(&scene, &view, figure(threshold), room(&lengths));
         if answer.as_ref().is_err_and(|trouble| *trouble == Trouble::Omitted) {
             *omitted += 1;
             continue;
         }
-        return Draw { scene, view, lengths, answer };
+        return Draw { scene, view, threshold, lengths, answer };
     }
 }
 
@@ -153,18 +186,20 @@ pub fn draw(rng: &mut Rng, omitted: &mut u64) -> Draw {
 pub fn rooms(rng: &mut Rng) -> Rooms {
     loop {
         let (scene, view) = scene_and_view(rng);
-        let (answer, used) = draw_measured(&scene, &view, ample(&scene));
+        let threshold = if rng.chance(50) { threshold(rng) } else { None };
+        let (answer, used) = draw_measured(&scene, &view, figure(threshold), ample(&scene));
         let used = places(&used);
         let short = |k: usize| std::array::from_fn(|j| used[j] - usize::from(j == k));
         let mut lent = vec![(lengths(rng, used), answer)];
         for k in (0..SLICES).filter(|k| used[*k] > 0) {
             let lengths = lengths(rng, short(k));
-            lent.push((lengths, oracle::draw(&scene, &view, room(&lengths))));
+            let answer = oracle::draw(&scene, &view, figure(threshold), room(&lengths));
+            lent.push((lengths, answer));
         }
         // the room was enough before, so the first answer stands
         lent.retain(|(_, answer)| answer.as_ref().err() != Some(&Trouble::Omitted));
         if lent.len() > 1 && lent[0].1.as_ref().err() != Some(&Trouble::Refused(13)) {
-            return Rooms { scene, view, lent };
+            return Rooms { scene, view, threshold, lent };
         }
     }
 }

@@ -2,13 +2,13 @@
 
 use crate::calls;
 use crate::core::{self, direct};
-use crate::draw_inputs::{self, Draw, Lengths, Rooms};
+use crate::draw_inputs::{self, Draw, Lengths, Rooms, Threshold};
 use crate::harness::{Part, Run, Share, time_rounds};
 use crate::host::{self, raw};
 use crate::scene_calls::{Words, copy, number, put, put_floats};
 use crate::stage_inputs::view_numbers;
 use oracle::generate::Rng;
-use oracle::{Answer, Lines, Room, Scene, View, draw_measured, plain};
+use oracle::{Answer, FINE, Lines, Room, Scene, View, draw_measured, plain};
 use std::cell::{Cell, RefCell};
 use std::hint::black_box;
 use std::time::{Duration, Instant};
@@ -95,35 +95,45 @@ impl Lent {
     }
 }
 
-fn core_draw(s: &Scene, view: &[f64; 22], lent: &mut Lent) -> u32 {
-    direct!(
-        larnt_draw,
-        s,
-        view,
-        lent.out.as_mut_ptr(),
-        lent.out.len(),
-        lent.begins.as_mut_ptr(),
-        lent.begins.len(),
-        lent.work.as_mut_ptr(),
-        lent.work.len(),
-        lent.work_starts.as_mut_ptr(),
-        lent.work_starts.len(),
-        lent.chopped.as_mut_ptr(),
-        lent.chopped.len(),
-        lent.chopped_starts.as_mut_ptr(),
-        lent.chopped_starts.len(),
-        lent.node_boxes.as_mut_ptr(),
-        lent.node_boxes.len(),
-        lent.node_marks.as_mut_ptr(),
-        lent.node_marks.len(),
-        lent.order.as_mut_ptr(),
-        lent.order.len(),
-        &mut lent.points,
-        &mut lent.paths
-    )
+/// A draw, called as it is: what is asked, then the lent slices.
+macro_rules! on_lent {
+    ($call:ident, $s:ident, $lent:ident, $($asked:expr),*) => {
+        direct!(
+            $call,
+            $s,
+            $($asked,)*
+            $lent.out.as_mut_ptr(),
+            $lent.out.len(),
+            $lent.begins.as_mut_ptr(),
+            $lent.begins.len(),
+            $lent.work.as_mut_ptr(),
+            $lent.work.len(),
+            $lent.work_starts.as_mut_ptr(),
+            $lent.work_starts.len(),
+            $lent.chopped.as_mut_ptr(),
+            $lent.chopped.len(),
+            $lent.chopped_starts.as_mut_ptr(),
+            $lent.chopped_starts.len(),
+            $lent.node_boxes.as_mut_ptr(),
+            $lent.node_boxes.len(),
+            $lent.node_marks.as_mut_ptr(),
+            $lent.node_marks.len(),
+            $lent.order.as_mut_ptr(),
+            $lent.order.len(),
+            &mut $lent.points,
+            &mut $lent.paths
+        )
+    };
 }
 
-fn host_draw(s: &Scene, view: &[f64; 22], lent: &mut Lent) -> u32 {
+fn core_draw(s: &Scene, view: &[f64; 22], threshold: Threshold, lent: &mut Lent) -> u32 {
+    match threshold {
+        None => on_lent!(larnt_draw, s, lent, view),
+        Some(t) => on_lent!(larnt_draw_with, s, lent, view, t),
+    }
+}
+
+fn host_draw(s: &Scene, view: &[f64; 22], threshold: Threshold, lent: &mut Lent) -> u32 {
     let work = host::Work {
         work: &mut lent.work,
         work_starts: &mut lent.work_starts,
@@ -133,7 +143,11 @@ fn host_draw(s: &Scene, view: &[f64; 22], lent: &mut Lent) -> u32 {
         node_marks: &mut lent.node_marks,
         order: &mut lent.order,
     };
-    let result = host::draw(core::lent(s), view, &mut lent.out, &mut lent.begins, work);
+    let (s, out, begins) = (core::lent(s), &mut lent.out, &mut lent.begins);
+    let result = match threshold {
+        None => host::draw(s, view, out, begins, work),
+        Some(t) => host::draw_with(s, view, t, out, begins, work),
+    };
     (lent.points, lent.paths) = result.unwrap_or_default();
     result.err().unwrap_or(0)
 }
@@ -146,7 +160,7 @@ pub fn amply(scene: &Scene, view: &View) -> Option<Lines> {
 /// What the core draws in so much room.
 pub fn given(scene: &Scene, view: &View, room: &Room) -> Option<Lines> {
     let mut lent = Lent::new(&draw_inputs::exactly(room));
-    match core_draw(scene, &view_numbers(view), &mut lent) {
+    match core_draw(scene, &view_numbers(view), None, &mut lent) {
         0 => {
             let points = lent.out[..3 * lent.points].to_vec();
             Some(Lines { points, starts: lent.begins[..lent.paths].to_vec() })
@@ -171,12 +185,12 @@ struct Tally {
 
 impl Tally {
     /// One draw by the core, directly and as a host in Rust makes it, in turn.
-    fn core(&self, scene: &Scene, view: &View, lengths: &Lengths) -> Words {
+    fn core(&self, scene: &Scene, view: &View, asked: Threshold, lengths: &Lengths) -> Words {
         let mut lent = Lent::new(lengths);
         let view = view_numbers(view);
         let call = if self.calls.get().is_multiple_of(2) { core_draw } else { host_draw };
         let start = Instant::now();
-        let number = call(scene, &view, &mut lent);
+        let number = call(scene, &view, asked, &mut lent);
         self.core.set(self.core.get() + start.elapsed());
         self.calls.set(self.calls.get() + 1);
         lent.words(number)
@@ -222,18 +236,16 @@ pub fn compare(run: &mut Run) {
             a.0[0] == 0 && a.0[1] > 0 && case.lengths[0] / 3 == a.0[1] as usize
         }),
     ];
-    let (tally, omitted) = (Tally::default(), Cell::new(0));
-    let make = |rng: &mut Rng| {
-        let mut count = omitted.get();
-        let case = draw_inputs::draw(rng, &mut count);
-        omitted.set(count);
-        case
-    };
-    let start = Instant::now();
-    let rust = |case: &Draw| tally.rust(&case.lengths, &case.answer);
-    let core = |case: &Draw| tally.core(&case.scene, &case.view, &case.lengths);
-    run.compare("draw", run.count, make, rust, &[&core], shares);
-    tally.print("draw", omitted.get(), start.elapsed());
+    // what a threshold does: at one figure, or refused for its sake
+    let asked: &[Share<Draw, Words>] = &[
+        ("at 1e-6", &|case, a| a.0[0] == 0 && case.threshold == Some(FINE)),
+        ("at 0", &|case, a| a.0[0] == 0 && case.threshold == Some(0.0)),
+        ("a bad threshold", &|case, a| {
+            a.0[0] == 8 && case.threshold.is_some_and(|t| !t.is_finite() || t < 0.0)
+        }),
+    ];
+    compare_one(run, "draw", |_| None, shares);
+    compare_one(run, "draw_with", draw_inputs::threshold, &[shares, asked].concat());
 
     let shares: &[Part<Rooms, Words>] = &[
         ("drawn", &|_, _, a| a.0[0] == 0),
@@ -247,11 +259,33 @@ pub fn compare(run: &mut Run) {
     };
     let core = |case: &Rooms| -> Vec<Words> {
         let lent = case.lent.iter();
-        lent.map(|(lengths, _)| tally.core(&case.scene, &case.view, lengths)).collect()
+        lent.map(|(lengths, _)| tally.core(&case.scene, &case.view, case.threshold, lengths))
+            .collect()
     };
     let (count, make) = (run.count.div_ceil(2), draw_inputs::rooms);
     run.compare_many("draw.rooms", count, make, Rooms::one, rust, &[&core], shares);
     tally.print("draw.rooms", 0, start.elapsed());
+}
+
+/// One of the two draws: by default, or with a threshold.
+fn compare_one(
+    run: &mut Run,
+    name: &str,
+    threshold: fn(&mut Rng) -> Threshold,
+    shares: &[Share<Draw, Words>],
+) {
+    let (tally, omitted) = (Tally::default(), Cell::new(0));
+    let make = |rng: &mut Rng| {
+        let mut count = omitted.get();
+        let case = draw_inputs::draw(rng, &mut count, threshold);
+        omitted.set(count);
+        case
+    };
+    let start = Instant::now();
+    let rust = |case: &Draw| tally.rust(&case.lengths, &case.answer);
+    let core = |case: &Draw| tally.core(&case.scene, &case.view, case.threshold, &case.lengths);
+    run.compare(name, run.count, make, rust, &[&core], shares);
+    tally.print(name, omitted.get(), start.elapsed());
 }
 
 /// The Rust draws shapes that stand already, then makes them too; the core checks the scene first, and
@@ -260,20 +294,22 @@ pub fn speed() {
     for n in [100, 500, 1000] {
         for step in [0.0, 4.0, 1.0] {
             let (scene, view) = draw_inputs::ordinary(&mut Rng::new(1), n, step);
-            let (drawn, used) = draw_measured(&scene, &view, oracle::Room::ENDLESS);
+            let (drawn, used) = draw_measured(&scene, &view, FINE, oracle::Room::ENDLESS);
             let drawn = drawn.unwrap_or_else(|trouble| panic!("{trouble:?}"));
             let entries = plain::entries(&scene);
             let lengths = draw_inputs::exactly(&used);
             let lent = RefCell::new(Lent::new(&lengths));
             let numbers = view_numbers(&view);
             let standing = || {
-                black_box(plain::draw(black_box(&entries), black_box(&view)));
+                black_box(plain::draw(black_box(&entries), black_box(&view), FINE));
             };
             let made = || {
-                black_box(plain::draw(&plain::entries(black_box(&scene)), black_box(&view)));
+                let entries = plain::entries(black_box(&scene));
+                black_box(plain::draw(&entries, black_box(&view), FINE));
             };
             let core = || {
-                let number = core_draw(black_box(&scene), &numbers, &mut lent.borrow_mut());
+                let number =
+                    core_draw(black_box(&scene), &numbers, Some(FINE), &mut lent.borrow_mut());
                 assert_eq!(black_box(number), 0);
             };
             let rounds = if step == 0.0 { 100 } else { 12 };

@@ -80,7 +80,8 @@ fn zigzag(n: usize) {
     }
     matrix[15] = 1.0;
     let view = View { matrix, eye: [1e3, 2e3, 9e3], width: 1e3, height: 1e3, step: 1e3 };
-    let (rust, room) = oracle::with_stack(|| oracle::draw_measured(&scene, &view, Room::ENDLESS));
+    let (rust, room) =
+        oracle::with_stack(|| oracle::draw_measured(&scene, &view, oracle::COARSE, Room::ENDLESS));
     let rust = rust.expect("a drawing");
     let mut core = None;
     within(ARRAYS + LITTLE, || core = draws::given(&scene, &view, &room));

@@ -2,7 +2,7 @@
 
 Each step names a file, a short text that must stand in it, and how often. A count that
 differs ends the build. No step touches a formula: what goes is what needs other crates
-(bon, rand, image); what comes is visibility, the matrix handed in, and calls of `limits`.
+(bon, rand, image); what comes is visibility, the matrix and the threshold handed in, and calls of `limits`.
 """
 
 # The sources that are meant, by SHA-256: larnt at commit c871b00f8c.
@@ -159,7 +159,7 @@ COMPILE = [
     # path: the image code is behind a feature that is never on
     drop("path.rs", "use bon::bon;\n"),
     drop("path.rs", "#[bon]\n"),
-    # scene: the clip matrix is handed in instead of made
+    # scene: the clip matrix is handed in instead of made, and the threshold instead of 1e-6
     drop("scene.rs", "use bon::builder;\n"),
     drop("scene.rs", "#[builder]\n"),
     drop("scene.rs", "#[builder(start_fn)] "),
@@ -167,8 +167,9 @@ COMPILE = [
         "scene.rs",
         "    #[builder(default = Vector::new(0.0, 0.0, 0.0))] center",
         ") -> Paths<Vector> {",
-        "    matrix: Matrix,\n    up: Vector,\n    width: f64,\n    height: f64,\n    step: f64,\n",
+        "    matrix: Matrix,\n    up: Vector,\n    width: f64,\n    height: f64,\n    step: f64,\n    threshold: f64,\n",
     ),
+    swap("scene.rs", "paths.simplify(1e-6)", "paths.simplify(threshold)"),
     cut("scene.rs", "    let aspect = ", "    let viewport_mat"),
     # tree: a stable sort
     swap("tree.rs", "sort_unstable_by", "sort_by"),
@@ -210,7 +211,7 @@ HOOKS = [
     before("scene.rs", "        paths.extend(shape.paths(&args));", "        crate::limits::collect(paths.total_len(), paths.len());\n"),
     before("scene.rs", "        paths = paths.chop_adaptive(&args);", "        crate::limits::push_to(crate::limits::Stage::Chopped);\n"),
     before("scene.rs", "    paths = paths.filter(&filter);", "    crate::limits::push_to(if step > 0.0 { crate::limits::Stage::Work } else { crate::limits::Stage::Out });\n"),
-    before("scene.rs", "        paths = paths.simplify(1e-6);", "        crate::limits::push_to(crate::limits::Stage::Out);\n"),
+    before("scene.rs", "        paths = paths.simplify(threshold);", "        crate::limits::push_to(crate::limits::Stage::Out);\n"),
     # 13: the same in a cut, whose lines are collected in the next slice of work
     before("csg.rs", "        let mut p = self.a.paths(args);", "        crate::limits::collect(0, 0);\n"),
     before("csg.rs", "        p.extend(self.b.paths(args));", "        crate::limits::collect(p.total_len(), p.len());\n"),

@@ -1,7 +1,7 @@
 -- A draw that is answered: it has been through the six steps, and its paths are laid. Assumes nothing.
 use Prim.Native.Nat.{ℕ}
 use mathlib.Core.Path.{_≡_, refl, sym, ap, fun-ext, subst, _∙_}
-use mathlib.Core.Bool.{Bool, true, false, cond}
+use mathlib.Core.Bool.{Bool, true, false, cond, _&&_}
 use mathlib.Core.List.{map}
 use lib.ListN.{length-map}
 use lib.Ieee.{Float}
@@ -21,6 +21,7 @@ use Rattle.paths.specs.Answers.{Answer, answered, refused, next}
 use Rattle.paths.specs.Paths.{Paths, noPaths}
 use Rattle.paths.proofs.Adding.{no-answer, same-answer, next-answered}
 use Rattle.paths.proofs.Laying.{Laid, laid-rising, moved-laid}
+use Rattle.path_rdp.specs.Rdp.{thresholdOk}
 use Rattle.path_simplify.specs.Simplify.{simplifyPaths}
 use Rattle.path_simplify.proofs.Laying.{simplify-laid}
 use Rattle.path_filter.proofs.Laying.{filter-laid}
@@ -31,8 +32,7 @@ use Rattle.draw_collect.specs.Lined.{bare, ownLines}
 use Rattle.draw_collect.specs.Collect.{handed, choppedLines, collectedAll}
 use Rattle.draw_collect.proofs.Nesting.{bare-read}
 use Rattle.draw_render.specs.Render.{Places, stepping, onTree, seenLines, simplifiedLines, mapped, staged, rendered}
-use Rattle.draw.specs.Draw.{linedIn, render, drawnAfter, drawOf}
-use Rattle.floats.specs.Arith.{millionth}
+use Rattle.draw.specs.Draw.{linedIn, render, drawnAfter, drawWith}
 use Rattle.draw.specs.Drawing.{solidIn, boxIn, seenIn, Drawing, DrawnSo, DrawingLaid}
 
 -- ---- what is answered was answered at each step
@@ -41,9 +41,10 @@ unfolding drawnAfter
 drawn-accepted (Accepted n) a e = (n, refl, e)
 drawn-accepted (Refused k) a e = no-answer k e
 
-view-passes : (b : Bool) (a : Answer Paths) {q : Paths} → cond b a (refused BadView) ≡ answered q → (b ≡ true) × (a ≡ answered q)
-view-passes true a e = (refl, e)
-view-passes false a e = no-answer BadView e
+view-passes : (b c : Bool) (a : Answer Paths) {q : Paths} → cond (b && c) a (refused BadView) ≡ answered q → (b ≡ true) × (c ≡ true) × (a ≡ answered q)
+view-passes true true a e = (refl, refl, e)
+view-passes true false a e = no-answer BadView e
+view-passes false c a e = no-answer BadView e
 
 tree-built : (b : Built) (a : Answer Paths) {q : Paths} → onTree b a ≡ answered q → (n : ℕ) × (b ≡ Nodes n) × (a ≡ answered q)
 unfolding onTree
@@ -65,32 +66,33 @@ bare-is : (s : Scene) → _≡_ {A = ℕ → Shape} (λ (i : ℕ). bare (linedIn
 bare-is s = fun-ext (λ (i : ℕ). bare-read (ownEntry (s .numbers) (s .marks)) (ownLines (s .marks) (s .points) (s .starts) (s .owners)) 8 i)
 
 -- the stages after the collection
-module _ (s : Scene) (v : View) (w : Places) where
-  staged-as : (p : Paths) → staged millionth v w (λ (i : ℕ). bare (linedIn s i)) (λ (i : ℕ). shapeBox (bare (linedIn s i))) (drawn (s .marks)) p ≡ staged millionth v w (solidIn s) (boxIn s) (drawn (s .marks)) p
-  staged-as p = ap (λ (solid : ℕ → Shape). staged millionth v w solid (λ (i : ℕ). shapeBox (solid i)) (drawn (s .marks)) p) (bare-is s)
+module _ (t : Float) (s : Scene) (v : View) (w : Places) where
+  staged-as : (p : Paths) → staged t v w (λ (i : ℕ). bare (linedIn s i)) (λ (i : ℕ). shapeBox (bare (linedIn s i))) (drawn (s .marks)) p ≡ staged t v w (solidIn s) (boxIn s) (drawn (s .marks)) p
+  staged-as p = ap (λ (solid : ℕ → Shape). staged t v w solid (λ (i : ℕ). shapeBox (solid i)) (drawn (s .marks)) p) (bare-is s)
 
 pub drawn-so : DrawnSo
-unfolding drawOf render rendered staged seenLines
-drawn-so s v w q e =
+unfolding drawWith render rendered staged seenLines
+drawn-so t s v w q e =
     let d = drawn-accepted (checkOf s) _ e in
-    let f = view-passes (viewOk v) _ (d .2) in
-    let c = next-answered (collectedAll (argsOf v) (w .lines) (linedIn s) (drawn (s .marks)) noPaths) _ q (f .1) in
-    let g = next-answered (staged millionth v w (λ (i : ℕ). bare (linedIn s i)) (λ (i : ℕ). shapeBox (bare (linedIn s i))) (drawn (s .marks)) (c .0)) _ q (c .2) in
+    let f = view-passes (viewOk v) (thresholdOk t) _ (d .2) in
+    let c = next-answered (collectedAll (argsOf v) (w .lines) (linedIn s) (drawn (s .marks)) noPaths) _ q (f .2) in
+    let g = next-answered (staged t v w (λ (i : ℕ). bare (linedIn s i)) (λ (i : ℕ). shapeBox (bare (linedIn s i))) (drawn (s .marks)) (c .0)) _ q (c .2) in
     let h = stages (choppedLines (argsOf v) (w .lines .chopped) (w .lines .begins) (c .0)) (seenLines v (w .nodes) (w .order) (solidIn s) (boxIn s) (drawn (s .marks)))
-    (simplifiedLines millionth (w .points) (w .starts)) (c .0) (g .0) (w .lines .points) (w .lines .starts) (w .points) (w .starts) (stepping v) (sym (staged-as s v w (c .0)) ∙ g .1) in
-    let t = tree-built (plantedOf (boxIn s) (drawn (s .marks)) (w .nodes) (w .order)) _ (h .3) in
+    (simplifiedLines t (w .points) (w .starts)) (c .0) (g .0) (w .lines .points) (w .lines .starts) (w .points) (w .starts) (stepping v) (sym (staged-as t s v w (c .0)) ∙ g .1) in
+    let b = tree-built (plantedOf (boxIn s) (drawn (s .marks)) (w .nodes) (w .order)) _ (h .3) in
     record {
       count = d .0;
       accepted = d .1;
       fair = f .0;
+      threshold = f .1;
       collected = c .0;
       collects = c .1;
       lines = h .0;
       chops = h .2;
-      nodes = t .0;
-      builds = t .1;
+      nodes = b .0;
+      builds = b .1;
       passed = h .1;
-      filters = t .2;
+      filters = b .2;
       left = g .0;
       simplifies = h .4;
       maps = sym (same-answer (g .2));
@@ -103,16 +105,16 @@ simplified-laid t room startRoom p {o} e =
     let a = next-answered (handed p) (λ (q : Paths). simplifyPaths t (q .vertices) (q .starts) room startRoom) o e in
     simplify-laid t (a .0 .vertices) (a .0 .starts) room startRoom (a .2)
 
-result-laid : {s : Scene} {v : View} {w : Places} {q : Paths} → Drawing s v w q → Laid (w .points) (w .starts) q
+result-laid : {t : Float} {s : Scene} {v : View} {w : Places} {q : Paths} → Drawing t s v w q → Laid (w .points) (w .starts) q
 unfolding mapped
-result-laid {s} {v} {w} D =
+result-laid {t} {s} {v} {w} D =
     let m = mulPosition (viewport (v .width) (v .height)) in
     subst (Laid (w .points) (w .starts)) (sym (D .maps)) (moved-laid (D .left) (map m (D .left .vertices)) (length-map (D .left .vertices) m) (by (stepping v) (D .filters) (D .simplifies)))
   where
     by : (b : Bool) → clipPaths (v .matrix) (seenIn s (v .eye)) (D .lines .vertices) (D .lines .starts) (cond b (w .lines .points) (w .points)) (cond b (w .lines .starts) (w .starts)) ≡ answered (D .passed)
-        → cond b (simplifiedLines millionth (w .points) (w .starts) (D .passed)) (answered (D .passed)) ≡ answered (D .left) → Laid (w .points) (w .starts) (D .left)
-    by true f e = simplified-laid millionth (w .points) (w .starts) (D .passed) e
+        → cond b (simplifiedLines t (w .points) (w .starts) (D .passed)) (answered (D .passed)) ≡ answered (D .left) → Laid (w .points) (w .starts) (D .left)
+    by true f e = simplified-laid t (w .points) (w .starts) (D .passed) e
     by false f e = subst (Laid (w .points) (w .starts)) (same-answer e) (filter-laid (clipFilter (v .matrix) (seenIn s (v .eye))) (D .lines .vertices) (D .lines .starts) f)
 
 pub drawing-laid : DrawingLaid
-drawing-laid s v w q D = let h = result-laid D in (laid-rising h, h .points-fit, h .starts-fit)
+drawing-laid t s v w q D = let h = result-laid D in (laid-rising h, h .points-fit, h .starts-fit)

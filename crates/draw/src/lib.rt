@@ -2,14 +2,15 @@
 ghost use lib.ListN.{length};
 ghost use Rattle.floats.specs.Arith.{zeroF};
 ghost use Rattle.paths.specs.Ends.{EndsBoth, Finished, Zeroed};
-ghost use Rattle.draw.specs.Draw.{drawIn};
+ghost use Rattle.draw.specs.Draw.{drawWithIn, drawIn};
 use check_scene::Verdict;
 use paths::Counts;
 use refusals::Refusal;
 use view::View;
 
-// The check of the scene and of the view, and the drawing, in the first places of `out` and `begins`.
+// The check of the scene, of the view and of the threshold, and the drawing, in the first places of `out` and `begins`.
 fn drawing(
+    threshold: f64,
     numbers: &[f64],
     marks: &[u32],
     points: &[f64],
@@ -26,7 +27,7 @@ fn drawing(
     node_marks: &mut [u32],
     order: &mut [u32],
 ) -> Counts
-    ensures { λ r. ⌜ EndsBoth (drawIn (now (numbers .entry)) (now (marks .entry)) (now (points .entry)) (now (starts .entry)) (now (owners .entry)) view (now (out .entry)) (now (begins .entry)) (now (work .entry)) (now («work_starts» .entry)) (now (chopped .entry)) (now («chopped_starts» .entry)) (now («node_boxes» .entry)) (now («node_marks» .entry)) (now (order .entry))) (now (out .exit)) (now (begins .exit)) r ⌝ }
+    ensures { λ r. ⌜ EndsBoth (drawWithIn threshold (now (numbers .entry)) (now (marks .entry)) (now (points .entry)) (now (starts .entry)) (now (owners .entry)) view (now (out .entry)) (now (begins .entry)) (now (work .entry)) (now («work_starts» .entry)) (now (chopped .entry)) (now («chopped_starts» .entry)) (now («node_boxes» .entry)) (now («node_marks» .entry)) (now (order .entry))) (now (out .exit)) (now (begins .exit)) r ⌝ }
 {
     let mut inverses = [0.0; 16384];
     let mut boxes = [0.0; 6144];
@@ -47,8 +48,11 @@ fn drawing(
             if !view.is_ok() {
                 return Counts::Refused(Refusal::View);
             }
+            if !path_rdp::threshold_ok(threshold) {
+                return Counts::Refused(Refusal::View);
+            }
             draw_render::render(
-                1e-6,
+                threshold,
                 view,
                 numbers,
                 &inverses,
@@ -100,9 +104,11 @@ fn clear_work(
     rows::clear_marks(order, 0);
 }
 
-// A scene drawn for a view, in `out` and `begins`, or why it is refused; the work slices end as zeros.
-// `work` has eight equal vectors of lines, `chopped` the result of a chop, the last three the tree.
-pub fn draw(
+// A scene drawn for a view and simplified with a threshold, in `out` and `begins`, or why it is refused;
+// the work slices end as zeros. `work` has eight equal vectors of lines, `chopped` the result of a chop,
+// the last three the tree.
+pub fn draw_with(
+    threshold: f64,
     numbers: &[f64],
     marks: &[u32],
     points: &[f64],
@@ -119,7 +125,7 @@ pub fn draw(
     node_marks: &mut [u32],
     order: &mut [u32],
 ) -> Counts
-    ensures { λ r. ⌜ Finished (drawIn (now (numbers .entry)) (now (marks .entry)) (now (points .entry)) (now (starts .entry)) (now (owners .entry)) view (now (out .entry)) (now (begins .entry)) (now (work .entry)) (now («work_starts» .entry)) (now (chopped .entry)) (now («chopped_starts» .entry)) (now («node_boxes» .entry)) (now («node_marks» .entry)) (now (order .entry))) (length (now (out .entry))) (length (now (begins .entry))) (now (out .exit)) (now (begins .exit)) r ⌝ }
+    ensures { λ r. ⌜ Finished (drawWithIn threshold (now (numbers .entry)) (now (marks .entry)) (now (points .entry)) (now (starts .entry)) (now (owners .entry)) view (now (out .entry)) (now (begins .entry)) (now (work .entry)) (now («work_starts» .entry)) (now (chopped .entry)) (now («chopped_starts» .entry)) (now («node_boxes» .entry)) (now («node_marks» .entry)) (now (order .entry))) (length (now (out .entry))) (length (now (begins .entry))) (now (out .exit)) (now (begins .exit)) r ⌝ }
     ensures { λ _. ⌜ Zeroed zeroF (now (work .entry)) (now (work .exit)) ⌝ }
     ensures { λ _. ⌜ Zeroed 0 (now («work_starts» .entry)) (now («work_starts» .exit)) ⌝ }
     ensures { λ _. ⌜ Zeroed zeroF (now (chopped .entry)) (now (chopped .exit)) ⌝ }
@@ -129,6 +135,7 @@ pub fn draw(
     ensures { λ _. ⌜ Zeroed 0 (now (order .entry)) (now (order .exit)) ⌝ }
 {
     let r = drawing(
+        threshold,
         numbers,
         marks,
         points,
@@ -155,4 +162,51 @@ pub fn draw(
         order,
     );
     paths::finish(out, begins, r)
+}
+
+// The same by default: a coarse sheet, simplified with 1e-4.
+pub fn draw(
+    numbers: &[f64],
+    marks: &[u32],
+    points: &[f64],
+    starts: &[usize],
+    owners: &[u32],
+    view: View,
+    out: &mut [f64],
+    begins: &mut [usize],
+    work: &mut [f64],
+    work_starts: &mut [usize],
+    chopped: &mut [f64],
+    chopped_starts: &mut [usize],
+    node_boxes: &mut [f64],
+    node_marks: &mut [u32],
+    order: &mut [u32],
+) -> Counts
+    ensures { λ r. ⌜ Finished (drawIn (now (numbers .entry)) (now (marks .entry)) (now (points .entry)) (now (starts .entry)) (now (owners .entry)) view (now (out .entry)) (now (begins .entry)) (now (work .entry)) (now («work_starts» .entry)) (now (chopped .entry)) (now («chopped_starts» .entry)) (now («node_boxes» .entry)) (now («node_marks» .entry)) (now (order .entry))) (length (now (out .entry))) (length (now (begins .entry))) (now (out .exit)) (now (begins .exit)) r ⌝ }
+    ensures { λ _. ⌜ Zeroed zeroF (now (work .entry)) (now (work .exit)) ⌝ }
+    ensures { λ _. ⌜ Zeroed 0 (now («work_starts» .entry)) (now («work_starts» .exit)) ⌝ }
+    ensures { λ _. ⌜ Zeroed zeroF (now (chopped .entry)) (now (chopped .exit)) ⌝ }
+    ensures { λ _. ⌜ Zeroed 0 (now («chopped_starts» .entry)) (now («chopped_starts» .exit)) ⌝ }
+    ensures { λ _. ⌜ Zeroed zeroF (now («node_boxes» .entry)) (now («node_boxes» .exit)) ⌝ }
+    ensures { λ _. ⌜ Zeroed 0 (now («node_marks» .entry)) (now («node_marks» .exit)) ⌝ }
+    ensures { λ _. ⌜ Zeroed 0 (now (order .entry)) (now (order .exit)) ⌝ }
+{
+    draw_with(
+        1e-4,
+        numbers,
+        marks,
+        points,
+        starts,
+        owners,
+        view,
+        out,
+        begins,
+        work,
+        work_starts,
+        chopped,
+        chopped_starts,
+        node_boxes,
+        node_marks,
+        order,
+    )
 }

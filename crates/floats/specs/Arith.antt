@@ -38,12 +38,15 @@ twoF = bits 0x4000_0000_0000_0000
 abbrev pub fourF : Float
 fourF = bits 0x4010_0000_0000_0000
 
--- 1e-2, 1e-3 and 1e-6
+-- 1e-2, 1e-3, 1e-4 and 1e-6
 abbrev pub hundredth : Float
 hundredth = bits 0x3f84_7ae1_47ae_147b
 
 abbrev pub thousandth : Float
 thousandth = bits 0x3f50_624d_d2f1_a9fc
+
+abbrev pub tenThousandth : Float
+tenThousandth = bits 0x3f1a_36e2_eb1c_432d
 
 abbrev pub millionth : Float
 millionth = bits 0x3eb0_c6f7_a0b5_ed8d

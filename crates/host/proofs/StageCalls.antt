@@ -11,7 +11,7 @@ use Rattle.view.specs.declared.View.{View}
 use Rattle.path_chop.specs.Chop.{chopCall}
 use Rattle.scene.specs.Scenes.{Scene}
 use Rattle.draw_render.specs.Render.{Places}
-use Rattle.draw.specs.Draw.{drawOf}
+use Rattle.draw.specs.Draw.{drawWith}
 use Rattle.host.specs.StageCalls.{countsNumber, pointsTold, pathsTold, PathsTold}
 
 pub finished-so : (a : Answer Paths) (x y : ℕ) {xs : List Float} {ss : List ℕ} {c : Counts} {number n m : ℕ}
@@ -23,9 +23,7 @@ pub view-so : {v w : View} (ps : List Float) (ss : List ℕ) (room startRoom x y
     → v ≡ w → Finished (chopCall v ps ss room startRoom) x y xs us c → Finished (chopCall w ps ss room startRoom) x y xs us c
 view-so ps ss room startRoom x y {xs} {us} {c} e f = subst (λ (v : View). Finished (chopCall v ps ss room startRoom) x y xs us c) e f
 
--- a draw: the answer, and then the work slices
-pub draw-so : {A : Type 0} {v w : View} (s : Scene) (p : Places) (x y : ℕ) {xs : List Float} {ss : List ℕ} {c : Counts} {number n m : ℕ}
-    → v ≡ w → Finished (drawOf s v p) x y xs ss c → number ≡ countsNumber c → n ≡ pointsTold c → m ≡ pathsTold c → A
-    → PathsTold (drawOf s w p) x y number xs ss n m × A
-draw-so {w = w} s p x y {xs} {ss} {c} e f k n m a =
-    (finished-so (drawOf s w p) x y (subst (λ (v : View). Finished (drawOf s v p) x y xs ss c) e f) k n m, a)
+-- a draw, likewise
+pub draw-so : {v w : View} (t : Float) (s : Scene) (p : Places) (x y : ℕ) {xs : List Float} {ss : List ℕ} {c : Counts} {number n m : ℕ}
+    → v ≡ w → Finished (drawWith t s v p) x y xs ss c → number ≡ countsNumber c → n ≡ pointsTold c → m ≡ pathsTold c → PathsTold (drawWith t s w p) x y number xs ss n m
+draw-so {w = w} t s p x y {xs} {ss} {c} e f = finished-so (drawWith t s w p) x y (subst (λ (v : View). Finished (drawWith t s v p) x y xs ss c) e f)

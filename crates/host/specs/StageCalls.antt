@@ -12,7 +12,8 @@ use Rattle.paths.specs.Ends.{counted, laidPoints, laidStarts}
 use Rattle.paths.specs.declared.Counts.{Counts}
 use Rattle.paths.specs.declared.Counts.the-variants.{Both, Refused as NotBoth}
 use Rattle.view.specs.declared.View.{View}
-use Rattle.draw.specs.Draw.{drawIn}
+use Rattle.floats.specs.Arith.{tenThousandth}
+use Rattle.draw.specs.Draw.{drawWithIn}
 
 -- the matrix by rows, the eye, width, height and step
 abbrev pub viewOfRow : List Float → View
@@ -66,5 +67,8 @@ PathsTold a x y number out begins points paths =
     × (paths ≡ pathsTold (counted a)))))
 
 -- a draw of the slices that are handed in, in the places of those that are lent
+abbrev pub drawCallWith : Float → List Float → List ℕ → List Float → List ℕ → List ℕ → List Float → List Float → List ℕ → List Float → List ℕ → List Float → List ℕ → List Float → List ℕ → List ℕ → Answer Paths
+drawCallWith t numbers marks points starts owners view = drawWithIn t numbers marks points starts owners (viewOfRow view)
+
 abbrev pub drawCall : List Float → List ℕ → List Float → List ℕ → List ℕ → List Float → List Float → List ℕ → List Float → List ℕ → List Float → List ℕ → List Float → List ℕ → List ℕ → Answer Paths
-drawCall numbers marks points starts owners view = drawIn numbers marks points starts owners (viewOfRow view)
+drawCall = drawCallWith tenThousandth

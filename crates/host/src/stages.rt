@@ -111,8 +111,9 @@ pub extern "C" fn larnt_simplify(
     counts_number(c)
 }
 
-// The scene drawn for a view: numbers 2 to 8, then the first of 9 to 13 that the work meets. What is filled
-// is as above; the work slices are zeros afterwards. `work` and `work_starts` are eight equal vectors.
+// The scene drawn for a view, simplified with 1e-4: numbers 2 to 8, then the first of 9 to 13 that the work
+// meets. What is filled is as above; the work slices are zeros afterwards. `work` and `work_starts` are
+// eight equal vectors.
 #[no_mangle]
 pub extern "C" fn larnt_draw(
     numbers: &[f64],
@@ -143,6 +144,60 @@ pub extern "C" fn larnt_draw(
     ensures { λ _. ⌜ Zeroed 0 (now (order .entry)) (now (order .exit)) ⌝ }
 {
     let c = draw::draw(
+        numbers,
+        marks,
+        points,
+        starts,
+        owners,
+        view_from(view),
+        out,
+        begins,
+        work,
+        work_starts,
+        chopped,
+        chopped_starts,
+        node_boxes,
+        node_marks,
+        order,
+    );
+    *points_out = point_count(c);
+    *paths_out = path_count(c);
+    counts_number(c)
+}
+
+// The same simplified with a threshold, which meets 8 where it is not finite or is negative.
+#[no_mangle]
+pub extern "C" fn larnt_draw_with(
+    numbers: &[f64],
+    marks: &[u32],
+    points: &[f64],
+    starts: &[usize],
+    owners: &[u32],
+    view: &[f64; 22],
+    threshold: f64,
+    out: &mut [f64],
+    begins: &mut [usize],
+    work: &mut [f64],
+    work_starts: &mut [usize],
+    chopped: &mut [f64],
+    chopped_starts: &mut [usize],
+    node_boxes: &mut [f64],
+    node_marks: &mut [u32],
+    order: &mut [u32],
+    points_out: &mut usize,
+    paths_out: &mut usize,
+) -> u32
+    ensures { λ r. ⌜ StageCalls.PathsTold (StageCalls.drawCallWith threshold (now (numbers .entry)) (now (marks .entry)) (now (points .entry)) (now (starts .entry)) (now (owners .entry)) (now (view .entry)) (now (out .entry)) (now (begins .entry)) (now (work .entry)) (now («work_starts» .entry)) (now (chopped .entry)) (now («chopped_starts» .entry)) (now («node_boxes» .entry)) (now («node_marks» .entry)) (now (order .entry))) (length (now (out .entry))) (length (now (begins .entry))) r (now (out .exit)) (now (begins .exit)) (now («points_out» .exit)) (now («paths_out» .exit)) ⌝ }
+    ensures { λ _. ⌜ Zeroed zeroF (now (work .entry)) (now (work .exit)) ⌝ }
+    ensures { λ _. ⌜ Zeroed 0 (now («work_starts» .entry)) (now («work_starts» .exit)) ⌝ }
+    ensures { λ _. ⌜ Zeroed zeroF (now (chopped .entry)) (now (chopped .exit)) ⌝ }
+    ensures { λ _. ⌜ Zeroed 0 (now («chopped_starts» .entry)) (now («chopped_starts» .exit)) ⌝ }
+    ensures { λ _. ⌜ Zeroed zeroF (now («node_boxes» .entry)) (now («node_boxes» .exit)) ⌝ }
+    ensures { λ _. ⌜ Zeroed 0 (now («node_marks» .entry)) (now («node_marks» .exit)) ⌝ }
+    ensures { λ _. ⌜ Zeroed 0 (now (order .entry)) (now (order .exit)) ⌝ }
+{
+    let c = draw::draw_with(
+        threshold,
         numbers,
         marks,
         points,

@@ -6,15 +6,24 @@ use Prim.Native.Nat.{ℕ, zero, suc, _+_, _-_, _≤_, _<_}
 use native.Mathlib.Nat.{zero-add, suc-add}
 use native.Mathlib.Omega.{arith}
 use borrow.Author.Tests.{lt-ltb, le-ltb}
-use lib.Dec.{ltb}
+use lib.Dec.{T, ltb}
 use lib.ListN.{length, take, drop, length-append, length-drop}
 use lib.Seq.{length-take-le}
-use lib.Ieee.{Float, lt}
+use lib.Ieee.{Float, lt, le}
+use lib.Ieee.Bits.{is-false}
+use lib.Ieee.Fits.{and-r}
+use lib.Ieee.Scale.{finite}
 use Rattle.floats.specs.Arith.{zeroF}
+use Rattle.floats.proofs.Order.{le→not-gt}
 use Rattle.geometry.specs.declared.vector.Vector.{Vector}
 use Rattle.paths.specs.Paths.{front}
-use Rattle.path_rdp.specs.Rdp.{firstVertex, lastVertex, farthestOf, halved, thinned, rdp, simplified}
+use Rattle.path_rdp.specs.Rdp.{thresholdOk, firstVertex, lastVertex, farthestOf, halved, thinned, rdp, simplified}
 use Rattle.path_rdp.proofs.Scanning.{far-inside}
+
+-- what number 8 lets pass is not below 0
+pub not-low : (t : Float) → T (thresholdOk t) → lt t zeroF ≡ false
+unfolding thresholdOk
+not-low t h = is-false (lt t zeroF) (le→not-gt zeroF t (and-r (finite t) (le zeroF t) h))
 
 module _ (t : Float) (low : lt t zeroF ≡ false) where
   halves-more : (n : ℕ) (p : List Vector) (s : Bool) → lt t (farthestOf p .distance) ≡ s → length p ≤ suc n → ((q : List Vector) → length q ≤ n → rdp (suc n) t q ≡ rdp n t q)

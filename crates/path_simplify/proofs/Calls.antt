@@ -1,17 +1,14 @@
 -- The public call, and demand 3 of it. Assumes nothing.
 use mathlib.Core.Path.{_≡_, refl, sym, ap, _∙_, subst}
-use mathlib.Core.Bool.{Bool, true, false, not}
+use mathlib.Core.Bool.{Bool, true, false}
 use mathlib.Core.List.{List, [], _∷_, map}
 use Prim.Native.Nat.{ℕ, _+_, _-_, _<_}
 use native.Mathlib.Omega.{arith}
 use lib.Dec.{T}
 use lib.ListN.{length, take, length-take, length-drop}
 use lib.Seq.{slice, getD-take, getD-drop}
-use lib.Ieee.{Float, lt, le}
-use lib.Ieee.Fits.{and-r}
-use lib.Ieee.Scale.{finite}
+use lib.Ieee.{Float, lt}
 use Rattle.floats.specs.Arith.{zeroF}
-use Rattle.floats.proofs.Order.{le→not-gt}
 use Rattle.geometry.specs.Limits.{Within}
 use Rattle.geometry.specs.declared.vector.Vector.{Vector}
 use Rattle.refusals.specs.declared.Refusal.{Refusal}
@@ -30,19 +27,11 @@ use Rattle.paths.proofs.Closing.{finished-held}
 use Rattle.paths.proofs.Adding.{extend-adds, stage-made}
 use Rattle.path_rdp.specs.Rdp.{thresholdOk, vertex, simplified}
 use Rattle.path_rdp.specs.Demand.{Accepted, Simplifies}
-use Rattle.path_rdp.proofs.Splitting.{simplified-short, simplified-some}
+use Rattle.path_rdp.proofs.Splitting.{not-low, simplified-short, simplified-some}
 use Rattle.path_rdp.proofs.Keeping.{simplified-keeps}
 use Rattle.path_simplify.specs.Simplify.{pathSimplify, simplifyPaths, simplifyCall}
 use Rattle.path_simplify.specs.Kept.{Kept}
 use Rattle.lists.specs.Lists.{Pairwise}
-
-not-low : (t : Float) → T (thresholdOk t) → lt t zeroF ≡ false
-unfolding thresholdOk
-not-low t h = is-false (lt t zeroF) (le→not-gt zeroF t (and-r (finite t) (le zeroF t) h))
-  where
-    is-false : (b : Bool) → T (not b) → b ≡ false
-    is-false true h = absurd h
-    is-false false h = refl
 
 holds : (b : Bool) → b ≡ true → T b
 holds b e = subst T (sym e) tt

@@ -5,6 +5,7 @@ use mathlib.Core.List.{List}
 use native.Mathlib.Omega.{arith}
 use borrow.Author.Tests.{le-leb}
 use lib.ListN.{length, take}
+use Rattle.floats.specs.Arith.{millionth}
 use Rattle.refusals.specs.Refusals.{numberOf}
 use Rattle.refusals.specs.declared.Refusal.{Refusal}
 use Rattle.refusals.specs.declared.Refusal.the-variants.{Lengths, Values, Parts, Measures, Placing, Extent, View as BadView, Point, Halvings, Restarts, Waiting, Room}
@@ -12,7 +13,7 @@ use Rattle.scene.specs.Scenes.{Scene}
 use Rattle.view.specs.declared.View.{View}
 use Rattle.paths.specs.Answers.{Answer, answered, refused}
 use Rattle.paths.specs.Paths.{Paths}
-use Rattle.draw.specs.Draw.{drawOf}
+use Rattle.draw.specs.Draw.{drawWith}
 use Rattle.draw.proofs.Answered.{drawn-so, drawing-laid}
 use Rattle.text_tokens.specs.Tokens.{Got, no, got}
 use Rattle.text_scene.specs.Texts.{Yard, yardOf}
@@ -37,11 +38,11 @@ number-small Room = omega arith
 
 drawn-fits : (s : Scene) (v : View) → length (drawnText s v) ≤ enough
 unfolding answerText
-drawn-fits s v = by (drawOf s v yardPlaces) refl
+drawn-fits s v = by (drawWith millionth s v yardPlaces) refl
   where
-    by : (a : Answer Paths) → drawOf s v yardPlaces ≡ a → length (answerText a) ≤ enough
+    by : (a : Answer Paths) → drawWith millionth s v yardPlaces ≡ a → length (answerText a) ≤ enough
     by (answered p) e =
-        let h = drawing-laid s v yardPlaces p (drawn-so s v yardPlaces p e) in
+        let h = drawing-laid millionth s v yardPlaces p (drawn-so millionth s v yardPlaces p e) in
         text-fits (p .vertices) (p .starts) (h .1) (h .2) (h .0)
     by (refused k) e = omega (arith, refused-fits (numberOf k) (number-small k))
 

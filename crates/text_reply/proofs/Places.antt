@@ -6,7 +6,7 @@ use native.Mathlib.Omega.{arith}
 use lib.ListN.{length, take, drop, replicate, length-append, length-replicate}
 use lib.Seq.{take-at}
 use lib.Ieee.{Float}
-use Rattle.floats.specs.Arith.{zeroF}
+use Rattle.floats.specs.Arith.{zeroF, millionth}
 use Rattle.geometry.specs.declared.vector.Vector.{Vector}
 use Rattle.rows.specs.Rows.{view, flat, padded}
 use Rattle.rows.specs.Points.{points, pointOf, pointRow}
@@ -21,7 +21,7 @@ use Rattle.view.specs.declared.View.{View}
 use Rattle.scene.specs.Scenes.{Scene}
 use Rattle.draw_render.specs.Render.{Places}
 use Rattle.draw_render.specs.Slices.{placesIn}
-use Rattle.draw.specs.Draw.{drawOf}
+use Rattle.draw.specs.Draw.{drawWith}
 use Rattle.text_drawing.specs.Drawings.{drawingText, textOf, fitting, written, laid}
 use Rattle.text_reply.specs.Reply.{yardPlaces, answerText, drawnText}
 
@@ -85,6 +85,6 @@ Wrote t room r ys = (r ≡ written (fitting room t)) × (ys ≡ laid (fitting ro
 pub wrote-as : {s t : List ℕ} (room : ℕ) (r : Count) (ys : List ℕ) → s ≡ t → Wrote s room r ys → Wrote t room r ys
 wrote-as room r ys e w = subst (λ (x : List ℕ). Wrote x room r ys) e w
 
-pub drawn-wrote : (s : Scene) (v : View) (n m : ℕ) (xs : List Float) (ss : List ℕ) {c : Counts} → Finished (drawOf s v lent) n m xs ss c → (room : ℕ) (r : Count) (ys : List ℕ)
+pub drawn-wrote : (s : Scene) (v : View) (n m : ℕ) (xs : List Float) (ss : List ℕ) {c : Counts} → Finished (drawWith millionth s v lent) n m xs ss c → (room : ℕ) (r : Count) (ys : List ℕ)
     → Wrote (textOf c xs ss) room r ys → Wrote (drawnText s v) room r ys
-drawn-wrote s v n m xs ss w room r ys = wrote-as room r ys (finished-text (drawOf s v lent) n m w ∙ ap (λ (p : Places). answerText (drawOf s v p)) lent-is)
+drawn-wrote s v n m xs ss w room r ys = wrote-as room r ys (finished-text (drawWith millionth s v lent) n m w ∙ ap (λ (p : Places). answerText (drawWith millionth s v p)) lent-is)

@@ -1,13 +1,14 @@
 -- What the program `yard` answers a text: the drawing of the scene that it stands for, or why it is refused.
 use Prim.Native.Nat.{ℕ}
 use mathlib.Core.List.{List, []}
+use Rattle.floats.specs.Arith.{millionth}
 use Rattle.refusals.specs.Refusals.{numberOf}
 use Rattle.scene.specs.Scenes.{Scene}
 use Rattle.paths.specs.Answers.{Answer, answered, refused}
 use Rattle.paths.specs.Paths.{Paths, pathsOf}
 use Rattle.view.specs.declared.View.{View}
 use Rattle.draw_render.specs.Render.{Places}
-use Rattle.draw.specs.Draw.{drawOf}
+use Rattle.draw.specs.Draw.{drawWith}
 use Rattle.text_tokens.specs.Tokens.{Got, no, got}
 use Rattle.text_scene.specs.Texts.{Yard, yardOf}
 use Rattle.text_drawing.specs.Drawings.{drawingText, refusedText}
@@ -27,8 +28,9 @@ unfoldable pub answerText : Answer Paths → List ℕ
 answerText (answered p) = drawingText (pathsOf (p .vertices) (p .starts))
 answerText (refused k) = refusedText (numberOf k)
 
+-- document 02: `yard` passes 1e-6 itself
 abbrev pub drawnText : Scene → View → List ℕ
-drawnText s v = answerText (drawOf s v yardPlaces)
+drawnText s v = answerText (drawWith millionth s v yardPlaces)
 
 -- document 01's number 1 where the text is not forms, or exceeds its bytes or places
 unfoldable pub readText : Got Yard → List ℕ

@@ -9,7 +9,7 @@ use paths::Count;
 use text_scene::Reading;
 use view::View;
 
-// Draws a scene in the places of `yard`, and writes the text of the drawing, or of its refusal.
+// Draws a scene in the places of `yard`, in fine detail, and writes the text of the drawing, or of its refusal.
 fn drawn(
     numbers: &[f64],
     marks: &[u32],
@@ -31,7 +31,8 @@ fn drawn(
     let mut node_boxes = [0.0; 12288];
     let mut node_marks = [0u32; 6144];
     let mut order = [0u32; 2048];
-    let c = draw::draw(
+    let c = draw::draw_with(
+        1e-6,
         numbers,
         marks,
         points,

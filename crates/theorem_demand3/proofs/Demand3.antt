@@ -7,7 +7,7 @@ use mathlib.Core.List.{List}
 use lib.ListN.{length}
 use lib.Dec.{T}
 use lib.Ieee.{Float, eq}
-use Rattle.floats.specs.Arith.{zeroF, millionth}
+use Rattle.floats.specs.Arith.{zeroF}
 use Rattle.geometry.specs.Vectors.{distanceOf}
 use Rattle.geometry.specs.declared.vector.Vector.{Vector}
 use Rattle.refusals.specs.declared.Refusal.the-variants.{View as BadView, Point}
@@ -73,7 +73,7 @@ module _ (s s′ : Scene) (i j : ℕ) (same : SameSolid (s .numbers) (s .marks) 
       (record { eye-within = within-point eye (fair E .0); point-within = within-point point (fair E .1); apart = premise .apart; direction = premise .direction })
       s′ (j, mem, refl) (E .nodeBoxes) (E .nodeMarks) (E .order) (E .built) (asked-so E)
 
-  in-draws : (v : View) → v .eye ≡ eye → {w : Places} {q : Paths} (D : Drawing s′ v w q) → Put D point → LeftAfterClipping (v .matrix) point → HiddenIn s′ v point × (PassedIn s′ v point → ⊥)
+  in-draws : (v : View) → v .eye ≡ eye → {t : Float} {w : Places} {q : Paths} (D : Drawing t s′ v w q) → Put D point → LeftAfterClipping (v .matrix) point → HiddenIn s′ v point × (PassedIn s′ v point → ⊥)
   in-draws v e D put left =
       covered-point-dropped D point put left (solidIn s′ j)
       (subst (λ (x : Vector). CoversPoint (solidIn s′ j) x point) (sym e) (covers-there (D .count) (D .accepted)))
@@ -92,7 +92,7 @@ one-sight s eye point a b E F =
     E .asked ∙ visible-is-seen s (E .nodeBoxes) (E .nodeMarks) (E .order) (E .built) eye point (fair E .0) (fair E .1)
     ∙ sym (F .asked ∙ visible-is-seen s (F .nodeBoxes) (F .nodeMarks) (F .order) (F .built) eye point (fair F .0) (fair F .1))
 
-module _ {s : Scene} {v : View} {w : Places} {q : Paths} (D : Drawing s v w q) (point : Vector) (put : Put D point) (left : LeftAfterClipping (v .matrix) point) where
+module _ {t : Float} {s : Scene} {v : View} {w : Places} {q : Paths} (D : Drawing t s v w q) (point : Vector) (put : Put D point) (left : LeftAfterClipping (v .matrix) point) where
   sure : Answered (seenIn s (v .eye) point)
   sure = elim (each-point D point put) [
     | inl out ↦ absurd (out .0 left)
@@ -147,10 +147,10 @@ demand-3 = record {
   each = λ s v D point put. each-point D point put;
   leaves = λ s v D. step-four-leaves D;
   simplified-alone = λ xs ss t room startRoom n m ys us r i j e f. all-in-words t _ _ (with-points (pathsOf (allPoints xs) ss)) (call-ends xs ss t room startRoom n m f .1 i j e);
-  simplified-in-a-draw = λ s v D h. all-in-words millionth _ _ (with-points (pathsOf (D .passed .vertices) (D .passed .starts))) (simplified-so D h);
+  simplified-in-a-draw = λ t s v D h. all-in-words t _ _ (with-points (pathsOf (D .passed .vertices) (D .passed .starts))) (simplified-so D h);
   unsimplified = λ s v D h. unsimplified-so D h;
   sheet = λ s v D. sheet-paths D;
   all-seen = λ s v D path among x on. on-sheet D path among x on;
   of-build = built-so;
-  of-draw = λ s v w n m xs ss r i j e f. call-drawn s v w n m f i j e;
+  of-draw = λ t s v w n m xs ss r i j e f. call-drawn t s v w n m f i j e;
 }

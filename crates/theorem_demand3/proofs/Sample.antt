@@ -3,7 +3,7 @@ use mathlib.Core.Path.{_≡_, refl, sym, subst, _∙_}
 use mathlib.Core.Logic.{inl}
 use mathlib.Core.List.{List, [], _∷_}
 use lib.Ieee.{add, sub, mul, div, lt, le, eq, neg, isNan, ofBits, ofInt}
-use Rattle.floats.specs.Arith.{zeroF, halfF, twoF}
+use Rattle.floats.specs.Arith.{zeroF, halfF, twoF, millionth}
 use Rattle.floats.specs.Numbers.{within, minOf, maxOf}
 use Rattle.sqrt.specs.Root.{sqrtOf}
 use Rattle.geometry.specs.Boxes.{boxTest, overlap, slab, ordered, contains, inRange, extendBox}
@@ -38,6 +38,7 @@ use Rattle.paths.specs.Answers.{answered}
 use Rattle.paths.specs.Paths.{Paths, noPaths, push, pushAll, front, pathsOf, opened, closedStarts, closed, onePath, each, stage}
 use Rattle.paths.proofs.Adding.{same-answer}
 use Rattle.path_filter.specs.Filter.{filteredFrom, pathFilter, stepped}
+use Rattle.path_rdp.specs.Rdp.{thresholdOk}
 use Rattle.view.specs.Views.{viewOk, extentOk, stepOk, viewport, argsOf}
 use Rattle.draw_lines.specs.Cubes.{pathsStriped, faces, stripe, stripesFrom, stripeAt, sides, across}
 use Rattle.draw_lines.specs.Lines.{solidPaths, ownPaths, trianglePaths}
@@ -46,7 +47,7 @@ use Rattle.draw_clip.specs.Clip.{clipFilter, bySight}
 use Rattle.draw_collect.specs.Collect.{collectedAll, collected}
 use Rattle.draw_collect.specs.Lined.{readLined, linedOf, bare, detailAt, ownLines}
 use Rattle.draw_render.specs.Render.{rendered, staged, seenLines, onTree, nearestOf, stepping, mapped}
-use Rattle.draw.specs.Draw.{linedIn, drawOf, drawnAfter, render}
+use Rattle.draw.specs.Draw.{linedIn, drawWith, drawnAfter, render}
 use Rattle.draw.specs.Drawing.{solidIn, Drawing}
 use Rattle.draw.proofs.Answered.{drawn-so}
 use Rattle.theorem_filters.specs.Passing.{LeftAfterClipping}
@@ -54,8 +55,8 @@ use Rattle.theorem_draws.specs.Sheets.{Put}
 use Rattle.theorem_demand3.specs.Demand3.{PremiseOn}
 use Rattle.theorem_demand3.specs.Witnesses.{atOrigin, sampleYard, sampleView, samplePlaces, sampleDrawing, sampleBehind, widerPlaces, SampleDraws}
 
-drawn-there : drawOf sampleYard sampleView samplePlaces ≡ answered sampleDrawing
-unfolding drawOf drawnAfter render rendered staged seenLines onTree nearestOf stepping mapped collectedAll collected readLined linedOf bare detailAt ownLines solidPaths ownPaths
+drawn-there : drawWith millionth sampleYard sampleView samplePlaces ≡ answered sampleDrawing
+unfolding drawWith thresholdOk drawnAfter render rendered staged seenLines onTree nearestOf stepping mapped collectedAll collected readLined linedOf bare detailAt ownLines solidPaths ownPaths
     trianglePaths addPaths clipFilter bySight filteredFrom pathFilter stepped push pushAll front pathsOf opened closedStarts closed onePath each stage viewOk extentOk stepOk viewport argsOf
     plantedOf sees byDistance visit scan tried nearer backward padded flat checkOf firstMet lengthsAgree allOf known isKind isStripes names namedBefore deepest depthsTo partsFree entryOk
     partsOk ownersOk goodStarts measured simpleMeasured solidMeasured triangleMeasured exceeds placingOk withinBox withinPoint within listTo finiteFour finiteMatrix simpleOf simpleOr entryOf
@@ -64,8 +65,8 @@ unfolding drawOf drawnAfter render rendered staged seenLines onTree nearestOf st
     divV divScalar dot minV maxV minComponent maxComponent minOf maxOf addV mulScalar cross add sub mul div lt le eq neg isNan ofBits
 drawn-there = refl
 
-nothing-there : drawOf sampleBehind sampleView widerPlaces ≡ answered noPaths
-unfolding drawOf drawnAfter render rendered staged seenLines onTree nearestOf stepping mapped collectedAll collected readLined linedOf bare detailAt ownLines solidPaths ownPaths
+nothing-there : drawWith millionth sampleBehind sampleView widerPlaces ≡ answered noPaths
+unfolding drawWith thresholdOk drawnAfter render rendered staged seenLines onTree nearestOf stepping mapped collectedAll collected readLined linedOf bare detailAt ownLines solidPaths ownPaths
     trianglePaths addPaths clipFilter bySight filteredFrom pathFilter stepped push pushAll front pathsOf opened closedStarts closed onePath each stage viewOk extentOk stepOk viewport argsOf
     plantedOf sees byDistance visit scan tried nearer backward padded flat checkOf firstMet lengthsAgree allOf known isKind isStripes names namedBefore deepest depthsTo partsFree entryOk
     partsOk ownersOk goodStarts measured simpleMeasured solidMeasured triangleMeasured exceeds placingOk withinBox withinPoint within listTo finiteFour finiteMatrix simpleOf simpleOr entryOf
@@ -75,8 +76,8 @@ unfolding drawOf drawnAfter render rendered staged seenLines onTree nearestOf st
     stripesFrom stripeAt sides across ofInt
 nothing-there = refl
 
-empty-sheet : Drawing sampleBehind sampleView widerPlaces noPaths
-empty-sheet = drawn-so sampleBehind sampleView widerPlaces noPaths nothing-there
+empty-sheet : Drawing millionth sampleBehind sampleView widerPlaces noPaths
+empty-sheet = drawn-so millionth sampleBehind sampleView widerPlaces noPaths nothing-there
 
 -- the first line put to step 4 is the triangle's
 abbrev round : List Vector
@@ -107,7 +108,7 @@ corner-premise = record { apart = tt; direction = record { x = tt; y = tt; z = t
 
 pub sample-draws : SampleDraws
 sample-draws = record {
-  sheet = drawn-so sampleYard sampleView samplePlaces sampleDrawing drawn-there;
+  sheet = drawn-so millionth sampleYard sampleView samplePlaces sampleDrawing drawn-there;
   empty = empty-sheet;
   put = corner-put;
   left = corner-left;

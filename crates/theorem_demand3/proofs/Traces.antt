@@ -28,7 +28,6 @@ use Rattle.theorem_filters.specs.Kept.{before, keptIn, keptOf}
 use Rattle.theorem_filters.specs.Passing.{LeftAfterClipping}
 use Rattle.theorem_filters.proofs.Passing.{clipped-is-dropped}
 use Rattle.draw_render.specs.Render.{Places, stepping}
-use Rattle.floats.specs.Arith.{millionth}
 use Rattle.draw.specs.Drawing.{seenIn, Drawing}
 use Rattle.theorem_draws.specs.Sheets.{Put, ClippedIn, PassedIn, HiddenIn}
 use Rattle.theorem_draws.proofs.Sheets.{each-point, step-four, step-four-leaves, simplified-so, unsimplified-so, sheet-paths}
@@ -133,7 +132,7 @@ keep-same e = cc
 keep-drop : {x : Vector} → Keep x ≡ Drop → ⊥
 keep-drop e = let z : _≡_ {A = ℕ} 0 1 = cc in omega arith
 
-module _ {s : Scene} {v : View} {w : Places} {q : Paths} (D : Drawing s v w q) where
+module _ {t : Float} {s : Scene} {v : View} {w : Places} {q : Paths} (D : Drawing t s v w q) where
   abbrev test : Vector → Test
   test = clipFilter (v .matrix) (seenIn s (v .eye))
 
@@ -166,9 +165,9 @@ module _ {s : Scene} {v : View} {w : Places} {q : Paths} (D : Drawing s v w q) w
 
   left-passed : (b : Bool) → stepping v ≡ b → (p : List Vector) → Member p (pathsOf (D .left .vertices) (D .left .starts)) → (y : Vector) → Member y p → Member y (D .passed .vertices)
   left-passed true h p m y n =
-      let k = partner (λ (a b : List Vector). Accepted millionth a × Simplifies millionth a b) _ _ (simplified-so D h) p m in
+      let k = partner (λ (a b : List Vector). Accepted t a × Simplifies t a b) _ _ (simplified-so D h) p m in
       path-member (D .passed .vertices) (D .passed .starts) (k .0) (with-member _ (k .0) (k .1)) y
-      (simplified-from millionth (k .0) p (with-points _ (k .0) (k .1)) (k .2 .1) y n)
+      (simplified-from t (k .0) p (with-points _ (k .0) (k .1)) (k .2 .1) y n)
   left-passed false h p m y n =
       let e = unsimplified-so D h in
       path-member (D .passed .vertices) (D .passed .starts) p (subst (λ (o : Paths). Member p (pathsOf (o .vertices) (o .starts))) e m) y n

@@ -20,7 +20,7 @@ use mathlib.Core.List.{List, [], _∷_, map}
 use lib.ListN.{length, take}
 use lib.Dec.{T}
 use lib.Ieee.{Float, eq, lt, le}
-use Rattle.floats.specs.Arith.{zeroF, millionth}
+use Rattle.floats.specs.Arith.{zeroF}
 use Rattle.geometry.specs.Vectors.{distanceOf, segmentDistance}
 use Rattle.geometry.specs.Boxes.{boxTest, passes}
 use Rattle.geometry.specs.declared.vector.Vector.{Vector}
@@ -53,7 +53,7 @@ use Rattle.draw_clip.specs.Clip.{clipFilter}
 use Rattle.theorem_filters.specs.Kept.{keptOf}
 use Rattle.theorem_filters.specs.Passing.{Exactly, LeftAfterClipping}
 use Rattle.draw_render.specs.Render.{Places, stepping}
-use Rattle.draw.specs.Draw.{drawOf}
+use Rattle.draw.specs.Draw.{drawWith}
 use Rattle.draw.specs.Drawing.{solidIn, seenIn, Drawing}
 use Rattle.theorem_draws.specs.Sheets.{Put, ClippedIn, PassedIn, HiddenIn}
 
@@ -75,7 +75,7 @@ pub record PremiseOn (eye point : Vector) : Type 0 where
 -- document 01's hidden, wherever the scene is answered: "the point is hidden, for the eye test alone and in a draw alike"
 pub record HiddenFrom (s : Scene) (eye point : Vector) : Type 0 where
   pub alone : (a : Sight) → EyeTest s eye point a → a ≡ Hidden
-  pub in-a-draw : (v : View) → v .eye ≡ eye → {w : Places} {q : Paths} (D : Drawing s v w q) → Put D point → LeftAfterClipping (v .matrix) point
+  pub in-a-draw : (v : View) → v .eye ≡ eye → {t : Float} {w : Places} {q : Paths} (D : Drawing t s v w q) → Put D point → LeftAfterClipping (v .matrix) point
       → HiddenIn s v point × (PassedIn s v point → ⊥)
 
 -- "some solid's own returned distance falls short": of a solid that the scene draws
@@ -92,7 +92,7 @@ pub record Asked (s : Scene) (v : View) (point : Vector) : Type 0 where
   pub dropped-if-no : Exactly (HiddenIn s v point) (seenIn s (v .eye) point ≡ Hidden)
 
 -- what stands on a sheet at x: a point that was put to step 4, left after clipping and seen, as it is projected and mapped
-pub record Seen {s : Scene} {v : View} {w : Places} {q : Paths} (D : Drawing s v w q) (x : Vector) : Type 0 where
+pub record Seen {t : Float} {s : Scene} {v : View} {w : Places} {q : Paths} (D : Drawing t s v w q) (x : Vector) : Type 0 where
   pub point : Vector
   pub put : Put D point
   pub left : LeftAfterClipping (v .matrix) point
@@ -144,29 +144,29 @@ pub record Demand3 : Type 0 where
       × T (le (boxTest (shapeBox solid) (eyeRay eye point) .tmin) (own .t)) × T (lt (own .t) (distanceOf eye point)))
   -- No point is hidden, or dropped as hidden, unless some solid's own returned distance falls short.
   pub hidden-by-a-solid : (s : Scene) (eye point : Vector) → EyeTest s eye point Hidden → SomeShort s eye point
-  pub dropped-by-a-solid : (s : Scene) (v : View) {w : Places} {q : Paths} (D : Drawing s v w q) (point : Vector) → Put D point → HiddenIn s v point → SomeShort s (v .eye) point
+  pub dropped-by-a-solid : {t : Float} (s : Scene) (v : View) {w : Places} {q : Paths} (D : Drawing t s v w q) (point : Vector) → Put D point → HiddenIn s v point → SomeShort s (v .eye) point
   -- The eye test has one answer, whatever the lengths of the slices. Where a draw is answered the public build is answered too, with as many places, and step 4 puts that
   -- question for each point left after clipping. Each point put to step 4 is clipped away, or passed, or dropped as hidden: there is no fourth way. Step 4 leaves the points that
   -- it passes, as they are projected, in order.
   pub one-answer : (s : Scene) (eye point : Vector) (a b : Sight) → EyeTest s eye point a → EyeTest s eye point b → a ≡ b
-  pub builds : (s : Scene) (v : View) {w : Places} {q : Paths} (D : Drawing s v w q) → buildOf s (w .nodes) (w .order) ≡ Nodes (D .nodes)
-  pub step-four : (s : Scene) (v : View) {w : Places} {q : Paths} (D : Drawing s v w q) (point : Vector) → Put D point → LeftAfterClipping (v .matrix) point → Asked s v point
-  pub each : (s : Scene) (v : View) {w : Places} {q : Paths} (D : Drawing s v w q) (point : Vector) → Put D point → ClippedIn s v point ⊎ (PassedIn s v point ⊎ HiddenIn s v point)
-  pub leaves : (s : Scene) (v : View) {w : Places} {q : Paths} (D : Drawing s v w q)
+  pub builds : {t : Float} (s : Scene) (v : View) {w : Places} {q : Paths} (D : Drawing t s v w q) → buildOf s (w .nodes) (w .order) ≡ Nodes (D .nodes)
+  pub step-four : {t : Float} (s : Scene) (v : View) {w : Places} {q : Paths} (D : Drawing t s v w q) (point : Vector) → Put D point → LeftAfterClipping (v .matrix) point → Asked s v point
+  pub each : {t : Float} (s : Scene) (v : View) {w : Places} {q : Paths} (D : Drawing t s v w q) (point : Vector) → Put D point → ClippedIn s v point ⊎ (PassedIn s v point ⊎ HiddenIn s v point)
+  pub leaves : {t : Float} (s : Scene) (v : View) {w : Places} {q : Paths} (D : Drawing t s v w q)
       → D .passed .vertices ≡ keptOf (clipFilter (v .matrix) (seenIn s (v .eye))) (pathsOf (D .lines .vertices) (D .lines .starts))
   -- A simplified path, whatever its threshold: in the public call simplify, of the slices that it leaves; and in a draw with step > 0, from what step 4 leaves to what step 6 maps.
   -- At step 0 nothing is simplified.
   pub simplified-alone : (xs : List Float) (ss : List ℕ) (t : Float) (room startRoom n m : ℕ) (ys : List Float) (us : List ℕ) (r : Counts) (i j : ℕ) → r ≡ Both i j
       → Finished (simplifyCall xs ss t room startRoom) n m ys us r → AllSimplified t (pathsOf (allPoints xs) ss) (pathsOf (points i ys) (take j us))
-  pub simplified-in-a-draw : (s : Scene) (v : View) {w : Places} {q : Paths} (D : Drawing s v w q) → stepping v ≡ true
-      → AllSimplified millionth (pathsOf (D .passed .vertices) (D .passed .starts)) (pathsOf (D .left .vertices) (D .left .starts))
-  pub unsimplified : (s : Scene) (v : View) {w : Places} {q : Paths} (D : Drawing s v w q) → stepping v ≡ false → D .left ≡ D .passed
+  pub simplified-in-a-draw : (t : Float) (s : Scene) (v : View) {w : Places} {q : Paths} (D : Drawing t s v w q) → stepping v ≡ true
+      → AllSimplified t (pathsOf (D .passed .vertices) (D .passed .starts)) (pathsOf (D .left .vertices) (D .left .starts))
+  pub unsimplified : {t : Float} (s : Scene) (v : View) {w : Places} {q : Paths} (D : Drawing t s v w q) → stepping v ≡ false → D .left ≡ D .passed
   -- The sheet, path by path: what is left, each point mapped by the viewport matrix. Nothing stands on it that was not seen.
-  pub sheet : (s : Scene) (v : View) {w : Places} {q : Paths} (D : Drawing s v w q)
+  pub sheet : {t : Float} (s : Scene) (v : View) {w : Places} {q : Paths} (D : Drawing t s v w q)
       → pathsOf (q .vertices) (q .starts) ≡ map (map (mulPosition (viewport (v .width) (v .height)))) (pathsOf (D .left .vertices) (D .left .starts))
-  pub all-seen : (s : Scene) (v : View) {w : Places} {q : Paths} (D : Drawing s v w q) (path : List Vector) → Member path (pathsOf (q .vertices) (q .starts)) → (x : Vector) → Member x path → Seen D x
-  -- What `query_scene::build` and `draw::draw` promise (`ensures`), where they answer, is what is asked above of a build and of a draw.
+  pub all-seen : {t : Float} (s : Scene) (v : View) {w : Places} {q : Paths} (D : Drawing t s v w q) (path : List Vector) → Member path (pathsOf (q .vertices) (q .starts)) → (x : Vector) → Member x path → Seen D x
+  -- What `query_scene::build` and `draw::draw_with`, and so `draw::draw`, promise (`ensures`), where they answer, is what is asked above of a build and of a draw.
   pub of-build : (s : Scene) (boxes₀ : List Float) (marks₀ order₀ : List ℕ) (r : Built) (nodeBoxes : List Float) (nodeMarks order : List ℕ) (n : ℕ) → r ≡ Nodes n
       → TreeBuilt s boxes₀ marks₀ order₀ r nodeBoxes nodeMarks order → BuiltRows s nodeBoxes nodeMarks order
-  pub of-draw : (s : Scene) (v : View) (w : Places) (n m : ℕ) (xs : List Float) (ss : List ℕ) (r : Counts) (i j : ℕ) → r ≡ Both i j → Finished (drawOf s v w) n m xs ss r
-      → Drawing s v w (held i xs j ss)
+  pub of-draw : (t : Float) (s : Scene) (v : View) (w : Places) (n m : ℕ) (xs : List Float) (ss : List ℕ) (r : Counts) (i j : ℕ) → r ≡ Both i j → Finished (drawWith t s v w) n m xs ss r
+      → Drawing t s v w (held i xs j ss)

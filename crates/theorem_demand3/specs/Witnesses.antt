@@ -6,7 +6,7 @@ use mathlib.Core.List.{List, [], _∷_, _++_}
 use lib.ListN.{length}
 use lib.Dec.{T}
 use lib.Ieee.{Float, eq}
-use Rattle.floats.specs.Arith.{bits, zeroF, halfF, oneF, twoF}
+use Rattle.floats.specs.Arith.{bits, zeroF, halfF, oneF, twoF, millionth}
 use Rattle.geometry.specs.Vectors.{vec, distanceOf}
 use Rattle.geometry.specs.Boxes.{minusOne}
 use Rattle.geometry.specs.declared.vector.Vector.{Vector}
@@ -90,11 +90,11 @@ sampleBehind =
 abbrev pub widerPlaces : Places
 widerPlaces = record { lines = record { points = 64; starts = 64; chopped = 64; begins = 64 }; nodes = 8; order = 8; points = 64; starts = 64 }
 
--- The draw is answered with that drawing. Behind the cube, whose own corners are clipped away, it is answered with an empty sheet: a corner of the triangle is put to step 4
+-- The draw, with the threshold of `yard`, is answered with that drawing. Behind the cube, whose own corners are clipped away, it is answered with an empty sheet: a corner of the triangle is put to step 4
 -- and left after clipping, and the cube covers it.
 pub record SampleDraws : Type 0 where
-  pub sheet : Drawing sampleYard sampleView samplePlaces sampleDrawing
-  pub empty : Drawing sampleBehind sampleView widerPlaces noPaths
+  pub sheet : Drawing millionth sampleYard sampleView samplePlaces sampleDrawing
+  pub empty : Drawing millionth sampleBehind sampleView widerPlaces noPaths
   pub put : Put empty atOrigin
   pub left : LeftAfterClipping (sampleView .matrix) atOrigin
   pub covers : CoversPoint (solidIn sampleBehind 1) (sampleView .eye) atOrigin

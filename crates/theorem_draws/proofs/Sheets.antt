@@ -8,8 +8,8 @@ use native.Mathlib.Omega.{arith}
 use lib.ListN.{length, take, drop, length-map}
 use lib.Seq.{slice}
 use lib.Dec.{T}
-use lib.Ieee.{Float, eq, le, ofBits}
-use Rattle.floats.specs.Arith.{zeroF, millionth}
+use lib.Ieee.{Float, eq}
+use Rattle.floats.specs.Arith.{zeroF}
 use Rattle.geometry.specs.Vectors.{distanceOf}
 use Rattle.geometry.specs.Boxes.{clipBox, contains}
 use Rattle.geometry.specs.Limits.{Within}
@@ -40,7 +40,6 @@ use Rattle.paths.specs.declared.Counts.{Counts}
 use Rattle.paths.specs.declared.Counts.the-variants.{Both}
 use Rattle.paths.proofs.Closing.{finished-held}
 use Rattle.paths.proofs.Adding.{no-answer, same-answer, next-answered}
-use Rattle.path_rdp.specs.Rdp.{thresholdOk}
 use Rattle.path_rdp.specs.Demand.{Accepted, Simplifies}
 use Rattle.path_simplify.specs.Simplify.{simplifyPaths}
 use Rattle.path_simplify.proofs.Calls.{paths-kept}
@@ -55,20 +54,20 @@ use Rattle.theorem_filters.specs.Passing.{Exactly, LeftAfterClipping}
 use Rattle.theorem_filters.proofs.Passing.{clipped-is-dropped, step-passes}
 use Rattle.draw_collect.specs.Collect.{handed}
 use Rattle.draw_render.specs.Render.{Places, stepping, simplifiedLines, mapped}
-use Rattle.draw.specs.Draw.{drawOf}
+use Rattle.draw.specs.Draw.{drawWith}
 use Rattle.draw.specs.Drawing.{solidIn, seenIn, Drawing}
 use Rattle.draw.proofs.Answered.{drawn-so}
 use Rattle.theorem_draws.specs.Sheets.{Put, ClippedIn, PassedIn, HiddenIn}
 use Rattle.theorem_draws.proofs.Seeing.{build-alike, seen-nothing, seen-tree, visible-is-seen}
 
 -- The public call, where it answers with so many points and paths: they stand in its slices, and are the drawing.
-pub call-drawn : (s : Scene) (v : View) (w : Places) (n m : ℕ) {xs : List Float} {ss : List ℕ} {r : Counts} → Finished (drawOf s v w) n m xs ss r → (i j : ℕ) → r ≡ Both i j
-    → Drawing s v w (held i xs j ss)
-call-drawn s v w n m f i j e = drawn-so s v w _ (finished-held (drawOf s v w) n m f e)
+pub call-drawn : (t : Float) (s : Scene) (v : View) (w : Places) (n m : ℕ) {xs : List Float} {ss : List ℕ} {r : Counts} → Finished (drawWith t s v w) n m xs ss r → (i j : ℕ) → r ≡ Both i j
+    → Drawing t s v w (held i xs j ss)
+call-drawn t s v w n m f i j e = drawn-so t s v w _ (finished-held (drawWith t s v w) n m f e)
 
 -- Where a draw is answered the public build is, with as many places.
-pub build-answered : {s : Scene} {v : View} {w : Places} {q : Paths} (D : Drawing s v w q) → buildOf s (w .nodes) (w .order) ≡ Nodes (D .nodes)
-build-answered {s} {v} {w} D = build-alike s (D .count) (D .accepted) (w .nodes) (w .order) ∙ D .builds
+pub build-answered : {t : Float} {s : Scene} {v : View} {w : Places} {q : Paths} (D : Drawing t s v w q) → buildOf s (w .nodes) (w .order) ≡ Nodes (D .nodes)
+build-answered {s = s} {w = w} D = build-alike s (D .count) (D .accepted) (w .nodes) (w .order) ∙ D .builds
 
 -- ---- a point that was put to the eye test has passed number 9, and the eye number 8
 put-to-eye : (w : Vector) (b j : Bool) (t : Sight) → T b → Tested (cond b (cond j (bySight w t) (Refused Point)) Drop) → (j ≡ true) × Answered t
@@ -99,7 +98,7 @@ some-drawn : (l : List ℕ) (i : ℕ) → Member i l → 0 < length l
 some-drawn [] i m = absurd m
 some-drawn (x ∷ l) i m = omega arith
 
-module _ {s : Scene} {v : View} {w : Places} {q : Paths} (D : Drawing s v w q) where
+module _ {t : Float} {s : Scene} {v : View} {w : Places} {q : Paths} (D : Drawing t s v w q) where
   -- What step 4 leaves: the points that it passes, as they are projected, in order.
   pub step-four-leaves : D .passed .vertices ≡ keptOf (clipFilter (v .matrix) (seenIn s (v .eye))) (pathsOf (D .lines .vertices) (D .lines .starts))
   step-four-leaves = stage-keeps (clipFilter (v .matrix) (seenIn s (v .eye))) (D .lines .vertices) (D .lines .starts) _ _ _ (D .filters) .0
@@ -175,27 +174,23 @@ handed-over p {o} e = go (pointsOk (p .vertices)) e
     go true e = (refl, same-answer e)
     go false e = no-answer Point e
 
-millionth-ok : T (thresholdOk millionth)
-unfolding thresholdOk ofBits le
-millionth-ok = tt
-
-module _ {s : Scene} {v : View} {w : Places} {q : Paths} (D : Drawing s v w q) where
+module _ {t : Float} {s : Scene} {v : View} {w : Places} {q : Paths} (D : Drawing t s v w q) where
   -- Where step > 0, before the viewport map: one path for each path with points that step 4 left, which keeps its ends and hands on what it keeps in order, bit for bit;
-  -- each dropped vertex has computed distance at most 1e-6 from the segment replacing it.
+  -- each dropped vertex has computed distance at most the threshold from the segment replacing it.
   pub simplified-so : stepping v ≡ true
-      → Pairwise (λ (p r : List Vector). Accepted millionth p × Simplifies millionth p r) (withPoints (pathsOf (D .passed .vertices) (D .passed .starts))) (pathsOf (D .left .vertices) (D .left .starts))
+      → Pairwise (λ (p r : List Vector). Accepted t p × Simplifies t p r) (withPoints (pathsOf (D .passed .vertices) (D .passed .starts))) (pathsOf (D .left .vertices) (D .left .starts))
   unfolding simplifiedLines
   simplified-so h =
-      let e : simplifiedLines millionth (w .points) (w .starts) (D .passed) ≡ answered (D .left) = sym (ap (λ (b : Bool). cond b (simplifiedLines millionth (w .points) (w .starts) (D .passed)) (answered (D .passed))) h) ∙ D .simplifies in
-      let a = next-answered (handed (D .passed)) (λ (p : Paths). simplifyPaths millionth (p .vertices) (p .starts) (w .points) (w .starts)) (D .left) e in
+      let e : simplifiedLines t (w .points) (w .starts) (D .passed) ≡ answered (D .left) = sym (ap (λ (b : Bool). cond b (simplifiedLines t (w .points) (w .starts) (D .passed)) (answered (D .passed))) h) ∙ D .simplifies in
+      let a = next-answered (handed (D .passed)) (λ (p : Paths). simplifyPaths t (p .vertices) (p .starts) (w .points) (w .starts)) (D .left) e in
       let b = handed-over (D .passed) (a .1) in
-      paths-kept millionth millionth-ok (D .passed .vertices) (b .0) (D .passed .starts) (w .points) (w .starts) (D .left)
-      (ap (λ (p : Paths). simplifyPaths millionth (p .vertices) (p .starts) (w .points) (w .starts)) (b .1) ∙ a .2)
+      paths-kept t (subst T (sym (D .threshold)) tt) (D .passed .vertices) (b .0) (D .passed .starts) (w .points) (w .starts) (D .left)
+      (ap (λ (p : Paths). simplifyPaths t (p .vertices) (p .starts) (w .points) (w .starts)) (b .1) ∙ a .2)
 
   -- At step 0 nothing is simplified.
   pub unsimplified-so : stepping v ≡ false → D .left ≡ D .passed
   unsimplified-so h =
-      sym (same-answer (sym (ap (λ (b : Bool). cond b (simplifiedLines millionth (w .points) (w .starts) (D .passed)) (answered (D .passed))) h) ∙ D .simplifies))
+      sym (same-answer (sym (ap (λ (b : Bool). cond b (simplifiedLines t (w .points) (w .starts) (D .passed)) (answered (D .passed))) h) ∙ D .simplifies))
 
 -- ---- the sheet
 module _ {A B : Type 0} (f : A → B) where
@@ -218,8 +213,8 @@ paths-map f vs (a ∷ ss) =
     rw (length-map vs f, e, paths-map f vs ss)
 
 -- The paths of the drawing are those that are left after step 5, each point mapped by the viewport matrix.
-pub sheet-paths : {s : Scene} {v : View} {w : Places} {q : Paths} (D : Drawing s v w q)
+pub sheet-paths : {t : Float} {s : Scene} {v : View} {w : Places} {q : Paths} (D : Drawing t s v w q)
     → pathsOf (q .vertices) (q .starts) ≡ map (map (mulPosition (viewport (v .width) (v .height)))) (pathsOf (D .left .vertices) (D .left .starts))
 unfolding mapped
-sheet-paths {s} {v} D =
+sheet-paths {v = v} D =
     ap (λ (p : Paths). pathsOf (p .vertices) (p .starts)) (D .maps) ∙ paths-map (mulPosition (viewport (v .width) (v .height))) (D .left .vertices) (D .left .starts)

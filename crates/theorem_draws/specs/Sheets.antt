@@ -1,6 +1,7 @@
 -- Document 01's terms of demand 3 in a draw. The demand itself is `Demand3` (theorem_demand3/specs/Demand3.antt); what it rests on here is proved in proofs/Sheets.antt.
 use mathlib.Core.Path.{_≡_}
 use mathlib.Core.List.{List}
+use lib.Ieee.{Float}
 use Rattle.geometry.specs.declared.vector.Vector.{Vector}
 use Rattle.lists.specs.Lists.{Member}
 use Rattle.scene.specs.Scenes.{Scene}
@@ -13,7 +14,7 @@ use Rattle.draw_render.specs.Render.{Places}
 use Rattle.draw.specs.Drawing.{seenIn, Drawing}
 
 -- a point among the lines that are put to step 4 of a draw
-pub record Put {s : Scene} {v : View} {w : Places} {q : Paths} (D : Drawing s v w q) (point : Vector) : Type 0 where
+pub record Put {t : Float} {s : Scene} {v : View} {w : Places} {q : Paths} (D : Drawing t s v w q) (point : Vector) : Type 0 where
   pub path : List Vector
   pub among : Member path (pathsOf (D .lines .vertices) (D .lines .starts))
   pub on : Member point path

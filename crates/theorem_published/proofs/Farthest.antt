@@ -10,20 +10,18 @@ use lib.Dec.{T}
 use lib.ListN.{length, take}
 use lib.Seq.{slice, length-slice, getD-take, getD-drop}
 use lib.Ieee.{Float, lt, le, ofBits}
-use lib.Ieee.Bits.{is-false}
-use lib.Ieee.Fits.{and-r}
-use lib.Ieee.Scale.{finite}
 use Rattle.floats.specs.Arith.{zeroF}
 use Rattle.floats.specs.Numbers.{number}
-use Rattle.floats.proofs.Order.{lt-trans, le-lt-trans, not-gt→le, le→not-gt}
+use Rattle.floats.proofs.Order.{lt-trans, le-lt-trans, not-gt→le}
 use Rattle.geometry.specs.Vectors.{segmentDistance}
 use Rattle.geometry.proofs.Lengths.{segment-number}
 use Rattle.geometry.specs.declared.vector.Vector.{Vector}
 use Rattle.paths.specs.Ends.{nowhere}
 use Rattle.path_rdp.specs.declared.Far.{Far}
-use Rattle.path_rdp.specs.Rdp.{vertex, firstVertex, lastVertex, farther, farthestFrom, nothingYet, farthestOf, thresholdOk}
+use Rattle.path_rdp.specs.Rdp.{vertex, firstVertex, lastVertex, farther, farthestFrom, nothingYet, farthestOf}
 use Rattle.path_rdp.specs.Demand.{Accepted}
 use Rattle.path_rdp.proofs.Scanning.{farthest-most}
+use Rattle.path_rdp.proofs.Splitting.{not-low}
 use Rattle.theorem_published.specs.Peucker.{away, FirstFarthest, ScanFindsFirst, AcceptedScanFindsFirst}
 
 -- ---- what the scan takes over: a vertex of those scanned, farther than what was there and than each scanned before it
@@ -146,8 +144,7 @@ accepted-distances t p ok i h l =
     segment-number (vertex p i) (firstVertex p) (lastVertex p) (ok .within i (omega arith)) (ok .within 0 (omega arith)) (ok .within (length p - 1) (omega arith))
 
 pub accepted-low : (t : Float) (p : List Vector) → Accepted t p → lt t zeroF ≡ false
-unfolding thresholdOk
-accepted-low t p ok = is-false (lt t zeroF) (le→not-gt zeroF t (and-r (finite t) (le zeroF t) (ok .threshold)))
+accepted-low t p ok = not-low t (ok .threshold)
 
 pub accepted-scan-finds-first : AcceptedScanFindsFirst
 accepted-scan-finds-first t p ok long far = first-far p long (accepted-distances t p ok) t (accepted-low t p ok) far

@@ -316,9 +316,10 @@ pub fn visible(tree: &Tree<Drawn>, eye: [f64; 3], point: [f64; 3]) -> bool {
     larnt::scene::visible(tree, vector(eye), vector(point))
 }
 
-pub fn draw(entries: &Entries, view: &View) -> Lines {
+pub fn draw(entries: &Entries, view: &View, threshold: f64) -> Lines {
     let up = Vector::new(0.0, 0.0, 1.0);
     let (eye, m) = (vector(view.eye), matrix(&view.matrix));
     let solids: Vec<&Solid> = entries.solids.iter().collect();
-    of_paths(larnt::scene::render(solids, eye, m, up, view.width, view.height, view.step))
+    let View { width, height, step, .. } = *view;
+    of_paths(larnt::scene::render(solids, eye, m, up, width, height, step, threshold))
 }

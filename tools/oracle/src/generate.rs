@@ -4,7 +4,7 @@
 //! seed gives the same case everywhere.
 
 use crate::check::{LARGEST, used_numbers};
-use crate::{Lines, Places, Room, Scene, View, draw_measured};
+use crate::{FINE, Lines, Places, Room, Scene, View, draw_measured};
 
 /// splitmix64.
 pub struct Rng(u64);
@@ -541,7 +541,7 @@ impl Maker {
         (eye, matrix)
     }
 
-    /// Room for the draw: ample, exactly what it takes, one place less, or whatever.
+    /// Room for the draw: ample, exactly what it takes at 1e-6, one place less, or whatever.
     fn room(&mut self, view: &View, ample: usize) -> Room {
         let choice = self.rng.below(100);
         let mut room = Room::of(ample);
@@ -554,7 +554,7 @@ impl Maker {
             }
             return room;
         }
-        let (answer, mut used) = draw_measured(&self.scene, view, room);
+        let (answer, mut used) = draw_measured(&self.scene, view, FINE, room);
         if answer.is_err() {
             return room;
         }

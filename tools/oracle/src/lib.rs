@@ -226,18 +226,28 @@ pub fn simplify(threshold: f64, lines: &Lines, places: Places) -> Answer<Lines> 
     within(Room { out: places, ..Room::ENDLESS }, || limited::simplify(threshold, lines))
 }
 
-/// One draw.
-pub fn draw(scene: &Scene, view: &View, room: Room) -> Answer<Lines> {
-    draw_measured(scene, view, room).0
+/// What a draw simplifies with by default, and what `yard` passes.
+pub const COARSE: f64 = 1e-4;
+pub const FINE: f64 = 1e-6;
+
+/// One draw, simplified with the threshold.
+pub fn draw(scene: &Scene, view: &View, threshold: f64, room: Room) -> Answer<Lines> {
+    draw_measured(scene, view, threshold, room).0
 }
 
 /// One draw, and the most places of each slice that it took.
-pub fn draw_measured(scene: &Scene, view: &View, room: Room) -> (Answer<Lines>, Room) {
-    let checked = accepted(scene).and_then(|e| check::view(view).map(|()| e));
+pub fn draw_measured(
+    scene: &Scene,
+    view: &View,
+    threshold: f64,
+    room: Room,
+) -> (Answer<Lines>, Room) {
+    let asked = || check::view(view).and_then(|()| check::threshold(threshold));
+    let checked = accepted(scene).and_then(|e| asked().map(|()| e));
     match checked {
         Err(trouble) => (Err(trouble), Room::of(0)),
         Ok(entries) => {
-            let answer = within(room, || limited::draw(&entries, view));
+            let answer = within(room, || limited::draw(&entries, view, threshold));
             (answer, larnt_limited::limits::used())
         }
     }

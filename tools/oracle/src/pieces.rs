@@ -3,7 +3,7 @@
 
 use oracle::generate::places_of;
 use oracle::requests::answer;
-use oracle::{Answer, Lines, Places, Room, Scene, Trouble, View};
+use oracle::{Answer, COARSE, FINE, Lines, Places, Room, Scene, Trouble, View};
 
 const AMPLE: Places = Places { points: 3000, starts: 3000 };
 const IDENTITY: [f64; 16] = [1., 0., 0., 0., 0., 1., 0., 0., 0., 0., 1., 0., 0., 0., 0., 1.];
@@ -323,7 +323,7 @@ fn boundaries(p: &mut Pieces) {
     let drawn = |change: &dyn Fn(&mut View)| {
         let mut v = view.clone();
         change(&mut v);
-        oracle::draw(&Scene::default(), &v, Room::of(0))
+        oracle::draw(&Scene::default(), &v, FINE, Room::of(0))
     };
     for (what, found, number) in [
         ("a plain view", drawn(&|_| ()), 0),
@@ -362,7 +362,16 @@ fn boundaries(p: &mut Pieces) {
             oracle::simplify(threshold, &dot, AMPLE),
             number,
         );
+        let scene = Scene::default();
+        p.number(
+            &format!("threshold {threshold} of a draw"),
+            oracle::draw(&scene, &view, threshold, Room::of(0)),
+            number,
+        );
     }
+    let mut short = cube();
+    short.numbers.pop();
+    p.number("2 before a threshold's 8", oracle::draw(&short, &view, -1.0, Room::of(0)), 2);
 
     // 9
     let eye = [0.0, 0.0, 5.0];
@@ -404,7 +413,7 @@ fn boundaries(p: &mut Pieces) {
         let mut s = sphere(1.0);
         s.push_line(0, &[[above, 0., 0.], [0., 0., 2.0]]);
         let v = View { matrix: stretched(scale), step, ..view.clone() };
-        oracle::draw(&s, &v, Room::of(3000))
+        oracle::draw(&s, &v, FINE, Room::of(3000))
     };
     p.number("clipped before the eye test", far(0.0, 1.0), 0);
     p.number("put to the eye test", far(0.0, 1e-7), 9);
@@ -569,7 +578,7 @@ fn boundaries(p: &mut Pieces) {
     tight(p, "a cut filters into its own slice", &s, &coarse, exact);
     p.number(
         "no drawn entry pushes nothing",
-        oracle::draw(&Scene::default(), &view, Room::of(0)),
+        oracle::draw(&Scene::default(), &view, FINE, Room::of(0)),
         0,
     );
     p.number("nodes", oracle::build(&many(3), 3, 3), 0);
@@ -595,22 +604,22 @@ fn boundaries(p: &mut Pieces) {
     // omitted
     let mut swapped = IDENTITY;
     (swapped[10], swapped[11], swapped[14], swapped[15]) = (0.0, 1.0, 1.0, 0.0);
-    let found = oracle::draw(&alone(swapped), &view, Room::of(3000)).map(|l| l.points);
+    let found = oracle::draw(&alone(swapped), &view, FINE, Room::of(3000)).map(|l| l.points);
     p.equal("`up` can't be normalised", found, Err(Trouble::Omitted));
 }
 
 /// A draw takes exactly this room: it is answered with that, and refused with one place less.
 fn tight(p: &mut Pieces, what: &str, scene: &Scene, view: &View, exact: Room) {
-    let (answer, used) = oracle::draw_measured(scene, view, Room::of(3000));
+    let (answer, used) = oracle::draw_measured(scene, view, FINE, Room::of(3000));
     p.number(what, answer, 0);
     p.equal(&format!("{what}: room taken"), used, exact);
-    p.number(&format!("{what}: exact room"), oracle::draw(scene, view, exact), 0);
+    p.number(&format!("{what}: exact room"), oracle::draw(scene, view, FINE, exact), 0);
     for k in 0..8 {
         let mut less = exact;
         let places = &mut places_of(&mut less)[k];
         if **places > 0 {
             **places -= 1;
-            p.number(&format!("{what}: less at {k}"), oracle::draw(scene, view, less), 13);
+            p.number(&format!("{what}: less at {k}"), oracle::draw(scene, view, FINE, less), 13);
         }
     }
 }
@@ -756,11 +765,15 @@ fn requests(p: &mut Pieces) {
     let mut scene = one([5, 0, 0, 0], &[0.0, 0.0, 0.0, 0.5, 0.0, 0.0, 0.0, 0.5, 0.0]);
     let drawn = "ok 12 3FF0000000000000 3FF0000000000000 0000000000000000 3FF8000000000000 3FF0000000000000 0000000000000000 3FF0000000000000 3FF8000000000000 0000000000000000 3FF0000000000000 3FF0000000000000 0000000000000000 1 0";
     for build in ["", "plain "] {
-        let request = format!("{build}draw {} {view_text} 9 9 9 9 9 9 9 9", scene_text(&scene));
+        let asked = format!("{} {view_text} {}", scene_text(&scene), bits(COARSE));
+        let request = format!("{build}draw {asked} 9 9 9 9 9 9 9 9");
         p.equal("draw request", answer(&request), drawn.to_string());
     }
-    let request = format!("draw {} {view_text} 9 9 9 9 3 9 9 9", scene_text(&scene));
-    p.equal("draw request without room", answer(&request), "refused 13".to_string());
+    for (threshold, room, number) in [(FINE, 3, 13), (-FINE, 9, 8)] {
+        let asked = format!("{} {view_text} {}", scene_text(&scene), bits(threshold));
+        let request = format!("draw {asked} 9 9 9 9 {room} 9 9 9");
+        p.equal("draw request refused", answer(&request), format!("refused {number}"));
+    }
     scene.push([6, 0, 0, 0], &stretched(2.0));
     let text = scene_text(&scene);
     let half = bits(0.5);

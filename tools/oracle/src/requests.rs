@@ -29,7 +29,7 @@
 //!     intersect SCENE RAY                 -> ok t ok(0 or 1)
 //!     own SCENE ENTRY RAY                 -> ok t ok(0 or 1), of that entry alone
 //!     visible SCENE EYE(3) POINT(3)       -> ok yes or no
-//!     draw SCENE VIEW ROOM                -> ok LINES
+//!     draw SCENE VIEW THRESHOLD ROOM      -> ok LINES
 //!
 //! KIND is 1 to 5 and NUMBERS are its 4, 3, 2, 6 or 9 measures. Where a call may refuse, the
 //! other answers are `refused N`, `omitted` and `panic MESSAGE`. Before check, build,
@@ -188,8 +188,9 @@ impl Words<'_> {
                 answer_text(crate::visible(&scene, eye, p), seen_text)
             }
             "draw" => {
-                let (scene, view, room) = (self.scene()?, self.view()?, self.room()?);
-                answer_text(crate::draw(&scene, &view, room), lines_text)
+                let (scene, view) = (self.scene()?, self.view()?);
+                let (threshold, room) = (self.float()?, self.room()?);
+                answer_text(crate::draw(&scene, &view, threshold, room), lines_text)
             }
             _ => return None,
         })
@@ -226,8 +227,10 @@ impl Words<'_> {
                 answer_text(seen, seen_text)
             }
             "draw" => {
-                let (scene, view, _) = (self.scene()?, self.view()?, self.room()?);
-                answer_text(caught(|| plain::draw(&plain::entries(&scene), &view)), lines_text)
+                let (scene, view) = (self.scene()?, self.view()?);
+                let (threshold, _) = (self.float()?, self.room()?);
+                let lines = caught(|| plain::draw(&plain::entries(&scene), &view, threshold));
+                answer_text(lines, lines_text)
             }
             _ => return None,
         })

@@ -9,7 +9,7 @@ mod pieces;
 
 use oracle::generate::{Case, case, places_of};
 use oracle::requests::plain_checked;
-use oracle::{Answer, Checked, Lines, Scene, Trouble, caught, plain, same_bits};
+use oracle::{Answer, COARSE, Checked, FINE, Lines, Scene, Trouble, caught, plain, same_bits};
 use pieces::number_of;
 use std::collections::BTreeMap;
 
@@ -224,9 +224,14 @@ fn compare_paths(tally: &mut Tally, case: &Case) {
 
 fn compare_draw(tally: &mut Tally, case: &Case, exactly: bool) {
     let (scene, view) = (&case.scene, &case.view);
-    let (drawn, used) = oracle::draw_measured(scene, view, case.room);
+    let (drawn, used) = oracle::draw_measured(scene, view, FINE, case.room);
     let put = oracle::larnt_limited::limits::points_put() as u64;
-    tally.compare(case, "draw", &drawn, || plain::draw(&plain::entries(scene), view), same_lines);
+    let plainly = |threshold: f64| plain::draw(&plain::entries(scene), view, threshold);
+    tally.compare(case, "draw", &drawn, || plainly(FINE), same_lines);
+    let coarse = oracle::draw(scene, view, COARSE, case.room);
+    tally.compare(case, "draw at 1e-4", &coarse, || plainly(COARSE), same_lines);
+    let asked = oracle::draw(scene, view, case.threshold, case.room);
+    tally.compare(case, "draw with", &asked, || plainly(case.threshold), same_lines);
     let Ok(lines) = drawn else { return };
     let drawn_points = lines.points.len() as u64 / 3;
     tally.drawn_points += drawn_points;
@@ -251,7 +256,7 @@ fn compare_draw(tally: &mut Tally, case: &Case, exactly: bool) {
     }
     if exactly {
         tally.exact_rooms += 1;
-        if !oracle::draw(scene, view, used).is_ok_and(|l| same_lines(&l, &lines)) {
+        if !oracle::draw(scene, view, FINE, used).is_ok_and(|l| same_lines(&l, &lines)) {
             tally.differs(case, "a draw with exactly the room it takes");
         }
         for k in 0..8 {
@@ -259,7 +264,7 @@ fn compare_draw(tally: &mut Tally, case: &Case, exactly: bool) {
             let places = &mut places_of(&mut less)[k];
             if **places > 0 {
                 **places -= 1;
-                if number_of(&oracle::draw(scene, view, less)) != Ok(13) {
+                if number_of(&oracle::draw(scene, view, FINE, less)) != Ok(13) {
                     tally.differs(case, &format!("a draw with one place less at {k}"));
                 }
             }

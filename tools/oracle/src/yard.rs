@@ -1,6 +1,6 @@
 //! The text that the program `yard` reads and prints, as document 01 has it.
 
-use crate::{Answer, Lines, Room, Scene, Trouble, View};
+use crate::{Answer, FINE, Lines, Room, Scene, Trouble, View};
 
 pub const MOST_BYTES: usize = 65_536;
 pub const MOST_ENTRIES: usize = 512;
@@ -8,7 +8,8 @@ pub const PLACES: usize = 2_048;
 
 /// The whole program: text in, text out.
 pub fn run(text: &[u8]) -> String {
-    let drawn = read(text).and_then(|(view, scene)| crate::draw(&scene, &view, Room::of(PLACES)));
+    let drawn =
+        read(text).and_then(|(view, scene)| crate::draw(&scene, &view, FINE, Room::of(PLACES)));
     match drawn {
         Ok(lines) => drawing(&lines),
         Err(Trouble::Refused(number)) => format!("(refused {number})\n"),

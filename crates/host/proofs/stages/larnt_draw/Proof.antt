@@ -9,7 +9,7 @@ returns c =
     let at2 = at1 .before in let point-count = at2 .point-count in
     let at21 = at2 .before .before .before .before .before .before .before .before .before .before .before .before .before .before .before .before .before .before .before in let draw = at21 .draw in
     let at31 = at21 .before .before .before .before .before .before .before .before .before .before in let view-from = at31 .view-from in
-    draw-so _ _ _ _ (view-from .ensures) (draw .ensures .0) (c .counts-number .ensures) (point-count .ensures) (path-count .ensures) (draw .ensures .1)
+    (draw-so _ _ _ _ _ (view-from .ensures) (draw .ensures .0) (c .counts-number .ensures) (point-count .ensures) (path-count .ensures), draw .ensures .1)
 
 pub larnt-draw-spec : {M : Type 1} → statement M
 larnt-draw-spec =
