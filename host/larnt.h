@@ -5,7 +5,7 @@
 
    Stack, measured (docs/MEASURES.md): larnt_draw, larnt_draw_with and larnt_build need about 201 KB for
    local arrays and 512 bytes for each level of the tree, at most 1,023 levels, so 725 KB at most.
-   larnt_own_hit, larnt_own_contains, larnt_intersect and larnt_visible need about 200 KB, larnt_check 9 KB.
+   larnt_own_hit, larnt_own_contains, larnt_intersect, larnt_visible and larnt_occluder need about 200 KB, larnt_check 9 KB.
    larnt_chop needs 25 KB and larnt_simplify 4 KB, however long the paths are. */
 #ifndef LARNT_H
 #define LARNT_H
@@ -82,15 +82,23 @@ uint32_t larnt_own_contains(LARNT_SCENE, size_t entry, const double point[3], do
 uint32_t larnt_build(LARNT_SCENE, double *node_boxes, size_t node_boxes_count, uint32_t *node_marks, size_t node_marks_count,
                      uint32_t *order, size_t order_count, size_t *count);
 
+/* The entry that is named where none is. */
+#define LARNT_NOBODY 0xFFFFFFFFu
+
 /* The nearest hit on the tree that larnt_build made of the scene; 8 for the ray, 11 for a cut's restarts,
-   12 for the walk's waiting places. On rows that no build of this scene left, this call and the next still end
-   and stay within their slices, and answer what a walk of those rows finds. Zeros, as a refused build leaves
-   them, are an empty tree: nothing is hit and every point is visible. So a host asks these two only where
-   larnt_build answered 0. */
-uint32_t larnt_intersect(LARNT_SCENE, LARNT_TREE, const double ray[6], double *t, bool *ok);
+   12 for the walk's waiting places. `entry` is the drawn entry whose t last became the best, a miss's t below
+   1e9 included; LARNT_NOBODY where none did. On rows that no build of this scene left, this call and the next
+   two still end and stay within their slices, and answer what a walk of those rows finds. Zeros, as a refused
+   build leaves them, are an empty tree: nothing is hit and every point is visible. So a host asks these three
+   only where larnt_build answered 0. */
+uint32_t larnt_intersect(LARNT_SCENE, LARNT_TREE, const double ray[6], double *t, bool *ok, uint32_t *entry);
 
 /* Whether the eye sees a point past the solids of that tree; 8 for the eye, 9 for the point, 11, 12. */
 uint32_t larnt_visible(LARNT_SCENE, LARNT_TREE, const double eye[3], const double point[3], bool *seen);
+
+/* The same with a name: the entry that hides the point, whose own distance falls short of the eye;
+   LARNT_NOBODY where the point is visible. */
+uint32_t larnt_occluder(LARNT_SCENE, LARNT_TREE, const double eye[3], const double point[3], uint32_t *entry);
 
 /* Paths: three numbers a point, and where each path starts, in points. The result is followed by zeros in
    both slices; what is counted is points and paths. Each answers 0, or the number of the refusal: 2 and 4

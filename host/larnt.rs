@@ -114,6 +114,7 @@ pub mod raw {
             ray: &[f64; 6],
             t: &mut f64,
             ok: &mut bool,
+            entry: &mut u32,
         );
         fn larnt_visible(
             node_boxes: *const f64,
@@ -125,6 +126,17 @@ pub mod raw {
             eye: &[f64; 3],
             p: &[f64; 3],
             seen: &mut bool,
+        );
+        fn larnt_occluder(
+            node_boxes: *const f64,
+            node_boxes_count: usize,
+            node_marks: *const u32,
+            node_marks_count: usize,
+            order: *const u32,
+            order_count: usize,
+            eye: &[f64; 3],
+            p: &[f64; 3],
+            entry: &mut u32,
         );
         fn larnt_draw(
             view: &[f64; 22],
@@ -359,11 +371,17 @@ macro_rules! on_tree {
     }};
 }
 
-/// The nearest hit on the scene's tree: its distance, and whether there is one.
-pub fn intersect(s: Scene, tree: Tree, ray: &[f64; 6]) -> Result<(f64, bool), u32> {
-    let (mut t, mut ok) = (0.0, false);
-    match on_tree!(larnt_intersect, s, tree, ray, &mut t, &mut ok) {
-        0 => Ok((t, ok)),
+/// The entry that a call names, if it names one.
+fn named(entry: u32) -> Option<u32> {
+    (entry != u32::MAX).then_some(entry)
+}
+
+/// The nearest hit on the scene's tree: its distance, whether there is one, and the entry whose t last
+/// became the best, if any did.
+pub fn intersect(s: Scene, tree: Tree, ray: &[f64; 6]) -> Result<(f64, bool, Option<u32>), u32> {
+    let (mut t, mut ok, mut entry) = (0.0, false, 0);
+    match on_tree!(larnt_intersect, s, tree, ray, &mut t, &mut ok, &mut entry) {
+        0 => Ok((t, ok, named(entry))),
         number => Err(number),
     }
 }
@@ -373,6 +391,15 @@ pub fn visible(s: Scene, tree: Tree, eye: &[f64; 3], p: &[f64; 3]) -> Result<boo
     let mut seen = false;
     match on_tree!(larnt_visible, s, tree, eye, p, &mut seen) {
         0 => Ok(seen),
+        number => Err(number),
+    }
+}
+
+/// The entry that hides a point from the eye, or nothing where the point is visible.
+pub fn occluder(s: Scene, tree: Tree, eye: &[f64; 3], p: &[f64; 3]) -> Result<Option<u32>, u32> {
+    let mut entry = 0;
+    match on_tree!(larnt_occluder, s, tree, eye, p, &mut entry) {
+        0 => Ok(named(entry)),
         number => Err(number),
     }
 }

@@ -6,8 +6,9 @@ use crate::draw_inputs;
 use crate::draws;
 use crate::harness::{Shown, name_hash};
 use crate::host::raw::larnt_box_test;
+use crate::names::eye_ray;
 use crate::scene_calls::{Found, unfilled};
-use crate::tree_calls::{CORE, Rows};
+use crate::tree_calls::{CORE, NOBODY, Rows};
 use crate::tree_inputs::{self, Rays};
 use crate::trees::length;
 use oracle::check::parts;
@@ -32,6 +33,8 @@ struct Truth {
     short: bool,
     apart: bool,
     minus_zero: bool,
+    /// The calls that name an entry don't agree with the eye test and with that entry's own hit.
+    misnamed: bool,
 }
 
 #[derive(Default)]
@@ -50,6 +53,8 @@ struct Tally {
     brought_back: u64,
     /// Covered and yet visible, where only a -0 breaks the premise; the smallest of them.
     excluded: u64,
+    /// A name is wrong: see `misnamed`.
+    misnamed: u64,
     smallest: Option<(u32, String)>,
 }
 
@@ -72,6 +77,7 @@ pub fn run(seed: u64, count: u64) -> bool {
     println!("covered and premise, yet visible   {:>9}", tally.lost);
     println!("hidden, yet nothing falls short    {:>9}", tally.unfounded);
     println!("visible past the coverer alone     {:>9}", tally.brought_back);
+    println!("named wrongly                      {:>9}", tally.misnamed);
     let known = known();
     let truth = truths(&known)[0];
     let found = truth.answered && truth.covered && !truth.hidden && truth.minus_zero;
@@ -81,7 +87,8 @@ pub fn run(seed: u64, count: u64) -> bool {
     }
     println!("a box flat at x = 0 and one beside it, eye at x = -0: {}", known.text());
     println!("  covered {}, hidden {}", truth.covered, truth.hidden);
-    tally.lost == 0 && tally.unfounded == 0 && tally.brought_back == 0 && found
+    let kept = tally.lost == 0 && tally.unfounded == 0 && tally.brought_back == 0;
+    kept && tally.misnamed == 0 && found
 }
 
 /// The same for draws: larnt's `render`, which puts its points to the compiled eye test, must give the
@@ -122,7 +129,9 @@ pub fn draws(seed: u64, count: u64) -> bool {
     println!("  refused                          {:>9}", tally.refused);
     println!("covered and premise, yet passed    {:>9}", tally.lost);
     println!("dropped, yet nothing falls short   {:>9}", tally.unfounded);
-    differ == 0 && tally.refused == 0 && tally.lost == 0 && tally.unfounded == 0
+    println!("named wrongly                      {:>9}", tally.misnamed);
+    let kept = tally.lost == 0 && tally.unfounded == 0 && tally.misnamed == 0;
+    differ == 0 && tally.refused == 0 && kept
 }
 
 /// `render` with the compiled eye test.
@@ -171,6 +180,7 @@ impl Tally {
         self.covered += u64::from(covered);
         self.lost += u64::from(covered && !truth.hidden);
         self.unfounded += u64::from(truth.hidden && !truth.short);
+        self.misnamed += u64::from(truth.misnamed);
         covered
     }
 }
@@ -237,19 +247,24 @@ fn truth(scene: &Scene, found: &Found, rows: &Rows, asked: &[f64; 6]) -> Truth {
     if number != 0 {
         return Truth::default();
     }
-    let distance = length(asked);
-    let d: [f64; 3] = std::array::from_fn(|k| (eye[k] - point[k]) / distance);
-    let ray = [point[0], point[1], point[2], d[0], d[1], d[2]];
+    let (distance, ray) = (length(asked), eye_ray(asked));
+    let mut hider = 7;
+    let number = (CORE.occluder)(scene, rows, eye, point, &mut hider);
     let mut truth = Truth {
         answered: true,
         hidden: !seen,
         apart: distance != 0.0,
-        minus_zero: d.iter().any(|x| *x == 0.0 && x.is_sign_negative()),
+        minus_zero: ray[3..].iter().any(|x| *x == 0.0 && x.is_sign_negative()),
+        misnamed: number != 0 || seen != (hider == NOBODY),
         ..Truth::default()
     };
     if !truth.apart {
         return truth;
     }
+    let nearest = nearest(scene, rows, &ray);
+    // nobody is named until a solid is found that bears the name, or where none should
+    let mut borne = nearest.entry == NOBODY && nearest.t == 1e9 && !nearest.ok;
+    truth.misnamed |= !seen && hider != nearest.entry;
     for i in &found.drawn[..found.count] {
         let i = *i as usize;
         let (mut t, mut ok, mut span) = (0.0, false, [0.0; 2]);
@@ -261,9 +276,31 @@ fn truth(scene: &Scene, found: &Found, rows: &Rows, asked: &[f64; 6]) -> Truth {
         let [tmin, tmax] = span;
         let passes = !(tmax < tmin) && !(tmax <= 0.0);
         truth.short |= t < distance;
+        if nearest.entry as usize == i {
+            borne =
+                t.to_bits() == nearest.t.to_bits() && ok == nearest.ok && (seen || t < distance);
+        }
+        // such a solid is tried, or something nearer was
+        let tried = passes && tmin <= t && t < 1e9 && !truth.minus_zero;
+        truth.misnamed |= tried && !(nearest.t <= t);
         if passes && tmin <= t && t < distance {
             (truth.covered, truth.by) = (true, i);
         }
     }
+    truth.misnamed |= !borne;
     truth
+}
+
+/// The nearest hit of a ray, with its name.
+struct Nearest {
+    t: f64,
+    ok: bool,
+    entry: u32,
+}
+
+fn nearest(scene: &Scene, rows: &Rows, ray: &[f64; 6]) -> Nearest {
+    let (mut t, mut ok, mut entry) = (0.0, false, 7);
+    let number = (CORE.intersect)(scene, rows, ray, &mut t, &mut ok, &mut entry);
+    assert_eq!(number, 0, "visible answered on this ray");
+    Nearest { t, ok, entry }
 }

@@ -17,6 +17,7 @@ mod host;
 mod inputs;
 mod leaves;
 mod roots;
+mod names;
 mod scene_calls;
 mod scene_inputs;
 mod scenes;

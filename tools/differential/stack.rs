@@ -121,7 +121,7 @@ fn questions() {
     let (eye, point) = ([-380.0, -380.0, 9000.0], [-380.0, -380.0, -9000.0]);
     let ray = [eye[0], eye[1], eye[2], 0.0, 0.0, -1.0];
     let (mut found, mut rows) = (unfilled(), Rows::ample());
-    let (mut t, mut ok) = (0.0, false);
+    let (mut t, mut ok, mut entry) = (0.0, false, 0);
     let bytes = taken(|| assert_eq!((CORE_SCENES.check)(&scene, &mut found), 0));
     println!("check: {bytes} bytes");
     let bytes = taken(|| assert_eq!((CORE_SCENES.own_hit)(&scene, last, &ray, &mut t, &mut ok), 0));
@@ -131,10 +131,14 @@ fn questions() {
     });
     println!("own contains: {bytes} bytes");
     assert_eq!((CORE.build)(&scene, &mut rows), 0);
-    let bytes = taken(|| assert_eq!((CORE.intersect)(&scene, &rows, &ray, &mut t, &mut ok), 0));
-    println!("intersect: {bytes} bytes, at {t}");
+    let bytes = taken(|| {
+        assert_eq!((CORE.intersect)(&scene, &rows, &ray, &mut t, &mut ok, &mut entry), 0);
+    });
+    println!("intersect: {bytes} bytes, at {t}, entry {entry}");
     let bytes = taken(|| assert_eq!((CORE.visible)(&scene, &rows, &eye, &point, &mut ok), 0));
     println!("visible: {bytes} bytes, seen {ok}");
+    let bytes = taken(|| assert_eq!((CORE.occluder)(&scene, &rows, &eye, &point, &mut entry), 0));
+    println!("occluder: {bytes} bytes, entry {entry}");
 }
 
 /// A draw of many equal boxes, whose tree is deepest; of a line to and fro, which is split most often;

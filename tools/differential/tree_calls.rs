@@ -39,18 +39,30 @@ impl Rows {
     }
 }
 
+/// No entry: what a hit carries where no t became the best.
+pub const NOBODY: u32 = u32::MAX;
+
 /// The calls as host/larnt.h declares them; each answers 0 or the number of the refusal.
 pub struct TreeCalls {
     pub build: fn(&Scene, &mut Rows) -> u32,
-    pub intersect: fn(&Scene, &Rows, &[f64; 6], &mut f64, &mut bool) -> u32,
+    pub intersect: fn(&Scene, &Rows, &[f64; 6], &mut f64, &mut bool, &mut u32) -> u32,
     pub visible: fn(&Scene, &Rows, &[f64; 3], &[f64; 3], &mut bool) -> u32,
+    pub occluder: fn(&Scene, &Rows, &[f64; 3], &[f64; 3], &mut u32) -> u32,
 }
 
-pub const CORE: TreeCalls =
-    TreeCalls { build: core_build, intersect: core_intersect, visible: core_visible };
+pub const CORE: TreeCalls = TreeCalls {
+    build: core_build,
+    intersect: core_intersect,
+    visible: core_visible,
+    occluder: core_occluder,
+};
 
-pub const HOST: TreeCalls =
-    TreeCalls { build: host_build, intersect: host_intersect, visible: host_visible };
+pub const HOST: TreeCalls = TreeCalls {
+    build: host_build,
+    intersect: host_intersect,
+    visible: host_visible,
+    occluder: host_occluder,
+};
 
 /// A direct call on a scene and its tree.
 macro_rules! on_rows {
@@ -84,12 +96,23 @@ fn core_build(s: &Scene, rows: &mut Rows) -> u32 {
     )
 }
 
-fn core_intersect(s: &Scene, rows: &Rows, ray: &[f64; 6], t: &mut f64, ok: &mut bool) -> u32 {
-    on_rows!(larnt_intersect, s, rows, ray, t, ok)
+fn core_intersect(
+    s: &Scene,
+    rows: &Rows,
+    ray: &[f64; 6],
+    t: &mut f64,
+    ok: &mut bool,
+    entry: &mut u32,
+) -> u32 {
+    on_rows!(larnt_intersect, s, rows, ray, t, ok, entry)
 }
 
 fn core_visible(s: &Scene, rows: &Rows, eye: &[f64; 3], point: &[f64; 3], seen: &mut bool) -> u32 {
     on_rows!(larnt_visible, s, rows, eye, point, seen)
+}
+
+fn core_occluder(s: &Scene, rows: &Rows, eye: &[f64; 3], point: &[f64; 3], entry: &mut u32) -> u32 {
+    on_rows!(larnt_occluder, s, rows, eye, point, entry)
 }
 
 fn host_build(s: &Scene, rows: &mut Rows) -> u32 {
@@ -99,15 +122,31 @@ fn host_build(s: &Scene, rows: &mut Rows) -> u32 {
     number
 }
 
-fn host_intersect(s: &Scene, rows: &Rows, ray: &[f64; 6], t: &mut f64, ok: &mut bool) -> u32 {
+fn host_intersect(
+    s: &Scene,
+    rows: &Rows,
+    ray: &[f64; 6],
+    t: &mut f64,
+    ok: &mut bool,
+    entry: &mut u32,
+) -> u32 {
     let number;
-    (number, (*t, *ok)) = numbered(host::intersect(lent(s), rows.lent(), ray));
+    let hit = host::intersect(lent(s), rows.lent(), ray);
+    (number, (*t, *ok, *entry)) =
+        numbered(hit.map(|(t, ok, entry)| (t, ok, entry.unwrap_or(NOBODY))));
     number
 }
 
 fn host_visible(s: &Scene, rows: &Rows, eye: &[f64; 3], point: &[f64; 3], seen: &mut bool) -> u32 {
     let number;
     (number, *seen) = numbered(host::visible(lent(s), rows.lent(), eye, point));
+    number
+}
+
+fn host_occluder(s: &Scene, rows: &Rows, eye: &[f64; 3], point: &[f64; 3], entry: &mut u32) -> u32 {
+    let number;
+    let hider = host::occluder(lent(s), rows.lent(), eye, point);
+    (number, *entry) = numbered(hider.map(|entry| entry.unwrap_or(NOBODY)));
     number
 }
 
@@ -131,6 +170,7 @@ mod bench {
             ray: &[f64; 6],
             t: &mut f64,
             ok: &mut bool,
+            entry: &mut u32,
         ) -> u32;
         pub fn bench_visible(
             numbers: *const f64,
@@ -192,8 +232,8 @@ impl Checked<'_> {
         }
     }
 
-    pub fn intersect(&self, ray: &[f64; 6], t: &mut f64, ok: &mut bool) -> u32 {
-        inner!(bench_intersect, self, ray, t, ok)
+    pub fn intersect(&self, ray: &[f64; 6], t: &mut f64, ok: &mut bool, entry: &mut u32) -> u32 {
+        inner!(bench_intersect, self, ray, t, ok, entry)
     }
 
     pub fn visible(&self, eye: &[f64; 3], point: &[f64; 3], seen: &mut bool) -> u32 {
@@ -244,15 +284,20 @@ fn told_sight(number: u32, seen: bool) -> Told {
     [u64::from(number), u64::from(seen), 0]
 }
 
-fn eye_and_point(asked: &[f64; 6]) -> (&[f64; 3], &[f64; 3]) {
+/// The number of a refusal, and zeros.
+pub fn refused<const N: usize>(number: u32) -> [u64; N] {
+    std::array::from_fn(|k| if k == 0 { u64::from(number) } else { 0 })
+}
+
+pub fn eye_and_point(asked: &[f64; 6]) -> (&[f64; 3], &[f64; 3]) {
     (asked.first_chunk().unwrap(), asked.last_chunk().unwrap())
 }
 
 /// The public calls, directly and as a host in Rust makes them, in turn.
 pub fn core_hits(case: &Rays) -> Vec<Told> {
     by_calls(case, |calls, rows, k, asked| {
-        let (mut t, mut ok) = (UNFILLED, k % 4 < 2);
-        let number = (calls.intersect)(&case.scene, rows, asked, &mut t, &mut ok);
+        let (mut t, mut ok, mut entry) = (UNFILLED, k % 4 < 2, 7);
+        let number = (calls.intersect)(&case.scene, rows, asked, &mut t, &mut ok, &mut entry);
         told_hit(number, t, ok)
     })
 }
@@ -266,7 +311,7 @@ pub fn core_sights(case: &Rays) -> Vec<Told> {
     })
 }
 
-fn by_calls(case: &Rays, one: impl Fn(&TreeCalls, &Rows, usize, &[f64; 6]) -> Told) -> Vec<Told> {
+pub fn by_calls<T>(case: &Rays, one: impl Fn(&TreeCalls, &Rows, usize, &[f64; 6]) -> T) -> Vec<T> {
     let mut rows = Rows::ample();
     (CORE.build)(&case.scene, &mut rows);
     let asked = case.asked.iter().enumerate();
@@ -279,8 +324,8 @@ pub fn inner_hits(case: &Rays) -> Vec<Told> {
         if oracle::check::measures(asked).is_err() {
             return told_hit(8, 0.0, false);
         }
-        let (mut t, mut ok) = (UNFILLED, k % 4 < 2);
-        let number = checked.intersect(asked, &mut t, &mut ok);
+        let (mut t, mut ok, mut entry) = (UNFILLED, k % 4 < 2, 7);
+        let number = checked.intersect(asked, &mut t, &mut ok, &mut entry);
         told_hit(number, t, ok)
     })
 }
@@ -300,9 +345,12 @@ pub fn inner_sights(case: &Rays) -> Vec<Told> {
     })
 }
 
-fn inner(case: &Rays, one: impl Fn(&Checked, usize, &[f64; 6]) -> Told) -> Vec<Told> {
+pub fn inner<const N: usize>(
+    case: &Rays,
+    one: impl Fn(&Checked, usize, &[f64; 6]) -> [u64; N],
+) -> Vec<[u64; N]> {
     match Checked::new(&case.scene) {
-        Err(number) => vec![[u64::from(number), 0, 0]; case.asked.len()],
+        Err(number) => vec![refused(number); case.asked.len()],
         Ok(checked) => {
             case.asked.iter().enumerate().map(|(k, asked)| one(&checked, k, asked)).collect()
         }
@@ -331,10 +379,7 @@ fn rust(
     one: impl Fn(&oracle::larnt_limited::tree::Tree<oracle::limited::Drawn>, &[f64; 6]) -> Told,
 ) -> Vec<Told> {
     match oracle::accepted(&case.scene) {
-        Err(trouble) => {
-            let number = number::<()>(&Err(trouble));
-            vec![[u64::from(number), 0, 0]; case.asked.len()]
-        }
+        Err(trouble) => vec![refused(number::<()>(&Err(trouble))); case.asked.len()],
         Ok(entries) => {
             let tree = oracle::tree(&entries);
             case.asked.iter().map(|asked| one(&tree, asked)).collect()

@@ -1,6 +1,7 @@
 //! The tree of a scene: its build, the nearest hit and the eye test.
 
 use crate::harness::{Part, Run, Share, time};
+use crate::names;
 use crate::scene_calls::{self, Words};
 use crate::tree_calls::{self, CORE, Checked, HOST, Rows, Told};
 use crate::tree_inputs::{self, Build, Rays};
@@ -58,6 +59,7 @@ pub fn compare(run: &mut Run) {
         [&tree_calls::core_sights, &tree_calls::inner_sights];
     let rust = tree_calls::rust_sights;
     run.compare_many("visible", rays, tree_inputs::sights, Rays::one, rust, &cores, shares);
+    names::compare(run);
 }
 
 /// No place of a slice is left.

@@ -15,6 +15,10 @@ use Rattle.query_scene.specs.Queries.{buildOf, ifBuilt, sceneNodes, sceneOrder}
 use Rattle.refusals.specs.Refusals.{numberOf}
 use Rattle.query_scene.specs.declared.Built.{Built}
 use Rattle.query_scene.specs.declared.Built.the-variants.{Nodes, Refused as NotBuilt}
+use Rattle.query_scene.specs.declared.NamedSight.{NamedSight}
+use Rattle.query_scene.specs.declared.NamedSight.the-variants.{Clear, Hidden as HiddenBy, Refused as NotNamed}
+use Rattle.tree_walk.specs.declared.Found.{Found}
+use Rattle.tree_walk.specs.declared.Found.the-variants.{Best, Refused as NotFound}
 use Rattle.tree_sight.specs.declared.Sight.{Sight}
 use Rattle.tree_sight.specs.declared.Sight.the-variants.{Visible, Hidden, Refused as NotSeen}
 
@@ -53,3 +57,13 @@ HitTold h number t ok = (number ≡ struckNumber h) × ((t ≡ distance h) × (o
 
 abbrev pub SightTold : Sight → ℕ → Bool → Type 0
 SightTold a number seen = (number ≡ sightNumber a) × (seen ≡ inSight a)
+
+-- request (i): of the nearest hit with the entry that it names, and of who hides a point, FFFFFFFF (hexadecimal) where nobody does
+unfoldable pub NearestTold : Found → ℕ → Float → Bool → ℕ → Type 0
+NearestTold (Best b) number t ok entry = (number ≡ 0) × ((t ≡ b .hit .t) × ((ok ≡ b .hit .ok) × (entry ≡ b .entry)))
+NearestTold (NotFound k) number t ok entry = (number ≡ numberOf k) × ((t ≡ zeroF) × ((ok ≡ false) × (entry ≡ 0)))
+
+unfoldable pub NameTold : NamedSight → ℕ → ℕ → Type 0
+NameTold Clear number entry = (number ≡ 0) × (entry ≡ 0xffff_ffff)
+NameTold (HiddenBy i) number entry = (number ≡ 0) × (entry ≡ i)
+NameTold (NotNamed k) number entry = (number ≡ numberOf k) × (entry ≡ 0)

@@ -2,11 +2,13 @@
 ghost use mathlib.Core.Path.{_≡_};
 ghost use Rattle.rows.specs.Points.{pointOf};
 ghost use Rattle.scene.specs.Scenes.{sceneOf};
-ghost use Rattle.query_scene.specs.Queries.{intersectOf, visibleOf};
+ghost use Rattle.query_scene.specs.Queries.{intersectOf, visibleOf, occluderOf};
 ghost use Rattle.host.specs.Calls.{rayOfRow};
 ghost use Rattle.host.specs.TreeCalls as TreeCalls;
 use query_scene::Built;
+use query_scene::NamedSight;
 use tree_sight::Sight;
+use tree_walk::Found;
 
 fn built_number(b: Built) -> u32
     ensures { λ r. ⌜ r ≡ TreeCalls.builtNumber b ⌝ }
@@ -76,7 +78,8 @@ pub extern "C" fn larnt_build(
     built_number(b)
 }
 
-// The nearest hit that the solids of a tree give a ray: numbers 2 to 8, then 11 and 12.
+// The nearest hit that the solids of a tree give a ray, with the entry whose t last became the best, FFFFFFFF
+// (hexadecimal) where none did: numbers 2 to 8, then 11 and 12.
 #[no_mangle]
 pub extern "C" fn larnt_intersect(
     numbers: &[f64],
@@ -90,10 +93,11 @@ pub extern "C" fn larnt_intersect(
     ray: &[f64; 6],
     t: &mut f64,
     ok: &mut bool,
+    entry: &mut u32,
 ) -> u32
-    ensures { λ r. ⌜ TreeCalls.HitTold (intersectOf (sceneOf (now (numbers .entry)) (now (marks .entry)) (now (points .entry)) (now (starts .entry)) (now (owners .entry))) (now («node_boxes» .entry)) (now («node_marks» .entry)) (now (order .entry)) (rayOfRow (now (ray .entry)))) r (now (t .exit)) (now (ok .exit)) ⌝ }
+    ensures { λ r. ⌜ TreeCalls.NearestTold (intersectOf (sceneOf (now (numbers .entry)) (now (marks .entry)) (now (points .entry)) (now (starts .entry)) (now (owners .entry))) (now («node_boxes» .entry)) (now («node_marks» .entry)) (now (order .entry)) (rayOfRow (now (ray .entry)))) r (now (t .exit)) (now (ok .exit)) (now (entry .exit)) ⌝ }
 {
-    let h = query_scene::intersect(
+    let f = query_scene::intersect(
         numbers,
         marks,
         points,
@@ -104,9 +108,20 @@ pub extern "C" fn larnt_intersect(
         order,
         crate::ray_from(ray),
     );
-    *t = query_solid::answers::distance(h);
-    *ok = query_solid::answers::met(h);
-    query_solid::answers::struck_number(h)
+    match f {
+        Found::Best(b) => {
+            *t = b.hit.t;
+            *ok = b.hit.ok;
+            *entry = b.entry;
+            0
+        }
+        Found::Refused(k) => {
+            *t = 0.0;
+            *ok = false;
+            *entry = 0;
+            k.number()
+        }
+    }
 }
 
 // Whether the eye sees a point past the solids of a tree: numbers 2 to 9, then 11 and 12.
@@ -140,4 +155,50 @@ pub extern "C" fn larnt_visible(
     );
     *seen = in_sight(s);
     sight_number(s)
+}
+
+// The entry that hides a point from the eye past the solids of a tree, FFFFFFFF (hexadecimal) where the point is
+// visible: numbers 2 to 9, then 11 and 12.
+#[no_mangle]
+pub extern "C" fn larnt_occluder(
+    numbers: &[f64],
+    marks: &[u32],
+    points: &[f64],
+    starts: &[usize],
+    owners: &[u32],
+    node_boxes: &[f64],
+    node_marks: &[u32],
+    order: &[u32],
+    eye: &[f64; 3],
+    point: &[f64; 3],
+    entry: &mut u32,
+) -> u32
+    ensures { λ r. ⌜ TreeCalls.NameTold (occluderOf (sceneOf (now (numbers .entry)) (now (marks .entry)) (now (points .entry)) (now (starts .entry)) (now (owners .entry))) (now («node_boxes» .entry)) (now («node_marks» .entry)) (now (order .entry)) (pointOf (now (eye .entry))) (pointOf (now (point .entry)))) r (now (entry .exit)) ⌝ }
+{
+    let o = query_scene::occluder(
+        numbers,
+        marks,
+        points,
+        starts,
+        owners,
+        node_boxes,
+        node_marks,
+        order,
+        crate::point(eye),
+        crate::point(point),
+    );
+    match o {
+        NamedSight::Clear => {
+            *entry = 0xffffffff;
+            0
+        }
+        NamedSight::Hidden(i) => {
+            *entry = i;
+            0
+        }
+        NamedSight::Refused(k) => {
+            *entry = 0;
+            k.number()
+        }
+    }
 }

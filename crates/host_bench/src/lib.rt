@@ -5,7 +5,6 @@ ghost use Rattle.geometry.specs.declared.ray.Ray.{Ray};
 ghost use Rattle.rows.specs.Points.{pointOf};
 ghost use Rattle.tree_walk.specs.Walks.{entryHit, walkRows};
 ghost use Rattle.tree_sight.specs.Sights.{sees};
-ghost use Rattle.query_scene.specs.Queries.{struckBy};
 ghost use Rattle.host.specs.Calls.{rayOfRow};
 ghost use Rattle.host.specs.TreeCalls as TreeCalls;
 use geometry::ray::Ray;
@@ -39,7 +38,7 @@ fn point(p: &[f64; 3]) -> Vector
     }
 }
 
-// The nearest hit on the rows of a tree, given the inverses of the scene's placings.
+// The nearest hit on the rows of a tree with the entry that it names, given the inverses of the scene's placings.
 #[no_mangle]
 pub extern "C" fn bench_intersect(
     numbers: &[f64],
@@ -51,8 +50,9 @@ pub extern "C" fn bench_intersect(
     ray: &[f64; 6],
     t: &mut f64,
     ok: &mut bool,
+    entry: &mut u32,
 ) -> u32
-    ensures { λ r. ⌜ TreeCalls.HitTold (struckBy (walkRows (entryHit (now (numbers .entry)) (now (inverses .entry)) (now (marks .entry)) (rayOfRow (now (ray .entry)))) (rayOfRow (now (ray .entry))) (now («node_boxes» .entry)) (now («node_marks» .entry)) (now (order .entry)))) r (now (t .exit)) (now (ok .exit)) ⌝ }
+    ensures { λ r. ⌜ TreeCalls.NearestTold (walkRows (entryHit (now (numbers .entry)) (now (inverses .entry)) (now (marks .entry)) (rayOfRow (now (ray .entry)))) (rayOfRow (now (ray .entry))) (now («node_boxes» .entry)) (now («node_marks» .entry)) (now (order .entry))) r (now (t .exit)) (now (ok .exit)) (now (entry .exit)) ⌝ }
 {
     let f = tree_walk::intersect(
         numbers,
@@ -67,11 +67,13 @@ pub extern "C" fn bench_intersect(
         Found::Best(b) => {
             *t = b.hit.t;
             *ok = b.hit.ok;
+            *entry = b.entry;
             0
         }
         Found::Refused(k) => {
             *t = 0.0;
             *ok = false;
+            *entry = 0;
             k.number()
         }
     }

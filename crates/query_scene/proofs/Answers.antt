@@ -12,22 +12,24 @@ use Rattle.refusals.specs.declared.Refusal.{Refusal}
 use Rattle.refusals.specs.declared.Refusal.the-variants.{View, Point}
 use Rattle.scene_shape.specs.Shapes.{Shape, shapeHit}
 use Rattle.scene_shape.specs.declared.Struck.{Struck}
-use Rattle.scene_shape.specs.declared.Struck.the-variants.{Refused as NotStruck}
 use Rattle.limits.specs.Limits.{withinPoint, withinRay}
 use Rattle.check_parts.specs.Drawn.{drawn}
 use Rattle.tree_split.specs.Build.{boxAt}
 use Rattle.tree_walk.specs.Walks.{entryHit, walkRows}
 use Rattle.tree_walk.specs.declared.Found.{Found}
+use Rattle.tree_walk.specs.declared.Found.the-variants.{Refused as NotFound}
 use Rattle.tree_sight.specs.Sights.{sees}
 use Rattle.tree_sight.specs.declared.Sight.{Sight}
 use Rattle.tree_sight.specs.declared.Sight.the-variants.{Refused as NotSeen}
-use Rattle.check_scene.specs.Checks.{checkOf, inversesOf, struckAfter}
+use Rattle.check_scene.specs.Checks.{checkOf, inversesOf}
 use Rattle.scene.specs.Scenes.{Scene}
 use Rattle.check_scene.specs.declared.Verdict.the-variants.{Accepted, Refused}
 use Rattle.check_scene.proofs.Accepted.{own-solid}
 use Rattle.query_scene.specs.declared.Built.{Built}
 use Rattle.query_scene.specs.declared.Built.the-variants.{Refused as NotBuilt}
-use Rattle.query_scene.specs.Queries.{boxesLeft, builtAfter, plantedOf, buildOf, ifBuilt, TreeLeft, ownHits, struckBy, intersectOf, seenAfter, visibleOf}
+use Rattle.query_scene.specs.declared.NamedSight.{NamedSight}
+use Rattle.query_scene.specs.declared.NamedSight.the-variants.{Refused as NotNamed}
+use Rattle.query_scene.specs.Queries.{boxesLeft, builtAfter, plantedOf, buildOf, ifBuilt, TreeLeft, ownHits, foundAfter, intersectOf, seenAfter, visibleOf, hides, namedAfter, occluderOf}
 
 -- ---- a refused scene
 module _ (s : Scene) (k : Refusal) (is : checkOf s ≡ Refused k) where
@@ -36,13 +38,17 @@ module _ (s : Scene) (k : Refusal) (is : checkOf s ≡ Refused k) where
   unfolding buildOf builtAfter ifBuilt flat
   build-refused places B M O a b c = record { answer = rw is; boxes-are = a; marks-are = b; order-is = c }
 
-  pub intersect-refused : (bs : List Float) (ms os : List ℕ) (r : Ray) → NotStruck k ≡ intersectOf s bs ms os r
-  unfolding intersectOf struckAfter
+  pub intersect-refused : (bs : List Float) (ms os : List ℕ) (r : Ray) → NotFound k ≡ intersectOf s bs ms os r
+  unfolding intersectOf foundAfter
   intersect-refused bs ms os r = rw is
 
   pub visible-refused : (bs : List Float) (ms os : List ℕ) (eye point : Vector) → NotSeen k ≡ visibleOf s bs ms os eye point
   unfolding visibleOf seenAfter
   visible-refused bs ms os eye point = rw is
+
+  pub occluder-refused : (bs : List Float) (ms os : List ℕ) (eye point : Vector) → NotNamed k ≡ occluderOf s bs ms os eye point
+  unfolding occluderOf namedAfter
+  occluder-refused bs ms os eye point = rw is
 
 -- ---- an accepted one
 module _ (s : Scene) (n : ℕ) (is : checkOf s ≡ Accepted n) where
@@ -61,17 +67,21 @@ module _ (s : Scene) (n : ℕ) (is : checkOf s ≡ Accepted n) where
     walk-is : (r : Ray) → walkRows (entryHit (s .numbers) vs (s .marks) r) r bs ms os ≡ walkRows (ownHits s r) r bs ms os
     walk-is r = ap (λ (hit : ℕ → Struck). walkRows hit r bs ms os) (hits-are r)
 
-    pub intersect-is : (r : Ray) {b : Bool} → b ≡ withinRay r → b ≡ true → {f : Found} → f ≡ walkRows (entryHit (s .numbers) vs (s .marks) r) r bs ms os → {h : Struck} → h ≡ struckBy f → h ≡ intersectOf s bs ms os r
-    unfolding intersectOf struckAfter
-    intersect-is r e t p q = q ∙ ap struckBy (p ∙ walk-is r) ∙ rw (is, ← e, t)
+    pub intersect-is : (r : Ray) {b : Bool} → b ≡ withinRay r → b ≡ true → {f : Found} → f ≡ walkRows (entryHit (s .numbers) vs (s .marks) r) r bs ms os → f ≡ intersectOf s bs ms os r
+    unfolding intersectOf foundAfter
+    intersect-is r e t p = p ∙ walk-is r ∙ rw (is, ← e, t)
 
     module _ (eye point : Vector) {a : Bool} (ea : a ≡ withinPoint eye) (ta : a ≡ true) {b : Bool} (eb : b ≡ withinPoint point) where
       pub visible-is : b ≡ true → {h : Sight} → h ≡ sees (λ (r : Ray). walkRows (entryHit (s .numbers) vs (s .marks) r) r bs ms os) eye point → h ≡ visibleOf s bs ms os eye point
       unfolding visibleOf seenAfter
       visible-is tb q = q ∙ ap (λ (w : Ray → Found). sees w eye point) (fun-ext walk-is) ∙ rw (is, ← ea, ta, ← eb, tb)
 
-  pub ray-refused : (bs : List Float) (ms os : List ℕ) (r : Ray) {b : Bool} → b ≡ withinRay r → b ≡ false → NotStruck View ≡ intersectOf s bs ms os r
-  unfolding intersectOf struckAfter
+      pub occluder-is : b ≡ true → {o : NamedSight} → o ≡ hides (λ (r : Ray). walkRows (entryHit (s .numbers) vs (s .marks) r) r bs ms os) eye point → o ≡ occluderOf s bs ms os eye point
+      unfolding occluderOf namedAfter
+      occluder-is tb q = q ∙ ap (λ (w : Ray → Found). hides w eye point) (fun-ext walk-is) ∙ rw (is, ← ea, ta, ← eb, tb)
+
+  pub ray-refused : (bs : List Float) (ms os : List ℕ) (r : Ray) {b : Bool} → b ≡ withinRay r → b ≡ false → NotFound View ≡ intersectOf s bs ms os r
+  unfolding intersectOf foundAfter
   ray-refused bs ms os r e f = rw (is, ← e, f)
 
   module _ (bs : List Float) (ms os : List ℕ) (eye point : Vector) {a : Bool} (ea : a ≡ withinPoint eye) where
@@ -82,3 +92,11 @@ module _ (s : Scene) (n : ℕ) (is : checkOf s ≡ Accepted n) where
     pub point-refused : a ≡ true → {b : Bool} → b ≡ withinPoint point → b ≡ false → NotSeen Point ≡ visibleOf s bs ms os eye point
     unfolding visibleOf seenAfter
     point-refused t eb f = rw (is, ← ea, t, ← eb, f)
+
+    pub eye-unnamed : a ≡ false → NotNamed View ≡ occluderOf s bs ms os eye point
+    unfolding occluderOf namedAfter
+    eye-unnamed f = rw (is, ← ea, f)
+
+    pub point-unnamed : a ≡ true → {b : Bool} → b ≡ withinPoint point → b ≡ false → NotNamed Point ≡ occluderOf s bs ms os eye point
+    unfolding occluderOf namedAfter
+    point-unnamed t eb f = rw (is, ← ea, t, ← eb, f)

@@ -1,3 +1,4 @@
 pub mod Copies
 pub mod Plants
 pub mod Answers
+pub mod Names

@@ -5,8 +5,9 @@ use mathlib.Core.Bool.{_&&_, cond}
 use mathlib.Core.List.{List, []}
 use lib.ListN.{length}
 use lib.Dec.{leb}
-use lib.Ieee.{Float}
+use lib.Ieee.{Float, eq, le}
 use Rattle.floats.specs.Arith.{zeroF}
+use Rattle.geometry.specs.Vectors.{distanceOf}
 use Rattle.geometry.specs.declared.vector.Vector.{Vector}
 use Rattle.geometry.specs.declared.ray.Ray.{Ray}
 use Rattle.geometry.specs.declared.bounding_box.BBox.{BBox}
@@ -14,10 +15,9 @@ use Rattle.rows.specs.Rows.{padded}
 use Rattle.refusals.specs.declared.Refusal.the-variants.{View, Point, Room}
 use Rattle.scene_shape.specs.Shapes.{solidOf, shapeHit}
 use Rattle.scene_shape.specs.declared.Struck.{Struck}
-use Rattle.scene_shape.specs.declared.Struck.the-variants.{At, Refused as NotStruck}
 use Rattle.limits.specs.Limits.{withinPoint, withinRay}
 use Rattle.check_parts.specs.Drawn.{drawn}
-use Rattle.check_scene.specs.Checks.{checkOf, boxesOf, struckAfter}
+use Rattle.check_scene.specs.Checks.{checkOf, boxesOf}
 use Rattle.scene.specs.Scenes.{Scene}
 use Rattle.check_scene.specs.declared.Verdict.{Verdict}
 use Rattle.check_scene.specs.declared.Verdict.the-variants.{Accepted, Refused}
@@ -28,11 +28,13 @@ use Rattle.tree_split.specs.Build.{boxAt, treeFor, nodesFor, orderFor}
 use Rattle.tree_walk.specs.Walks.{walkRows}
 use Rattle.tree_walk.specs.declared.Found.{Found}
 use Rattle.tree_walk.specs.declared.Found.the-variants.{Best, Refused as NotFound}
-use Rattle.tree_sight.specs.Sights.{sees}
+use Rattle.tree_sight.specs.Sights.{eyeRay, sees}
 use Rattle.tree_sight.specs.declared.Sight.{Sight}
-use Rattle.tree_sight.specs.declared.Sight.the-variants.{Refused as NotSeen}
+use Rattle.tree_sight.specs.declared.Sight.the-variants.{Visible, Hidden, Refused as NotSeen}
 use Rattle.query_scene.specs.declared.Built.{Built}
 use Rattle.query_scene.specs.declared.Built.the-variants.{Nodes, Refused as NotBuilt}
+use Rattle.query_scene.specs.declared.NamedSight.{NamedSight}
+use Rattle.query_scene.specs.declared.NamedSight.the-variants.{Clear, Hidden as HiddenBy, Refused as NotNamed}
 
 -- ---- the tree of a scene
 -- the own boxes of its entries, as the check leaves them
@@ -86,13 +88,14 @@ TreeBuilt s boxes₀ marks₀ order₀ =
 abbrev pub ownHits : Scene → Ray → ℕ → Struck
 ownHits s r i = shapeHit (solidOf (s .numbers) (s .marks) i) r
 
-unfoldable pub struckBy : Found → Struck
-struckBy (Best b) = At (b .hit)
-struckBy (NotFound k) = NotStruck k
+unfoldable pub foundAfter : Verdict → Found → Found
+foundAfter (Accepted n) f = f
+foundAfter (Refused k) f = NotFound k
 
--- numbers 2 to 7, then 8, then the walk of the rows that are handed in
-unfoldable pub intersectOf : Scene → List Float → List ℕ → List ℕ → Ray → Struck
-intersectOf s boxes marks order r = struckAfter (checkOf s) (cond (withinRay r) (struckBy (walkRows (ownHits s r) r boxes marks order)) (NotStruck View))
+-- Numbers 2 to 7, then 8, then the walk of the rows that are handed in. The best names the entry whose t last became the best, FFFFFFFF (hexadecimal) where none did:
+-- request (i)'s every hit.
+unfoldable pub intersectOf : Scene → List Float → List ℕ → List ℕ → Ray → Found
+intersectOf s boxes marks order r = foundAfter (checkOf s) (cond (withinRay r) (walkRows (ownHits s r) r boxes marks order) (NotFound View))
 
 -- ---- the eye test
 unfoldable pub seenAfter : Verdict → Sight → Sight
@@ -106,3 +109,36 @@ visibleOf s boxes marks order eye point =
     (cond (withinPoint eye)
     (cond (withinPoint point) (sees (λ (r : Ray). walkRows (ownHits s r) r boxes marks order) eye point) (NotSeen Point))
     (NotSeen View))
+
+-- ---- the eye test with a name
+-- as `byDistance` of tree_sight: where the hit does not reach the eye, the entry that it names
+unfoldable pub hiderBy : Found → Float → NamedSight
+hiderBy (Best b) distance = cond (le distance (b .hit .t)) Clear (HiddenBy (b .entry))
+hiderBy (NotFound k) distance = NotNamed k
+
+-- as `sees`, on the same ray
+unfoldable pub hides : (Ray → Found) → Vector → Vector → NamedSight
+hides nearest eye point = cond (eq (distanceOf eye point) zeroF) Clear (hiderBy (nearest (eyeRay eye point)) (distanceOf eye point))
+
+unfoldable pub namedAfter : Verdict → NamedSight → NamedSight
+namedAfter (Accepted n) o = o
+namedAfter (Refused k) o = NotNamed k
+
+-- numbers 2 to 9 as in visible, then request (i)'s name of who hides the point
+unfoldable pub occluderOf : Scene → List Float → List ℕ → List ℕ → Vector → Vector → NamedSight
+occluderOf s boxes marks order eye point =
+    namedAfter (checkOf s)
+    (cond (withinPoint eye)
+    (cond (withinPoint point) (hides (λ (r : Ray). walkRows (ownHits s r) r boxes marks order) eye point) (NotNamed Point))
+    (NotNamed View))
+
+-- what an answer says without the name
+unfoldable pub sightOf : NamedSight → Sight
+sightOf Clear = Visible
+sightOf (HiddenBy i) = Hidden
+sightOf (NotNamed k) = NotSeen k
+
+-- On every input the two eye tests agree: hidden, visible or refused alike, with the same number.
+abbrev pub NamedAsSeen : Type 0
+NamedAsSeen =
+    (s : Scene) (boxes : List Float) (marks order : List ℕ) (eye point : Vector) → sightOf (occluderOf s boxes marks order eye point) ≡ visibleOf s boxes marks order eye point

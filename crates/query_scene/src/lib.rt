@@ -9,12 +9,12 @@ ghost use Rattle.rows.specs.Rows.{padded};
 ghost use Rattle.scene.specs.Scenes.{sceneOf};
 ghost use Rattle.lists.specs.Lists.{Each};
 ghost use Rattle.tree_split.specs.Build.{Fits, boxAt};
+ghost use Rattle.tree_walk.specs.Walks.{entryHit, walkRows};
 ghost use Rattle.query_scene.specs.Queries as Queries;
 use check_scene::Verdict;
 use geometry::ray::Ray;
 use geometry::vector::Vector;
 use refusals::Refusal;
-use scene_shape::Struck;
 use tree_build::Outcome;
 use tree_sight::Sight;
 use tree_walk::Found;
@@ -22,6 +22,13 @@ use tree_walk::Found;
 // How many nodes a tree has, or why there is none.
 pub enum Built {
     Nodes(usize),
+    Refused(Refusal),
+}
+
+// Whether a point is seen, and by which entry it is hidden: the one that the nearest hit names.
+pub enum NamedSight {
+    Clear,
+    Hidden(u32),
     Refused(Refusal),
 }
 
@@ -108,19 +115,7 @@ pub fn build(
     }
 }
 
-fn struck(f: Found) -> Struck
-    ensures { λ r. ⌜ r ≡ Queries.struckBy f ⌝ }
-{
-    match f {
-        Found::Best(b) => {
-            let h = b.hit;
-            Struck::At(h)
-        }
-        Found::Refused(k) => Struck::Refused(k),
-    }
-}
-
-// The nearest hit of a ray, on the rows of a tree: `Tree::intersect`.
+// The nearest hit of a ray, on the rows of a tree, `Tree::intersect`, with the entry whose t last became the best.
 pub fn intersect(
     numbers: &[f64],
     marks: &[u32],
@@ -131,7 +126,7 @@ pub fn intersect(
     node_marks: &[u32],
     order: &[u32],
     r: Ray,
-) -> Struck
+) -> Found
     ensures { λ h. ⌜ h ≡ Queries.intersectOf (sceneOf (now (numbers .entry)) (now (marks .entry)) (now (points .entry)) (now (starts .entry)) (now (owners .entry))) (now («node_boxes» .entry)) (now («node_marks» .entry)) (now (order .entry)) r ⌝ }
 {
     let mut inverses = [0.0; 16384];
@@ -148,20 +143,12 @@ pub fn intersect(
         &mut drawn,
     );
     match v {
-        Verdict::Refused(k) => Struck::Refused(k),
+        Verdict::Refused(k) => Found::Refused(k),
         Verdict::Accepted(_) => {
             if !limits::within_ray(r) {
-                return Struck::Refused(Refusal::View);
+                return Found::Refused(Refusal::View);
             }
-            struck(tree_walk::intersect(
-                numbers,
-                &inverses,
-                marks,
-                node_boxes,
-                node_marks,
-                order,
-                r,
-            ))
+            tree_walk::intersect(numbers, &inverses, marks, node_boxes, node_marks, order, r)
         }
     }
 }
@@ -204,6 +191,94 @@ pub fn visible(
                 return Sight::Refused(Refusal::Point);
             }
             tree_sight::visible(
+                numbers,
+                &inverses,
+                marks,
+                node_boxes,
+                node_marks,
+                order,
+                eye,
+                point,
+            )
+        }
+    }
+}
+
+fn named(a: Found, distance: f64) -> NamedSight
+    ensures { λ o. ⌜ o ≡ Queries.hiderBy a distance ⌝ }
+{
+    match a {
+        Found::Refused(k) => NamedSight::Refused(k),
+        Found::Best(b) => {
+            if b.hit.t >= distance {
+                return NamedSight::Clear;
+            }
+            NamedSight::Hidden(b.entry)
+        }
+    }
+}
+
+// The eye test of `tree_sight::visible`, which keeps the name.
+fn hider(
+    numbers: &[f64],
+    inverses: &[f64],
+    marks: &[u32],
+    node_boxes: &[f64],
+    node_marks: &[u32],
+    order: &[u32],
+    eye: Vector,
+    point: Vector,
+) -> NamedSight
+    ensures { λ o. ⌜ o ≡ Queries.hides (λ (r : Ray). walkRows (entryHit (now (numbers .entry)) (now (inverses .entry)) (now (marks .entry)) r) r (now («node_boxes» .entry)) (now («node_marks» .entry)) (now (order .entry))) eye point ⌝ }
+{
+    let v = eye.sub(point);
+    let distance = v.norm();
+    if distance == 0.0 {
+        return NamedSight::Clear;
+    }
+    let r = Ray::new(point, v.div_scalar(distance));
+    let a = tree_walk::intersect(numbers, inverses, marks, node_boxes, node_marks, order, r);
+    named(a, distance)
+}
+
+// Who hides a point from the eye, on the rows of a tree: `visible` with the name that its hit carries.
+pub fn occluder(
+    numbers: &[f64],
+    marks: &[u32],
+    points: &[f64],
+    starts: &[usize],
+    owners: &[u32],
+    node_boxes: &[f64],
+    node_marks: &[u32],
+    order: &[u32],
+    eye: Vector,
+    point: Vector,
+) -> NamedSight
+    ensures { λ o. ⌜ o ≡ Queries.occluderOf (sceneOf (now (numbers .entry)) (now (marks .entry)) (now (points .entry)) (now (starts .entry)) (now (owners .entry))) (now («node_boxes» .entry)) (now («node_marks» .entry)) (now (order .entry)) eye point ⌝ }
+{
+    let mut inverses = [0.0; 16384];
+    let mut boxes = [0.0; 6144];
+    let mut drawn = [0u32; 1024];
+    let v = check_scene::check(
+        numbers,
+        marks,
+        points,
+        starts,
+        owners,
+        &mut inverses,
+        &mut boxes,
+        &mut drawn,
+    );
+    match v {
+        Verdict::Refused(k) => NamedSight::Refused(k),
+        Verdict::Accepted(_) => {
+            if !limits::within_point(eye) {
+                return NamedSight::Refused(Refusal::View);
+            }
+            if !limits::within_point(point) {
+                return NamedSight::Refused(Refusal::Point);
+            }
+            hider(
                 numbers,
                 &inverses,
                 marks,

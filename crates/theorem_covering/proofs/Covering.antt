@@ -1,6 +1,7 @@
 -- Hiding, of scenes and of the public calls on them: the proofs.
 use Prim.Native.Nat.{ℕ, _*_, _<_, _≤_}
 use mathlib.Core.Path.{_≡_, refl, sym, ap, subst, _∙_}
+use mathlib.Core.Logic.{_⊎_, inl, inr}
 use mathlib.Core.List.{List, [], _∷_}
 use native.Mathlib.Omega.{arith}
 use lib.ListN.{length}
@@ -9,6 +10,8 @@ use Rattle.geometry.specs.Limits.{Within}
 use Rattle.geometry.specs.declared.vector.Vector.{Vector}
 use Rattle.geometry.specs.declared.ray.Ray.{Ray}
 use Rattle.scene_shape.specs.Shapes.{Shape, shapeBox, shapeHit, solidOf}
+use Rattle.scene_shape.specs.declared.Struck.the-variants.{At}
+use Rattle.tree_nodes.proofs.Members.{below-built}
 use Rattle.lists.specs.Lists.{Member}
 use Rattle.check_parts.specs.Drawn.{drawn}
 use Rattle.scene.specs.Scenes.{Scene, entriesOf}
@@ -17,16 +20,20 @@ use Rattle.check_scene.specs.declared.Verdict.the-variants.{Accepted}
 use Rattle.check_scene.proofs.Accepted.{accepted-numbers}
 use Rattle.theorem_solids.specs.Same.{SameSolid}
 use Rattle.theorem_solids.proofs.Same.{same-solid}
-use Rattle.tree_walk.specs.Walks.{walkRows}
-use Rattle.tree_sight.specs.Sights.{sees, Answered}
+use Rattle.tree_walk.specs.Walks.{nothing, walkRows}
+use Rattle.tree_walk.specs.declared.Found.the-variants.{Best}
+use Rattle.tree_walk.proofs.Visits.{best-same, visit-from}
+use Rattle.tree_sight.specs.Sights.{eyeRay, sees, Answered}
 use Rattle.tree_sight.specs.declared.Sight.{Sight}
 use Rattle.tree_sight.specs.declared.Sight.the-variants.{Visible, Hidden, Refused as NotSeen}
-use Rattle.theorem_hiding.proofs.Hiding.{covered-is-hidden, hidden-falls-short, nothing-is-hidden}
-use Rattle.query_scene.specs.Queries.{ownHits, visibleOf}
-use Rattle.theorem_covering.specs.Scenes.{CoversPoint, Short, Draws, BuiltRows}
-use Rattle.theorem_covering.specs.Covering.{CoveredPointHidden, HiddenPointShort}
+use Rattle.theorem_hiding.proofs.Hiding.{covered-is-hidden, named-falls-short, nothing-is-hidden}
+use Rattle.query_scene.specs.declared.NamedSight.the-variants.{Hidden as HiddenBy}
+use Rattle.query_scene.specs.Queries.{sceneTree, ownHits, visibleOf, occluderOf}
+use Rattle.query_scene.proofs.Names.{hidden-named}
+use Rattle.theorem_covering.specs.Scenes.{CoversPoint, Short, BuiltRows}
+use Rattle.theorem_covering.specs.Covering.{CoveredPointHidden, HiddenPointShort, NearestNamed, HiddenPointNamed}
 use Rattle.theorem_covering.proofs.Trees.{scene-tree}
-use Rattle.theorem_covering.proofs.Rows.{accepted-scene, sees-tree, sees-nothing, visible-sees}
+use Rattle.theorem_covering.proofs.Rows.{accepted-scene, walk-tree, walk-nothing, sees-tree, sees-nothing, intersect-walks, visible-sees, occluder-hides}
 
 some-drawn : (l : List ℕ) (i : ℕ) → Member i l → 0 < length l
 some-drawn [] i m = absurd m
@@ -60,18 +67,44 @@ module _ (s : Scene) (nodeBoxes : List Float) (nodeMarks order : List ℕ) (R : 
   not-hidden : drawn (s .marks) ≡ [] → visibleOf s nodeBoxes nodeMarks order eye point ≡ Hidden → ⊥
   not-hidden none h = visible-not (sym (seen h ∙ sees-nothing s nodeBoxes nodeMarks order R none eye point ∙ nothing-is-hidden eye point eye-in point-in) ∙ h)
 
-  short-of-tree : 0 < length (drawn (s .marks)) → visibleOf s nodeBoxes nodeMarks order eye point ≡ Hidden → (solid : Shape) × Draws s solid × Short solid eye point
-  short-of-tree some h =
+  named-of-tree : 0 < length (drawn (s .marks)) → visibleOf s nodeBoxes nodeMarks order eye point ≡ Hidden
+      → (i : ℕ) × (occluderOf s nodeBoxes nodeMarks order eye point ≡ HiddenBy i) × Member i (drawn (s .marks)) × Short (solidOf (s .numbers) (s .marks) i) eye point
+  named-of-tree some h =
       let acc = accepted-scene s nodeBoxes nodeMarks order R in
-      hidden-falls-short Shape shapeBox shapeHit eye point eye-in point-in (solidOf (s .numbers) (s .marks)) (drawn (s .marks)) _ (scene-tree s (acc .0) (acc .1) some)
-      (sym (seen h ∙ sees-tree s nodeBoxes nodeMarks order R some eye point) ∙ h)
+      let z = named-falls-short Shape shapeBox shapeHit eye point eye-in point-in (solidOf (s .numbers) (s .marks)) (drawn (s .marks)) _ (scene-tree s (acc .0) (acc .1) some)
+      (sym (seen h ∙ sees-tree s nodeBoxes nodeMarks order R some eye point) ∙ h) in
+      let w = walk-tree s nodeBoxes nodeMarks order R some (eyeRay eye point) ∙ z .1 in
+      let n = hidden-named (λ (r : Ray). walkRows (ownHits s r) r nodeBoxes nodeMarks order) eye point (z .0) w (sym (seen h) ∙ h) in
+      (z .0 .entry, occluder-hides s (acc .0) (acc .1) nodeBoxes nodeMarks order eye point (no-answers _ h) ∙ n, z .2, z .3)
+
+pub hidden-point-named : HiddenPointNamed
+hidden-point-named eye point eye-in point-in s nodeBoxes nodeMarks order R hidden = go (drawn (s .marks)) refl
+  where
+    go : (l : List ℕ) → drawn (s .marks) ≡ l
+        → (i : ℕ) × (occluderOf s nodeBoxes nodeMarks order eye point ≡ HiddenBy i) × Member i (drawn (s .marks)) × Short (solidOf (s .numbers) (s .marks) i) eye point
+    go [] none = absurd (not-hidden s nodeBoxes nodeMarks order R eye point eye-in point-in none hidden)
+    go (i ∷ l) some = named-of-tree s nodeBoxes nodeMarks order R eye point eye-in point-in (rw some (omega arith)) hidden
 
 pub hidden-point-short : HiddenPointShort
-hidden-point-short eye point eye-in point-in s nodeBoxes nodeMarks order R hidden = go (drawn (s .marks)) refl
+hidden-point-short eye point eye-in point-in s nodeBoxes nodeMarks order R hidden =
+    let z = hidden-point-named eye point eye-in point-in s nodeBoxes nodeMarks order R hidden in
+    (solidOf (s .numbers) (s .marks) (z .0), (z .0, z .2, refl), z .3)
+
+pub nearest-named : NearestNamed
+nearest-named s nodeBoxes nodeMarks order R r b e = go (drawn (s .marks)) refl
   where
-    go : (l : List ℕ) → drawn (s .marks) ≡ l → (solid : Shape) × Draws s solid × Short solid eye point
-    go [] none = absurd (not-hidden s nodeBoxes nodeMarks order R eye point eye-in point-in none hidden)
-    go (i ∷ l) some = short-of-tree s nodeBoxes nodeMarks order R eye point eye-in point-in (rw some (omega arith)) hidden
+    w : walkRows (ownHits s r) r nodeBoxes nodeMarks order ≡ Best b
+    w = intersect-walks s nodeBoxes nodeMarks order R r b e
+
+    go : (l : List ℕ) → drawn (s .marks) ≡ l → (b ≡ nothing) ⊎ (Member (b .entry) (drawn (s .marks)) × (ownHits s r (b .entry) ≡ At (b .hit)))
+    go [] none = inl (best-same (sym w ∙ walk-nothing s nodeBoxes nodeMarks order R none r))
+    go (i ∷ l) more =
+        let acc = accepted-scene s nodeBoxes nodeMarks order R in
+        let some : 0 < length (drawn (s .marks)) = rw more (omega arith) in
+        elim (visit-from (ownHits s r) r (sceneTree s) 0 nothing b (sym (walk-tree s nodeBoxes nodeMarks order R some r) ∙ w)) [
+          | inl z ↦ inl z
+          | inr z ↦ inr (below-built (λ (j : ℕ). shapeBox (solidOf (s .numbers) (s .marks) j)) (sceneTree s) (drawn (s .marks)) (scene-tree s (acc .0) (acc .1) some .built) (b .entry) (z .0), z .1)
+        ]
 
 -- The same solid in two scenes covers the same points, whatever its index: entry i of s, with 16 numbers an entry, and entry j of an accepted s′.
 pub covers-alike : (s s′ : Scene) (i j : ℕ) → SameSolid (s .numbers) (s .marks) (s′ .numbers) (s′ .marks) i j → entriesOf s * 16 ≤ length (s .numbers) → (n : ℕ) → checkOf s′ ≡ Accepted n

@@ -29,7 +29,7 @@ use Rattle.theorem_solids.specs.Same.{SameSolid}
 use Rattle.theorem_hiding.specs.Covers.{NoMinusZero}
 use Rattle.theorem_covering.specs.Scenes.{CoversPoint, BuiltRows}
 use Rattle.theorem_covering.proofs.Rows.{accepted-scene}
-use Rattle.theorem_covering.proofs.Covering.{covered-point-hidden, hidden-point-short, covers-alike}
+use Rattle.theorem_covering.proofs.Covering.{covered-point-hidden, hidden-point-short, hidden-point-named, covers-alike}
 use Rattle.paths.specs.Paths.{Paths, pathsOf}
 use Rattle.paths.specs.Ends.{allPoints}
 use Rattle.path_simplify.proofs.Calls.{call-ends}
@@ -38,9 +38,9 @@ use Rattle.theorem_filters.specs.Passing.{LeftAfterClipping}
 use Rattle.draw_render.specs.Render.{Places}
 use Rattle.draw.specs.Drawing.{solidIn, seenIn, Drawing}
 use Rattle.theorem_draws.specs.Sheets.{Put, PassedIn, HiddenIn}
-use Rattle.theorem_draws.proofs.Seeing.{visible-is-seen}
+use Rattle.theorem_draws.proofs.Seeing.{visible-is-seen, occluder-is-named}
 use Rattle.theorem_draws.proofs.Sheets.{call-drawn, build-answered, step-four-leaves, step-four, step-four-asks-visible, covered-point-dropped, dropped-point-short, each-point, simplified-so, unsimplified-so, sheet-paths}
-use Rattle.theorem_demand3.specs.Demand3.{EyeTest, PremiseOn, SomeShort, Asked, Demand3}
+use Rattle.theorem_demand3.specs.Demand3.{EyeTest, PremiseOn, SomeShort, NamedShort, Asked, Demand3}
 use Rattle.theorem_demand3.proofs.Answers.{rows-left, yes-or-no}
 use Rattle.theorem_demand3.proofs.Chains.{all-in-words, with-points}
 use Rattle.theorem_demand3.proofs.Traces.{on-sheet}
@@ -86,6 +86,19 @@ by-a-solid : (s : Scene) (eye point : Vector) → EyeTest s eye point Hidden →
 by-a-solid s eye point E =
     hidden-point-short eye point (within-point eye (fair E .0)) (within-point point (fair E .1)) s (E .nodeBoxes) (E .nodeMarks) (E .order) (E .built) (sym (E .asked))
 
+-- ---- and the one named does
+by-name : (s : Scene) (eye point : Vector) → EyeTest s eye point Hidden → NamedShort s eye point
+by-name s eye point E =
+    let z = hidden-point-named eye point (within-point eye (fair E .0)) (within-point point (fair E .1)) s (E .nodeBoxes) (E .nodeMarks) (E .order) (E .built) (sym (E .asked)) in
+    let e = sym (occluder-is-named s (E .nodeBoxes) (E .nodeMarks) (E .order) (E .built) eye point (fair E .0) (fair E .1)) ∙ z .1 in
+    record {
+      entry = z .0;
+      named = e;
+      on-all-rows = λ nodeBoxes nodeMarks order R. occluder-is-named s nodeBoxes nodeMarks order R eye point (fair E .0) (fair E .1) ∙ e;
+      is-drawn = z .2;
+      short = z .3;
+    }
+
 -- ---- the eye test, alone and in a draw
 one-sight : (s : Scene) (eye point : Vector) (a b : Sight) → EyeTest s eye point a → EyeTest s eye point b → a ≡ b
 one-sight s eye point a b E F =
@@ -111,6 +124,11 @@ module _ {t : Float} {s : Scene} {v : View} {w : Places} {q : Paths} (D : Drawin
         passed-if-yes = f .0;
         dropped-if-no = f .1;
       }
+
+dropped-named : {t : Float} {s : Scene} {v : View} {w : Places} {q : Paths} (D : Drawing t s v w q) (point : Vector) → Put D point → HiddenIn s v point → NamedShort s (v .eye) point
+dropped-named {s = s} {v = v} D point put d =
+    let A = asked-in-draw D point put (d .left) in
+    by-name s (v .eye) point (subst (EyeTest s (v .eye) point) (A .dropped-if-no .0 d) (A .test))
 
 -- ---- the public build
 built-so : (s : Scene) (boxes₀ : List Float) (marks₀ order₀ : List ℕ) (r : Built) (nodeBoxes : List Float) (nodeMarks order : List ℕ) (n : ℕ) → r ≡ Nodes n
@@ -141,10 +159,12 @@ demand-3 = record {
   );
   hidden-by-a-solid = by-a-solid;
   dropped-by-a-solid = λ s v D point put hidden. dropped-point-short D point put hidden;
+  hidden-names = by-name;
+  dropped-names = λ s v D point put hidden. dropped-named D point put hidden;
   one-answer = one-sight;
   builds = λ s v D. build-answered D;
   step-four = λ s v D point put left. asked-in-draw D point put left;
-  each = λ s v D point put. each-point D point put;
+  no-fourth-way = λ s v D point put. each-point D point put;
   leaves = λ s v D. step-four-leaves D;
   simplified-alone = λ xs ss t room startRoom n m ys us r i j e f. all-in-words t _ _ (with-points (pathsOf (allPoints xs) ss)) (call-ends xs ss t room startRoom n m f .1 i j e);
   simplified-in-a-draw = λ t s v D h. all-in-words t _ _ (with-points (pathsOf (D .passed .vertices) (D .passed .starts))) (simplified-so D h);

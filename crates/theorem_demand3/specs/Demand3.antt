@@ -7,6 +7,7 @@
 --   SameSolid             theorem_solids/specs/Same.antt: kinds, used marks (part indices aside) and used numbers agree throughout
 --   drawn, Draws          check_parts/specs/Drawn.antt, theorem_covering/specs/Scenes.antt: the entries that nobody names; the solid is that of one of them
 --   buildOf, visibleOf    query_scene/specs/Queries.antt: what the public build answers of a scene; the public eye test
+--   hides, occluderOf     query_scene/specs/Queries.antt: the eye test with the name that its hit carries, and the public call
 --   BuiltRows             theorem_covering/specs/Scenes.antt: the rows that the public build leaves of a scene
 --   Drawing, seenIn       draw/specs/Drawing.antt: the six steps of an answered draw; the eye test that its step 4 puts, on the tree of the scene
 --   Put, ClippedIn        theorem_draws/specs/Sheets.antt: the point is put to step 4; step 4 clips it away
@@ -37,7 +38,8 @@ use Rattle.tree_sight.specs.declared.Sight.{Sight}
 use Rattle.tree_sight.specs.declared.Sight.the-variants.{Visible, Hidden}
 use Rattle.query_scene.specs.declared.Built.{Built}
 use Rattle.query_scene.specs.declared.Built.the-variants.{Nodes}
-use Rattle.query_scene.specs.Queries.{TreeBuilt, buildOf, visibleOf}
+use Rattle.query_scene.specs.declared.NamedSight.the-variants.{Hidden as HiddenBy}
+use Rattle.query_scene.specs.Queries.{TreeBuilt, buildOf, visibleOf, hides, occluderOf}
 use Rattle.theorem_solids.specs.Same.{SameSolid}
 use Rattle.theorem_hiding.specs.Covers.{NoMinusZero}
 use Rattle.theorem_covering.specs.Scenes.{CoversPoint, Short, Draws, BuiltRows}
@@ -52,9 +54,9 @@ use Rattle.view.specs.declared.View.{View}
 use Rattle.draw_clip.specs.Clip.{clipFilter}
 use Rattle.theorem_filters.specs.Kept.{keptOf}
 use Rattle.theorem_filters.specs.Passing.{Exactly, LeftAfterClipping}
-use Rattle.draw_render.specs.Render.{Places, stepping}
+use Rattle.draw_render.specs.Render.{Places, stepping, nearestOf}
 use Rattle.draw.specs.Draw.{drawWith}
-use Rattle.draw.specs.Drawing.{solidIn, seenIn, Drawing}
+use Rattle.draw.specs.Drawing.{solidIn, boxIn, seenIn, Drawing}
 use Rattle.theorem_draws.specs.Sheets.{Put, ClippedIn, PassedIn, HiddenIn}
 
 -- ---- hiding
@@ -81,6 +83,15 @@ pub record HiddenFrom (s : Scene) (eye point : Vector) : Type 0 where
 -- "some solid's own returned distance falls short": of a solid that the scene draws
 abbrev pub SomeShort : Scene → Vector → Vector → Type 0
 SomeShort s eye point = (solid : Shape) × Draws s solid × Short solid eye point
+
+-- Request (i)'s "solid named": the entry that the eye test's hit carries, in the walk that a draw's step 4 takes, and as the public occluder answers on all rows that the public build
+-- leaves. The scene draws it, and its own returned distance falls short.
+pub record NamedShort (s : Scene) (eye point : Vector) : Type 0 where
+  pub entry : ℕ
+  pub named : hides (nearestOf (solidIn s) (boxIn s) (drawn (s .marks))) eye point ≡ HiddenBy entry
+  pub on-all-rows : (nodeBoxes : List Float) (nodeMarks order : List ℕ) → BuiltRows s nodeBoxes nodeMarks order → occluderOf s nodeBoxes nodeMarks order eye point ≡ HiddenBy entry
+  pub is-drawn : Member entry (drawn (s .marks))
+  pub short : Short (solidIn s entry) eye point
 
 -- A draw's step 4 puts that question: its answer is the public visible's, on all rows that the public build leaves; the point is passed exactly if it is yes, and dropped as
 -- hidden exactly if it is no.
@@ -145,13 +156,16 @@ pub record Demand3 : Type 0 where
   -- No point is hidden, or dropped as hidden, unless some solid's own returned distance falls short.
   pub hidden-by-a-solid : (s : Scene) (eye point : Vector) → EyeTest s eye point Hidden → SomeShort s eye point
   pub dropped-by-a-solid : {t : Float} (s : Scene) (v : View) {w : Places} {q : Paths} (D : Drawing t s v w q) (point : Vector) → Put D point → HiddenIn s v point → SomeShort s (v .eye) point
+  -- Request (i): whenever a point is hidden, or dropped as hidden, the solid named is one whose own returned distance falls short.
+  pub hidden-names : (s : Scene) (eye point : Vector) → EyeTest s eye point Hidden → NamedShort s eye point
+  pub dropped-names : {t : Float} (s : Scene) (v : View) {w : Places} {q : Paths} (D : Drawing t s v w q) (point : Vector) → Put D point → HiddenIn s v point → NamedShort s (v .eye) point
   -- The eye test has one answer, whatever the lengths of the slices. Where a draw is answered the public build is answered too, with as many places, and step 4 puts that
   -- question for each point left after clipping. Each point put to step 4 is clipped away, or passed, or dropped as hidden: there is no fourth way. Step 4 leaves the points that
   -- it passes, as they are projected, in order.
   pub one-answer : (s : Scene) (eye point : Vector) (a b : Sight) → EyeTest s eye point a → EyeTest s eye point b → a ≡ b
   pub builds : {t : Float} (s : Scene) (v : View) {w : Places} {q : Paths} (D : Drawing t s v w q) → buildOf s (w .nodes) (w .order) ≡ Nodes (D .nodes)
   pub step-four : {t : Float} (s : Scene) (v : View) {w : Places} {q : Paths} (D : Drawing t s v w q) (point : Vector) → Put D point → LeftAfterClipping (v .matrix) point → Asked s v point
-  pub each : {t : Float} (s : Scene) (v : View) {w : Places} {q : Paths} (D : Drawing t s v w q) (point : Vector) → Put D point → ClippedIn s v point ⊎ (PassedIn s v point ⊎ HiddenIn s v point)
+  pub no-fourth-way : {t : Float} (s : Scene) (v : View) {w : Places} {q : Paths} (D : Drawing t s v w q) (point : Vector) → Put D point → ClippedIn s v point ⊎ (PassedIn s v point ⊎ HiddenIn s v point)
   pub leaves : {t : Float} (s : Scene) (v : View) {w : Places} {q : Paths} (D : Drawing t s v w q)
       → D .passed .vertices ≡ keptOf (clipFilter (v .matrix) (seenIn s (v .eye))) (pathsOf (D .lines .vertices) (D .lines .starts))
   -- A simplified path, whatever its threshold: in the public call simplify, of the slices that it leaves; and in a draw with step > 0, from what step 4 leaves to what step 6 maps.

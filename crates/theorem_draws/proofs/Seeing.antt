@@ -25,9 +25,10 @@ use Rattle.tree_walk.specs.declared.Found.the-variants.{Best}
 use Rattle.tree_sight.specs.Sights.{eyeRay, sees}
 use Rattle.tree_sight.proofs.Answers.{sees-same}
 use Rattle.theorem_hiding.specs.Covers.{seesPast}
-use Rattle.query_scene.specs.Queries.{boxesLeft, sceneTree, plantedOf, builtAfter, buildOf, ownHits, seenAfter, visibleOf}
+use Rattle.query_scene.specs.Queries.{boxesLeft, sceneTree, plantedOf, builtAfter, buildOf, ownHits, seenAfter, visibleOf, hides, namedAfter, occluderOf}
+use Rattle.query_scene.proofs.Names.{hides-same}
 use Rattle.theorem_covering.specs.Scenes.{BuiltRows}
-use Rattle.theorem_covering.proofs.Rows.{accepted-scene, sees-tree, sees-nothing}
+use Rattle.theorem_covering.proofs.Rows.{accepted-scene, walk-tree, walk-nothing, sees-tree, sees-nothing}
 use Rattle.draw_render.specs.Render.{nearestOf}
 use Rattle.draw.proofs.Bridge.{planted-alike, own-boxes}
 use Rattle.draw.specs.Drawing.{solidIn, boxIn, seenIn}
@@ -58,11 +59,11 @@ module _ (s : Scene) (n : ℕ) (is : checkOf s ≡ Accepted n) where
   unfolding buildOf builtAfter
   build-alike places room = rw is (sym (planted-alike (boxIn s) (boxAt (boxesLeft s)) (drawn (s .marks)) boxes-agree places room))
 
+  pub nearest-tree : 0 < length (drawn (s .marks)) → (r : Ray) → nearestOf (solidIn s) (boxIn s) (drawn (s .marks)) r ≡ visit (λ (k : ℕ). shapeHit (solidIn s k) r) r (sceneTree s) 0 nothing
+  nearest-tree some r = nearest-some (solidIn s) (boxIn s) (drawn (s .marks)) r some ∙ ap (λ (t : Tree ℕ). visit (λ (k : ℕ). shapeHit (solidIn s k) r) r t 0 nothing) own-tree
+
   pub seen-tree : 0 < length (drawn (s .marks)) → (eye point : Vector) → seenIn s eye point ≡ seesPast shapeHit (solidIn s) (sceneTree s) eye point
-  seen-tree some eye point =
-      let r = eyeRay eye point in
-      sees-same _ _ eye point
-      (nearest-some (solidIn s) (boxIn s) (drawn (s .marks)) r some ∙ ap (λ (t : Tree ℕ). visit (λ (k : ℕ). shapeHit (solidIn s k) r) r t 0 nothing) own-tree)
+  seen-tree some eye point = sees-same _ _ eye point (nearest-tree some (eyeRay eye point))
 
 -- What a draw's step 4 asks is what the public call `visible` answers on the rows that the public `build` leaves of the scene, where eye and point pass 8 and 9.
 pub visible-is-seen : (s : Scene) (nodeBoxes : List Float) (nodeMarks order : List ℕ) → BuiltRows s nodeBoxes nodeMarks order → (eye point : Vector) → withinPoint eye ≡ true → withinPoint point ≡ true
@@ -81,3 +82,22 @@ visible-is-seen s nodeBoxes nodeMarks order R eye point ea eb = go (drawn (s .ma
     go (i ∷ l) some =
         let h : 0 < length (drawn (s .marks)) = rw some (omega arith) in
         asked ∙ sees-tree s nodeBoxes nodeMarks order R h eye point ∙ sym (seen-tree s (acc .0) (acc .1) h eye point)
+
+-- The same with the name: the public call `occluder` names whom the walk of a draw's step 4 names.
+pub occluder-is-named : (s : Scene) (nodeBoxes : List Float) (nodeMarks order : List ℕ) → BuiltRows s nodeBoxes nodeMarks order → (eye point : Vector) → withinPoint eye ≡ true → withinPoint point ≡ true
+    → occluderOf s nodeBoxes nodeMarks order eye point ≡ hides (nearestOf (solidIn s) (boxIn s) (drawn (s .marks))) eye point
+unfolding occluderOf namedAfter
+occluder-is-named s nodeBoxes nodeMarks order R eye point ea eb = asked ∙ hides-same _ _ eye point (go (drawn (s .marks)) refl)
+  where
+    acc : (n : ℕ) × (checkOf s ≡ Accepted n)
+    acc = accepted-scene s nodeBoxes nodeMarks order R
+
+    asked : occluderOf s nodeBoxes nodeMarks order eye point ≡ hides (λ (r : Ray). walkRows (ownHits s r) r nodeBoxes nodeMarks order) eye point
+    asked = rw (acc .1, ea, eb)
+
+    go : (l : List ℕ) → drawn (s .marks) ≡ l
+        → walkRows (ownHits s (eyeRay eye point)) (eyeRay eye point) nodeBoxes nodeMarks order ≡ nearestOf (solidIn s) (boxIn s) (drawn (s .marks)) (eyeRay eye point)
+    go [] none = walk-nothing s nodeBoxes nodeMarks order R none (eyeRay eye point) ∙ sym (nearest-none (solidIn s) (boxIn s) (drawn (s .marks)) (eyeRay eye point) none)
+    go (i ∷ l) some =
+        let h : 0 < length (drawn (s .marks)) = rw some (omega arith) in
+        walk-tree s nodeBoxes nodeMarks order R h (eyeRay eye point) ∙ sym (nearest-tree s (acc .0) (acc .1) h (eyeRay eye point))

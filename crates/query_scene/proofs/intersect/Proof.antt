@@ -22,16 +22,15 @@ returns-2 c =
 
 returns-3 : tie.Need-returns-3
 returns-3 c =
-    let at1 = c .before in let intersect = at1 .intersect in
-    let at3 = at1 .before .before in let if1 = at3 .if1 in
-    let at4 = at3 .before in let within-ray = at4 .within-ray in
-    let at5 = at4 .before in let enum-told = at5 .enum-told in
-    let at10 = at5 .before .before .before .before .before in let check = at10 .check in
-    intersect-is _ _ (sym (check .ensures .verdict) ∙ enum-told .given .1) _ _ (left-is zeroF _ (enum-told .given .1) _ _ (check .ensures .inverses-are)) _ _ _ _ (within-ray .ensures) (not-false _ (if1 .left)) (intersect .ensures) (c .struck .ensures)
+    let at2 = c .before .before in let if1 = at2 .if1 in
+    let at3 = at2 .before in let within-ray = at3 .within-ray in
+    let at4 = at3 .before in let enum-told = at4 .enum-told in
+    let at9 = at4 .before .before .before .before .before in let check = at9 .check in
+    intersect-is _ _ (sym (check .ensures .verdict) ∙ enum-told .given .1) _ _ (left-is zeroF _ (enum-told .given .1) _ _ (check .ensures .inverses-are)) _ _ _ _ (within-ray .ensures) (not-false _ (if1 .left)) (c .intersect .ensures)
 
 pub intersect-spec : {M : Type 1} → statement M
 intersect-spec =
     tie.close
     (tie.spec
     (λ c. search needs) (λ c. search needs) (λ c. search needs) (λ c κs. search needs) (λ c. search needs) (λ c. search needs) (λ c κs. search needs)
-    returns (λ c. search needs) (λ c κs. search needs) (λ c κs. search needs) returns-2 returns-3)
+    returns (λ c. search needs) (λ c κs. search needs) returns-2 returns-3)

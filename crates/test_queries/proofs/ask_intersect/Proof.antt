@@ -1,5 +1,5 @@
-use Rattle.test_queries.specs.Questions.{differStruck}
-use Rattle.scene_shape.specs.declared.Struck.{Struck}
+use Rattle.test_queries.specs.Questions.{differFound}
+use Rattle.tree_walk.specs.declared.Found.{Found}
 use mathlib.Core.Path.{ap, _∙_}
 use borrow.Author.Needs.{needs}
 use Rattle.test_queries.proofs.ask_intersect.Statement.{statement}
@@ -9,7 +9,7 @@ returns : tie.Need-returns
 returns c =
     let at1 = c .before in let intersect = at1 .intersect in
     let at10 = at1 .before .before .before .before .before .before .before .before .before in let args = at10 .args in
-    (c .differ-struck .ensures .0 ∙ ap (λ (x : Struck). differStruck x (args .expected)) (intersect .ensures), c .differ-struck .ensures .1)
+    (c .differ-found .ensures .0 ∙ ap (λ (x : Found). differFound x (args .expected)) (intersect .ensures), c .differ-found .ensures .1)
 
 pub ask-intersect-spec : {M : Type 1} → statement M
 ask-intersect-spec =

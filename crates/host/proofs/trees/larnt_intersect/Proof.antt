@@ -1,18 +1,19 @@
-use Rattle.host.proofs.TreeCalls.{struck-so}
+use Rattle.host.proofs.TreeCalls.{intersect-so, best-told, refused-told}
+use lib.Ieee.{ofBits}
 use borrow.Author.Needs.{needs}
 use Rattle.host.proofs.trees.larnt_intersect.Statement.{statement}
 use Rattle.host.proofs.trees.larnt_intersect.Tie as tie
 
 returns : tie.Need-returns
 returns c =
-    let at1 = c .before in let met = at1 .met in
-    let at2 = at1 .before in let distance = at2 .distance in
-    let at3 = at2 .before in let intersect = at3 .intersect in
-    let at4 = at3 .before in let ray-from = at4 .ray-from in
-    struck-so _ _ _ _ (intersect .ensures) (ray-from .ensures)
-    (c .struck-number .ensures)
-    (distance .ensures)
-    (met .ensures)
+    let w = c .before .before .before in
+    best-told (intersect-so _ _ _ _ (w .intersect .ensures) (w .before .ray-from .ensures)) (c .before .f .given .1)
+
+returns-2 : tie.Need-returns-2
+unfolding ofBits
+returns-2 c =
+    let w = c .before .before .before .before in
+    refused-told (intersect-so _ _ _ _ (w .intersect .ensures) (w .before .ray-from .ensures)) (c .before .before .f2 .given .1) (c .number .ensures)
 
 pub larnt-intersect-spec : {M : Type 1} → statement M
-larnt-intersect-spec = tie.close (tie.spec (λ c κs. search needs) (λ c κs. search needs) (λ c κs. search needs) (λ c κs. search needs) (λ c κs. search needs) returns)
+larnt-intersect-spec = tie.close (tie.spec (λ c κs. search needs) (λ c κs. search needs) (λ c. search needs) (λ c. search needs) (λ c κs. search needs) returns returns-2)
