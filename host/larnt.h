@@ -47,8 +47,9 @@ uint32_t larnt_solid_contains(uint32_t kind, const double numbers[16], const dou
 
 /* A scene: five slices, each a pointer and a count of elements. An entry has 16 numbers and 4 marks
    (kind, detail, first part, second part); kinds 1 to 5 as above, 6 a placed part (matrix by rows),
-   7 a cut (detail 0 intersection, 1 difference). Three numbers a point; a path has a start, in points,
-   and an owner, an entry of kinds 1 to 3. */
+   7 a cut (detail 0 intersection, 1 difference, which answer the t of the last ray as the Rust does; 2 and
+   3 the same with the true distance, from a ray's first origin). Three numbers a point; a path has a start,
+   in points, and an owner, an entry of kinds 1 to 3. */
 #define LARNT_SCENE \
     const double *numbers, size_t numbers_count, const uint32_t *marks, size_t marks_count, \
     const double *points, size_t points_count, const size_t *starts, size_t starts_count, \

@@ -418,7 +418,8 @@ fn restarts(rng: &mut Rng) -> (Scene, View) {
     let tiny = scene.push([1, 0, 0, 0], &[0.0, 0.0, 0.0, 1.0]);
     let by = rng.pick(&[1e-11, 1.1e-11, 0.8e-11, 0.7e-11]);
     let b = scene.push([6, 0, tiny, 0], &stretched([by; 3]));
-    scene.push([7, 1, a, b], &[]);
+    let operation = rng.pick(&[1, 3]);
+    scene.push([7, operation, a, b], &[]);
     let far = rng.between(0.5, 2.0);
     let below = scene.push([5, 0, 0, 0], &[0.2, 0.2, -far, 0.4, 0.2, -far, 0.2, 0.4, -far]);
     if rng.chance(20) {
@@ -635,14 +636,15 @@ impl Yard<'_> {
         } else {
             b
         };
-        let operation = self.rng.pick(&[1, 1, 1, 0]);
+        let operation = self.rng.pick(&[1, 1, 1, 0, 2, 3]);
         let cut = self.scene.push([7, operation, a, b], &[]);
         if !self.rng.chance(20) {
             return cut;
         }
         let more = self.block([0.0; 3], 1);
         let pair = if self.rng.chance(50) { [cut, more] } else { [more, cut] };
-        self.scene.push([7, 1, pair[0], pair[1]], &[])
+        let operation = self.rng.pick(&[1, 3]);
+        self.scene.push([7, operation, pair[0], pair[1]], &[])
     }
 }
 

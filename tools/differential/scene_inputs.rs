@@ -76,6 +76,35 @@ pub fn hit(rng: &mut Rng) -> Case {
     case
 }
 
+/// A cut with cuts in it, by all four operations and with placings between, and a ray aimed at it.
+pub fn hit_through_cuts(rng: &mut Rng) -> Case {
+    loop {
+        let mut yard = Yard::new(rng);
+        yard.operations = &[0, 1, 1, 2, 3, 3, 3];
+        let about =
+            if yard.rng.chance(50) { [0.0; 3] } else { inputs::place(yard.rng, yard.grain) };
+        let (depth, cuts) = (2 + yard.rng.below(4), 1 + yard.rng.below(2));
+        let plan = Plan { depth, cuts, in_cut: true, placed_in_cuts: true, about };
+        let (a, b) = (yard.solid(plan), yard.solid(plan));
+        let mut top = yard.cut(a, b);
+        if yard.rng.chance(30) {
+            let m = yard.placing(false, about);
+            top = yard.scene.push([6, 0, top, 0], &m);
+        }
+        let Yard { scene, grain, rng, .. } = yard;
+        let cuts = scene.marks.chunks_exact(4).filter(|marks| marks[0] == 7).count();
+        if cuts < 2 || !has_true_cut(&scene) || oracle::check(&scene).is_err() {
+            continue;
+        }
+        let i = top as usize;
+        let ray = inputs::ray_to(rng, grain, &|rng| spot(rng, grain, &scene, i));
+        // most would miss
+        if oracle::own_hit(&scene, i, ray).is_ok_and(|hit| hit.ok) || rng.chance(20) {
+            return Case { scene, i, asked: ray.to_vec() };
+        }
+    }
+}
+
 /// An entry of a scene, a point by its surface, and a widening.
 pub fn contains(rng: &mut Rng) -> Case {
     let (mut case, grain) = aimed_at(rng);
@@ -85,12 +114,20 @@ pub fn contains(rng: &mut Rng) -> Case {
     case
 }
 
-// For timing: accepted scenes.
+/// Whether a cut of the scene is by operation 2 or 3, which the Rust does not have.
+pub fn has_true_cut(scene: &Scene) -> bool {
+    scene.marks.chunks_exact(4).any(|marks| marks[0] == 7 && marks[1] > 1)
+}
+
+// For timing: accepted scenes that the Rust has too.
 
 /// An entry of a scene of a few solids, and a ray aimed at it.
 pub fn ordinary(rng: &mut Rng) -> Case {
     loop {
         let (mut case, grain) = aimed_at(rng);
+        if has_true_cut(&case.scene) {
+            continue;
+        }
         let ray = inputs::ray_to(rng, grain, &|rng| spot(rng, grain, &case.scene, case.i));
         if oracle::own_hit(&case.scene, case.i, ray).is_ok() {
             case.asked = ray.to_vec();
@@ -103,6 +140,7 @@ pub fn ordinary(rng: &mut Rng) -> Case {
 pub fn full(rng: &mut Rng) -> Case {
     loop {
         let mut yard = Yard::new(rng);
+        yard.operations = RUST_OWN;
         while yard.scene.entries() < 1000 {
             let about = inputs::place(yard.rng, yard.grain);
             yard.cut_of_leaves(about);
@@ -127,7 +165,8 @@ fn many_restarts(rng: &mut Rng) -> Case {
     let (a, tiny) = (yard.leaf(about), yard.leaf([0.0; 3]));
     let by = yard.rng.pick(&[1e-11, 1.1e-11, 0.8e-11]);
     let b = yard.scene.push([6, 0, tiny, 0], &stretched([by; 3]));
-    yard.scene.push([7, 1, a, b], &[]);
+    let operation = yard.rng.pick(&[1, 3]);
+    yard.scene.push([7, operation, a, b], &[]);
     let Yard { scene, grain, rng, .. } = yard;
     let aim = spot(rng, grain, &scene, a as usize);
     let origin = inputs::along(aim.point, aim.normal, rng.between(0.0, 2.0));
@@ -224,16 +263,21 @@ struct Plan {
     about: Point,
 }
 
+const RUST_OWN: &[u32] = &[0, 1];
+const ALL: &[u32] = &[0, 1, 2, 3];
+
 struct Yard<'a> {
     rng: &'a mut Rng,
     grain: Grain,
     scene: Scene,
+    /// What its cuts are picked from: the Rust's own operations, or all.
+    operations: &'static [u32],
 }
 
 impl Yard<'_> {
     fn new(rng: &mut Rng) -> Yard<'_> {
-        let grain = inputs::grain(rng);
-        Yard { rng, grain, scene: Scene::default() }
+        let (grain, operations) = (inputs::grain(rng), rng.pick(&[RUST_OWN, ALL]));
+        Yard { rng, grain, scene: Scene::default(), operations }
     }
 
     // Making.
@@ -309,7 +353,7 @@ impl Yard<'_> {
     }
 
     fn cut(&mut self, a: u32, b: u32) -> u32 {
-        let operation = self.rng.below(2) as u32;
+        let operation = self.rng.pick(self.operations);
         self.scene.push([7, operation, a, b], &[])
     }
 
@@ -496,7 +540,7 @@ impl Yard<'_> {
         let (kind, wrong) = (self.scene.marks[4 * i], self.any_mark());
         let (k, mark) = match (kind, self.rng.below(3)) {
             (4, 1..) => (1, self.rng.pick(&[0, 1, 1000, 1001, wrong])),
-            (7, 1..) => (1, self.rng.pick(&[0, 1, 2, 3, wrong])),
+            (7, 1..) => (1, self.rng.pick(&[0, 1, 2, 3, 4, wrong])),
             _ => (0, self.rng.pick(&[0, 8, 9, 1 << 16 | kind, 1 << 31 | kind, wrong])),
         };
         self.scene.marks[4 * i + k] = mark;

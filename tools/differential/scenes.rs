@@ -3,7 +3,7 @@
 use crate::core::{CORE_SCENES, HOST_SCENES};
 use crate::harness::{Run, Share, time};
 use crate::scene_calls::{self, Found, RUST, SceneCalls, Words};
-use crate::scene_inputs::{self, Case};
+use crate::scene_inputs::{self, Case, has_true_cut};
 use oracle::check::parts;
 use oracle::generate::Rng;
 use std::cell::RefCell;
@@ -40,8 +40,18 @@ pub fn compare(run: &mut Run) {
         ("placed", &|case, _| kind(case) == 6),
         ("cut", &|case, _| kind(case) == 7),
         ("of parts with parts", &|case, _| nested(case)),
+        ("operations 0 and 1 alone", &|case, _| !has_true_cut(&case.scene)),
     ];
     line(run, "own_hit", run.count, scene_inputs::hit, hit, shares);
+    let shares: &Sharing = &[
+        ("hit", &|_, a| a.0[0] == 0 && a.0[2] == 1),
+        ("missed", &|_, a| a.0[0] == 0 && a.0[2] == 0),
+        ("11", &|_, a| a.0[0] == 11),
+        ("a hit other than by 0 and 1", &|case, a| {
+            a.0[0] == 0 && a.0[2] == 1 && hit(&RUST, &as_the_rust(case)) != *a
+        }),
+    ];
+    line(run, "true_hit", run.count, scene_inputs::hit_through_cuts, hit, shares);
     let contains = |calls: &SceneCalls, case: &Case| {
         let p: &[f64; 3] = case.asked[..3].try_into().unwrap();
         scene_calls::own_contains(calls, &case.scene, case.i, p, case.asked[3])
@@ -84,6 +94,17 @@ fn kind(case: &Case) -> u32 {
 
 fn nested(case: &Case) -> bool {
     parts(marks(case, case.i)).iter().any(|part| marks(case, *part as usize)[0] >= 6)
+}
+
+/// The same with 0 for operation 2, and 1 for 3.
+fn as_the_rust(case: &Case) -> Case {
+    let mut scene = case.scene.clone();
+    for marks in scene.marks.chunks_exact_mut(4) {
+        if marks[0] == 7 && marks[1] < 4 {
+            marks[1] %= 2;
+        }
+    }
+    Case { scene, i: case.i, asked: case.asked.clone() }
 }
 
 /// Ordinary scenes of a few solids, and full ones; the hits are those of a few solids.

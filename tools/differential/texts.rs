@@ -157,6 +157,8 @@ fn small(rng: &mut Rng) -> Vec<u8> {
             b"(cut 0 (sphere 0 0 0 1) (cone 1 1))",
             b"(cube 1001 0 0 0 1 1 1)",
             b"(cut 2 (cone 1 1) (cone 1 1))",
+            b"(cut 3 (cube 1 -1 -1 -1 1 1 1) (cube 1 0 0 0 2 2 2))",
+            b"(cut 4 (cone 1 1) (cone 1 1))",
             b"(sphere 1000000 0 0 -0)",
             b"(sphere 0 0 0 -1)",
             b"(cone 1 0)",

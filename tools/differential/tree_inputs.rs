@@ -375,7 +375,7 @@ fn any_kind(rng: &mut Rng, scene: &mut Scene, (at, half): Stand) {
         _ => {
             let a = cube(scene, minus(at, half), plus(at, half));
             let b = cube(scene, at, plus(at, half.map(|x| 2.0 * x)));
-            let operation = rng.below(2) as u32;
+            let operation = rng.below(4) as u32;
             scene.push([7, operation, a, b], &[]);
         }
     }

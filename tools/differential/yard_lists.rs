@@ -68,7 +68,7 @@ impl List {
     }
 }
 
-const FORMS: [&str; 23] = [
+const FORMS: [&str; 25] = [
     "(triangle 0 0 0 #3FE0000000000000 0 0 0 #3fe0000000000000 0)",
     "(sphere 0 0 0 1)",
     "(sphere 0 0 0 1 (line 1 0 0 0 1 0 -1 0 0) (line))",
@@ -80,10 +80,12 @@ const FORMS: [&str; 23] = [
     "(cut 1 (cube 1 -1 -1 -1 1 1 1) (cube 1 0 0 0 2 2 2))",
     "(cut 0 (cube 1 -1 -1 -1 1 1 1) (sphere 0 0 0 1 (line 1 0 0 0 1 0)))",
     "(cut 1 (cut 0 (cube 1 0 0 0 1 1 1) (sphere 0 0 0 1)) (cylinder 1 -1 1))",
+    "(cut 3 (cube 1 -1 -1 -1 1 1 1) (cube 1 0 0 0 2 2 2))",
+    "(cut 2 (cut 3 (cube 1 0 0 0 1 1 1) (sphere 0 0 0 1)) (cylinder 1 -1 1))",
     // 3
     "(cube 0 0 0 0 1 1 1)",
     "(cube 1001 0 0 0 1 1 1)",
-    "(cut 2 (cone 1 1) (cone 1 1))",
+    "(cut 4 (cone 1 1) (cone 1 1))",
     // 5
     "(sphere 0 0 0 -1)",
     "(cone 1 0)",
@@ -174,8 +176,10 @@ fn restarts_and_places(list: &mut List) {
     let point = "(sphere 0 -50 0 0 (line 0 5 0))\n";
     for (x, answer) in [(64_500, "(drawing 0)\n"), (65_500, "(refused 11)\n")] {
         let block = format!("(cube 1 {x} -10 -10 {} 10 10)", x + 100);
-        list.add(format!("{view}(cut 1 {block} {shrunk})\n{point}"));
-        assert_eq!(list.records.last().expect("a text").1, answer);
+        for operation in [1, 3] {
+            list.add(format!("{view}(cut {operation} {block} {shrunk})\n{point}"));
+            assert_eq!(list.records.last().expect("a text").1, answer);
+        }
     }
     // boxes in boxes, each a tenth of the one around it: the tree has a split for each but a few
     let mut before = String::new();

@@ -11,6 +11,6 @@ isKind kind = leb 1 kind && leb kind 7
 unfoldable pub isStripes : ℕ → Bool
 isStripes count = leb 1 count && leb count 1000
 
--- a cube's detail is its stripes, a cut's is its operation, 0 or 1; another kind has none
+-- a cube's detail is its stripes, a cut's is its operation, 0 to 3; another kind has none
 unfoldable pub known : Marks → Bool
-known m = cond (eqb (m .kind) 4) (isStripes (m .detail)) (cond (eqb (m .kind) 7) (leb (m .detail) 1) (isKind (m .kind)))
+known m = cond (eqb (m .kind) 4) (isStripes (m .detail)) (cond (eqb (m .kind) 7) (leb (m .detail) 3) (isKind (m .kind)))

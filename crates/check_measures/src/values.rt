@@ -32,7 +32,7 @@ fn known(m: Marks) -> bool
         return is_stripes(m.detail);
     }
     if m.kind == 7 {
-        return m.detail <= 1;
+        return m.detail <= 3;
     }
     is_kind(m.kind)
 }

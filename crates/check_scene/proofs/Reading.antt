@@ -5,7 +5,7 @@ use mathlib.Core.List.{List}
 use mathlib.Core.Bool.{Bool, true, false, _&&_, cond}
 use native.Mathlib.Omega.{arith}
 use lib.ListN.{length, getD}
-use lib.Dec.{ltb, eqb}
+use lib.Dec.{ltb, leb, eqb}
 use lib.Ieee.{Float}
 use borrow.Author.Tests.{eqb-true, eqb-false, ne-eqb, lt-ltb, le-ltb, ltb-true, ltb-false}
 use Rattle.geometry.specs.declared.bounding_box.BBox.{BBox}
@@ -15,10 +15,9 @@ use Rattle.rows.specs.Entries.{numbersOf}
 use Rattle.rows.specs.declared.Marks.{Marks}
 use Rattle.rows.specs.declared.Numbers.{Numbers}
 use Rattle.rows.proofs.Rows.{getD-view}
-use Rattle.scene.specs.Entries.{simpleOf, simpleOr, cutOf, compositeOf, entryOf, matrixOf, matrixNumbers, marksAt, numbersAt, entryAt, ownEntry}
+use Rattle.scene.specs.Entries.{simpleOf, simpleOr, opOf, cutOf, compositeOf, entryOf, matrixOf, matrixNumbers, marksAt, numbersAt, entryAt, ownEntry}
 use Rattle.scene.specs.declared.entry.Simple.{Simple}
 use Rattle.scene.specs.declared.entry.Simple.the-variants.{Is, Other}
-use Rattle.scene.specs.declared.entry.Op.the-variants.{Intersection, Difference}
 use Rattle.scene.specs.declared.entry.Entry.{Entry}
 use Rattle.scene.specs.declared.entry.Entry.the-variants.{Simple as SimpleEntry, Placed, Cut, None}
 use Rattle.scene_shape.specs.Shapes.{Shape, read, shapeOf, shapeBox, solidOf}
@@ -67,15 +66,14 @@ box-of-shape F None = refl
 
 -- the parts of an entry are those that its marks name
 module _ (P : ℕ → Type 0) (m : Marks) (six : m .kind ≡ 6 → P (m .first)) (seven : m .kind ≡ 7 → P (m .first) × P (m .second)) where
-  each-cut : (o0 o1 : Bool) → m .kind ≡ 7 → Each P (cond o0 (Cut Intersection (m .first) (m .second)) (cond o1 (Cut Difference (m .first) (m .second)) None))
-  each-cut true o1 e = seven e
-  each-cut false true e = seven e
-  each-cut false false e = tt
+  each-cut : (t : Bool) → m .kind ≡ 7 → Each P (cond t (Cut (opOf (m .detail)) (m .first) (m .second)) None)
+  each-cut true e = seven e
+  each-cut false e = tt
 
   each-composite : (n v : Numbers) (t6 t7 : Bool) → eqb (m .kind) 6 ≡ t6 → eqb (m .kind) 7 ≡ t7 → Each P (cond t6 (Placed (matrixOf n) (matrixOf v) (m .first)) (cond t7 (cutOf m) None))
   unfolding cutOf
   each-composite n v true t7 e6 e7 = six (eqb-true (m .kind) 6 e6)
-  each-composite n v false true e6 e7 = each-cut (eqb (m .detail) 0) (eqb (m .detail) 1) (eqb-true (m .kind) 7 e7)
+  each-composite n v false true e6 e7 = each-cut (leb (m .detail) 3) (eqb-true (m .kind) 7 e7)
   each-composite n v false false e6 e7 = tt
 
   each-or : (s : Simple) (e : Entry) → Each P e → Each P (simpleOr s e)

@@ -2,7 +2,7 @@
 use Prim.Native.Nat.{ℕ}
 use mathlib.Core.Path.{_≡_, refl}
 use mathlib.Core.Bool.{Bool, true, false, not, _&&_, cond, and-eq-true-iff}
-use lib.Dec.{T, eqb}
+use lib.Dec.{T, leb, eqb}
 use lib.Ieee.{Float, lt, le, ofBits}
 use borrow.Author.Tests.{eqb-true}
 use denote.Floats.{passes}
@@ -26,10 +26,9 @@ use Rattle.solids.specs.Triangles.{triangleBox}
 use Rattle.solids.specs.Solids.{solidBox}
 use Rattle.solids.specs.declared.solid.Solid.{Solid}
 use Rattle.solids.specs.declared.solid.Solid.the-variants.{Sphere, Cylinder, Cone, Cube, Triangle}
-use Rattle.scene.specs.Entries.{simpleOf, matrixOf, cutOf, compositeOf, simpleOr, entryOf}
+use Rattle.scene.specs.Entries.{simpleOf, matrixOf, opOf, cutOf, compositeOf, simpleOr, entryOf}
 use Rattle.scene.specs.declared.entry.Simple.{Simple}
 use Rattle.scene.specs.declared.entry.Simple.the-variants.{Is, Other}
-use Rattle.scene.specs.declared.entry.Op.the-variants.{Intersection, Difference}
 use Rattle.scene.specs.declared.entry.Entry.{Entry}
 use Rattle.scene.specs.declared.entry.Entry.the-variants.{Simple as SimpleEntry, Placed, Cut, None}
 use Rattle.limits.specs.Limits.{withinPoint, withinFour, withinMatrix}
@@ -161,14 +160,13 @@ entry-fair f (Cut o a b) h p = extend-holds (f a) (f b) (p .0) (p .1) .sound .fa
 entry-fair f None h p = zero-fair
 
 module _ (m : Marks) (n v : Numbers) where
-  cut-measured : (o0 o1 : Bool) → Measured (cond o0 (Cut Intersection (m .first) (m .second)) (cond o1 (Cut Difference (m .first) (m .second)) None))
-  cut-measured true o1 = tt
-  cut-measured false true = tt
-  cut-measured false false = tt
+  cut-measured : (t : Bool) → Measured (cond t (Cut (opOf (m .detail)) (m .first) (m .second)) None)
+  cut-measured true = tt
+  cut-measured false = tt
 
   other-measured : (t7 : Bool) → Measured (cond t7 (cutOf m) None)
   unfolding cutOf
-  other-measured true = cut-measured (eqb (m .detail) 0) (eqb (m .detail) 1)
+  other-measured true = cut-measured (leb (m .detail) 3)
   other-measured false = tt
 
   or-measured : (s : Simple) → simpleMeasured s ≡ true → Measured (simpleOr s (cond (eqb (m .kind) 7) (cutOf m) None))

@@ -3,7 +3,7 @@ use Prim.Native.Nat.{ℕ, _/_}
 use mathlib.Core.Bool.{cond, _&&_}
 use mathlib.Core.List.{List}
 use lib.ListN.{length}
-use lib.Dec.{ltb, eqb}
+use lib.Dec.{ltb, leb, eqb}
 use lib.Ieee.{Float}
 use Rattle.geometry.specs.Vectors.{vec}
 use Rattle.matrix.specs.Matrices.{mat}
@@ -16,7 +16,8 @@ use Rattle.rows.specs.declared.Marks.{Marks}
 use Rattle.solids.specs.declared.solid.Solid.the-variants.{Sphere, Cylinder, Cone, Cube, Triangle}
 use Rattle.scene.specs.declared.entry.Simple.{Simple}
 use Rattle.scene.specs.declared.entry.Simple.the-variants.{Is, Other}
-use Rattle.scene.specs.declared.entry.Op.the-variants.{Intersection, Difference}
+use Rattle.scene.specs.declared.entry.Op.{Op}
+use Rattle.scene.specs.declared.entry.Op.the-variants.{Intersection, Difference, TrueIntersection, TrueDifference}
 use Rattle.scene.specs.declared.entry.Entry.{Entry}
 use Rattle.scene.specs.declared.entry.Entry.the-variants.{Simple as SimpleEntry, Placed, Cut, None}
 
@@ -38,11 +39,13 @@ matrixOf n =
     (n .x20) (n .x21) (n .x22) (n .x23)
     (n .x30) (n .x31) (n .x32) (n .x33)
 
--- kind 7, a cut: operation 0 is the intersection, 1 the difference
+-- a cut's operation: 0 is the intersection and 1 the difference (document 01), 2 and 3 are the same with the true distance (document 02, vi)
+unfoldable pub opOf : ℕ → Op
+opOf detail = cond (eqb detail 0) Intersection (cond (eqb detail 1) Difference (cond (eqb detail 2) TrueIntersection TrueDifference))
+
+-- kind 7, a cut, by operations 0 to 3
 unfoldable pub cutOf : Marks → Entry
-cutOf m =
-    cond (eqb (m .detail) 0) (Cut Intersection (m .first) (m .second))
-    (cond (eqb (m .detail) 1) (Cut Difference (m .first) (m .second)) None)
+cutOf m = cond (leb (m .detail) 3) (Cut (opOf (m .detail)) (m .first) (m .second)) None
 
 -- kind 6, a placed part with its matrix and its inverse, and kind 7
 unfoldable pub compositeOf : Marks → Numbers → Numbers → Entry

@@ -1,6 +1,6 @@
 // An entry of a scene: its 16 numbers and 4 marks, read as what they stand for.
 ghost use mathlib.Core.Path.{_≡_};
-ghost use Rattle.scene.specs.Entries.{simpleOf, matrixOf, matrixNumbers, cutOf, compositeOf, entryOf, entryAt};
+ghost use Rattle.scene.specs.Entries.{simpleOf, matrixOf, matrixNumbers, opOf, cutOf, compositeOf, entryOf, entryAt};
 use geometry::vector::Vector;
 use matrix::Matrix;
 use rows::Marks;
@@ -100,10 +100,13 @@ pub fn matrix_numbers(m: Matrix) -> Numbers
     }
 }
 
-// The operation of a cut.
+// The operation of a cut: what its parts have in common, or the first less the second. The true ones answer
+// the distance from a ray's first origin, the others the t of the last ray.
 pub enum Op {
     Intersection,
     Difference,
+    TrueIntersection,
+    TrueDifference,
 }
 
 // What an entry stands for: a simple solid, a placing (its matrix, the inverse, its part), a cut (its
@@ -115,14 +118,27 @@ pub enum Entry {
     None,
 }
 
+// Operations 0 to 3, in that order.
+fn op_of(detail: u32) -> Op
+    ensures { λ o. ⌜ o ≡ opOf detail ⌝ }
+{
+    if detail == 0 {
+        return Op::Intersection;
+    }
+    if detail == 1 {
+        return Op::Difference;
+    }
+    if detail == 2 {
+        return Op::TrueIntersection;
+    }
+    Op::TrueDifference
+}
+
 fn cut_of(m: Marks) -> Entry
     ensures { λ e. ⌜ e ≡ cutOf m ⌝ }
 {
-    if m.detail == 0 {
-        return Entry::Cut(Op::Intersection, m.first as usize, m.second as usize);
-    }
-    if m.detail == 1 {
-        return Entry::Cut(Op::Difference, m.first as usize, m.second as usize);
+    if m.detail <= 3 {
+        return Entry::Cut(op_of(m.detail), m.first as usize, m.second as usize);
     }
     Entry::None
 }

@@ -1,10 +1,11 @@
 -- Laws on the reading of a solid and on the steps of a cut, for the proofs of the recursion. Assumes nothing.
 use Prim.Native.Nat.{ℕ, zero, suc, _-_}
-use mathlib.Core.Path.{_≡_, refl}
+use mathlib.Core.Path.{_≡_, refl, sym, ap, _∙_}
 use mathlib.Core.List.{List}
 use mathlib.Core.Bool.{Bool, true, false, not, _&&_, _||_}
 use native.Mathlib.Numerals.{sub-one}
 use lib.Ieee.{Float}
+use Rattle.floats.specs.Arith.{_⊕_, hundredth}
 use Rattle.geometry.specs.Rays.{position}
 use Rattle.geometry.specs.Hits.{isOk}
 use Rattle.geometry.specs.declared.vector.Vector.{Vector}
@@ -31,43 +32,51 @@ and-then p h q = rw (← p, h, q)
 pub and-not : {r a : Bool} (b : Bool) → r ≡ a → r ≡ false → false ≡ (a && b)
 and-not b p h = rw (← p, h)
 
+pub not-true : (b : Bool) → not b ≡ true → b ≡ false
+not-true true e = sym e
+not-true false e = refl
+
+pub not-false : (b : Bool) → not b ≡ false → b ≡ true
+not-false true e = refl
+not-false false e = sym e
+
 -- A cut's answer, by what a turn finds: x and y are what the parts answer, and z the first refusal or the nearer hit.
-module _ (n : ℕ) (a b : Ray → Struck) (inside : Vector → Bool) (r : Ray) {x y z : Struck} (ex : x ≡ a r) (ey : y ≡ b r) (ez : z ≡ both x y) where
-  cut-refuses : (m : ℕ) (k : Refusal) → z ≡ Refused k → Refused k ≡ cutFrom m a b inside r
+module _ (tell : Float → Hit → Hit) (n : ℕ) (a b : Ray → Struck) (inside : Vector → Bool) (sum : Float) (r : Ray) {x y z : Struck} (ex : x ≡ a r) (ey : y ≡ b r) (ez : z ≡ both x y) where
+  cut-refuses : (m : ℕ) (k : Refusal) → z ≡ Refused k → Refused k ≡ cutFrom tell m a b inside sum r
   unfolding cutFrom step
   cut-refuses zero k e = rw (← ex, ← ey, ← ez, e)
   cut-refuses (suc m) k e = rw (← ex, ← ey, ← ez, e)
 
-  pub cut-refused : {k : Refusal} → z ≡ Refused k → Refused k ≡ cutFrom n a b inside r
+  pub cut-refused : {k : Refusal} → z ≡ Refused k → Refused k ≡ cutFrom tell n a b inside sum r
   cut-refused {k} e = cut-refuses n k e
 
   module _ {h : Hit} (e : z ≡ At h) where
-    cut-keeps : (m : ℕ) → (not (isOk h) || inside (position r (h .t))) ≡ true → At h ≡ cutFrom m a b inside r
+    cut-keeps : (m : ℕ) → (not (isOk h) || inside (position r (h .t))) ≡ true → At (tell sum h) ≡ cutFrom tell m a b inside sum r
     unfolding cutFrom step acceptedOr
     cut-keeps zero q = rw (← ex, ← ey, ← ez, e, q)
     cut-keeps (suc m) q = rw (← ex, ← ey, ← ez, e, q)
 
-    pub cut-missed : {u : Bool} → u ≡ isOk h → not u ≡ true → At h ≡ cutFrom n a b inside r
-    cut-missed p q = cut-keeps n (rw (← p, q))
+    pub cut-missed : {u : Bool} → u ≡ isOk h → not u ≡ true → {g : Hit} → g ≡ tell sum h → At g ≡ cutFrom tell n a b inside sum r
+    cut-missed p q eg = ap At eg ∙ cut-keeps n (rw (← p, q))
 
     module _ {u w : Bool} {v : Vector} (p : u ≡ isOk h) (q : not u ≡ false) (pv : v ≡ position r (h .t)) (pw : w ≡ inside v) where
       rejects : (w ≡ false) → (not (isOk h) || inside (position r (h .t))) ≡ false
       rejects f = rw (← p, q, ← pv, ← pw, f)
 
-      pub cut-inside : w ≡ true → At h ≡ cutFrom n a b inside r
-      cut-inside f = cut-keeps n (rw (← p, q, ← pv, ← pw, f))
+      pub cut-inside : w ≡ true → {g : Hit} → g ≡ tell sum h → At g ≡ cutFrom tell n a b inside sum r
+      cut-inside f eg = ap At eg ∙ cut-keeps n (rw (← p, q, ← pv, ← pw, f))
 
-      spent : (m : ℕ) → m ≡ 0 → w ≡ false → Refused Restarts ≡ cutFrom m a b inside r
+      spent : (m : ℕ) → m ≡ 0 → w ≡ false → Refused Restarts ≡ cutFrom tell m a b inside sum r
       unfolding cutFrom step acceptedOr
       spent m z0 f = rw (z0, ← ex, ← ey, ← ez, e, rejects f)
 
-      pub cut-spent : n ≡ 0 → w ≡ false → Refused Restarts ≡ cutFrom n a b inside r
+      pub cut-spent : n ≡ 0 → w ≡ false → Refused Restarts ≡ cutFrom tell n a b inside sum r
       cut-spent z0 f = spent n z0 f
 
-      again : (m : ℕ) → (m ≡ 0 → ⊥) → w ≡ false → cutFrom (m - 1) a b inside (restarted r (h .t)) ≡ cutFrom m a b inside r
+      again : (m : ℕ) → (m ≡ 0 → ⊥) → w ≡ false → cutFrom tell (m - 1) a b inside (sum ⊕ (h .t ⊕ hundredth)) (restarted r (h .t)) ≡ cutFrom tell m a b inside sum r
       unfolding cutFrom step acceptedOr
       again zero g f = absurd (g refl)
       again (suc m) g f = rw (sub-one, ← ex, ← ey, ← ez, e, rejects f)
 
-      pub cut-again : (n ≡ 0 → ⊥) → w ≡ false → cutFrom (n - 1) a b inside (restarted r (h .t)) ≡ cutFrom n a b inside r
+      pub cut-again : (n ≡ 0 → ⊥) → w ≡ false → cutFrom tell (n - 1) a b inside (sum ⊕ (h .t ⊕ hundredth)) (restarted r (h .t)) ≡ cutFrom tell n a b inside sum r
       cut-again g f = again n g f

@@ -9,6 +9,7 @@ use Rattle.geometry.specs.Hits.{noHit}
 use Rattle.geometry.specs.Boxes.{boxOf, extendBox}
 use Rattle.geometry.specs.declared.vector.Vector.{Vector}
 use Rattle.geometry.specs.declared.ray.Ray.{Ray}
+use Rattle.geometry.specs.declared.hit.Hit.{Hit}
 use Rattle.geometry.specs.declared.bounding_box.BBox.{BBox}
 use Rattle.matrix.specs.Matrices.{mulPosition, mulRay, mulBox}
 use Rattle.matrix.specs.declared.Matrix.{Matrix}
@@ -21,7 +22,7 @@ use Rattle.scene.specs.declared.entry.Entry.the-variants.{Simple, Placed, Cut, 
 use Rattle.refusals.specs.declared.Refusal.the-variants.{Restarts}
 use Rattle.scene_shape.specs.declared.Struck.{Struck}
 use Rattle.scene_shape.specs.declared.Struck.the-variants.{At, Refused}
-use Rattle.scene_shape.specs.Cuts.{rescaled, cutContains, both, step}
+use Rattle.scene_shape.specs.Cuts.{rescaled, cutContains, both, tellOf, step}
 
 -- document 01's solid: a simple one, a placed part with its matrix and inverse, a cut; `none` is read where there is no entry, and misses every ray
 pub data Shape : Type 0 where
@@ -56,20 +57,20 @@ shapeContains (simple s) p f = containsOf s p f
 shapeContains (placed m v s) p f = shapeContains s (mulPosition v p) f
 shapeContains (cut o a b) p f = cutContains o (shapeContains a) (shapeContains b) p
 
--- a cut's hit with so many restarts left, by what its parts answer; the 65th is refused
-unfoldable pub cutFrom : ℕ → (Ray → Struck) → (Ray → Struck) → (Vector → Bool) → Ray → Struck
-cutFrom zero a b inside r = step (λ _. Refused Restarts) inside r (both (a r) (b r))
-cutFrom (suc n) a b inside r = step (cutFrom n a b inside) inside r (both (a r) (b r))
+-- a cut's hit with so many restarts left, of a ray that starts `sum` beyond the first origin, by what its parts answer; the 65th is refused
+unfoldable pub cutFrom : (Float → Hit → Hit) → ℕ → (Ray → Struck) → (Ray → Struck) → (Vector → Bool) → Float → Ray → Struck
+cutFrom tell zero a b inside sum r = step tell (λ _ _. Refused Restarts) inside sum r (both (a r) (b r))
+cutFrom tell (suc n) a b inside sum r = step tell (cutFrom tell n a b inside) inside sum r (both (a r) (b r))
 
 unfoldable pub shapeHit : Shape → Ray → Struck
 shapeHit none r = At noHit
 shapeHit (simple s) r = At (hitOf s r)
 shapeHit (placed m v s) r = rescaled (mulRay v r .scale) (shapeHit s (mulRay v r .ray))
-shapeHit (cut o a b) r = cutFrom 64 (shapeHit a) (shapeHit b) (cutContains o (shapeContains a) (shapeContains b)) r
+shapeHit (cut o a b) r = cutFrom (tellOf o) 64 (shapeHit a) (shapeHit b) (cutContains o (shapeContains a) (shapeContains b)) zeroF r
 
 -- a cut's hit, with so many restarts left, of the parts a and b that `at` gives
-abbrev pub cutHit : Op → ℕ → (ℕ → Shape) → ℕ → ℕ → Ray → Struck
-cutHit o restarts at a b = cutFrom restarts (shapeHit (at a)) (shapeHit (at b)) (cutContains o (shapeContains (at a)) (shapeContains (at b)))
+abbrev pub cutHit : Op → ℕ → (ℕ → Shape) → ℕ → ℕ → Float → Ray → Struck
+cutHit o restarts at a b = cutFrom (tellOf o) restarts (shapeHit (at a)) (shapeHit (at b)) (cutContains o (shapeContains (at a)) (shapeContains (at b)))
 
 unfoldable pub shapeBox : Shape → BBox
 shapeBox none = boxOf (vec zeroF zeroF zeroF) (vec zeroF zeroF zeroF)

@@ -48,6 +48,43 @@ fn restarted(r: Ray, t: f64) -> Ray
     Ray::new(r.position(t + 0.01), r.direction)
 }
 
+// The hit with its distance from the first origin, `sum` before the ray's; a miss unchanged.
+fn from_first(sum: f64, h: Hit) -> Hit
+    ensures { λ r. ⌜ r ≡ Cuts.fromFirst sum h ⌝ }
+{
+    if h.ok {
+        return Hit {
+            t: sum + h.t,
+            ok: true,
+        };
+    }
+    h
+}
+
+// What a cut answers for a hit that it accepts.
+fn tell_of(op: Op, sum: f64, h: Hit) -> Hit
+    ensures { λ r. ⌜ r ≡ Cuts.tellOf op sum h ⌝ }
+{
+    match op {
+        Op::Intersection => h,
+        Op::Difference => h,
+        Op::TrueIntersection => from_first(sum, h),
+        Op::TrueDifference => from_first(sum, h),
+    }
+}
+
+// Whether an operation takes the second part away from the first.
+fn takes_away(op: Op) -> bool
+    ensures { λ r. ⌜ r ≡ Cuts.takesAway op ⌝ }
+{
+    match op {
+        Op::Intersection => false,
+        Op::Difference => true,
+        Op::TrueIntersection => false,
+        Op::TrueDifference => true,
+    }
+}
+
 // Whether the solid at entry i, nested at most `depth` deep, contains p, widened by f.
 pub fn entry_contains(
     numbers: &[f64],
@@ -86,22 +123,13 @@ fn cut_contains(
 ) -> bool
     ensures { λ r. ⌜ r ≡ Cuts.cutContains op (shapeContains (decode depth (now (numbers .entry)) (now (inverses .entry)) (now (marks .entry)) a)) (shapeContains (decode depth (now (numbers .entry)) (now (inverses .entry)) (now (marks .entry)) b)) p ⌝ }
 {
-    match op {
-        Op::Intersection => {
-            if entry_contains(numbers, inverses, marks, a, p, 1e-3, depth) {
-                entry_contains(numbers, inverses, marks, b, p, 1e-3, depth)
-            } else {
-                false
-            }
-        }
-        Op::Difference => {
-            if entry_contains(numbers, inverses, marks, a, p, 1e-3, depth) {
-                !entry_contains(numbers, inverses, marks, b, p, -1e-3, depth)
-            } else {
-                false
-            }
-        }
+    if !entry_contains(numbers, inverses, marks, a, p, 1e-3, depth) {
+        return false;
     }
+    if takes_away(op) {
+        return !entry_contains(numbers, inverses, marks, b, p, -1e-3, depth);
+    }
+    entry_contains(numbers, inverses, marks, b, p, 1e-3, depth)
 }
 
 // The hit that the solid at entry i, nested at most `depth` deep, gives a ray.
@@ -128,12 +156,12 @@ pub fn entry_hit(
                 entry_hit(numbers, inverses, marks, k, q.ray, depth - 1),
             )
         }
-        Entry::Cut(op, a, b) => cut_hit(numbers, inverses, marks, op, a, b, r, depth - 1, 64),
+        Entry::Cut(op, a, b) => cut_hit(numbers, inverses, marks, op, a, b, r, depth - 1, 64, 0.0),
         Entry::None => Struck::At(Hit::no_hit()),
     }
 }
 
-// The hit of a cut, with so many restarts left.
+// The hit of a cut, with so many restarts left, for a ray that starts `sum` beyond the first origin.
 fn cut_hit(
     numbers: &[f64],
     inverses: &[f64],
@@ -144,8 +172,9 @@ fn cut_hit(
     r: Ray,
     depth: usize,
     restarts: usize,
+    sum: f64,
 ) -> Struck
-    ensures { λ h. ⌜ h ≡ cutHit op restarts (decode depth (now (numbers .entry)) (now (inverses .entry)) (now (marks .entry))) a b r ⌝ }
+    ensures { λ h. ⌜ h ≡ cutHit op restarts (decode depth (now (numbers .entry)) (now (inverses .entry)) (now (marks .entry))) a b sum r ⌝ }
 {
     let ha = entry_hit(numbers, inverses, marks, a, r, depth);
     let hb = entry_hit(numbers, inverses, marks, b, r, depth);
@@ -154,10 +183,10 @@ fn cut_hit(
         Struck::Refused(k) => Struck::Refused(k),
         Struck::At(h) => {
             if !h.is_ok() {
-                return Struck::At(h);
+                return Struck::At(tell_of(op, sum, h));
             }
             if cut_contains(numbers, inverses, marks, op, a, b, r.position(h.t), depth) {
-                return Struck::At(h);
+                return Struck::At(tell_of(op, sum, h));
             }
             if restarts == 0 {
                 return Struck::Refused(Refusal::Restarts);
@@ -172,6 +201,7 @@ fn cut_hit(
                 restarted(r, h.t),
                 depth,
                 restarts - 1,
+                sum + (h.t + 0.01),
             )
         }
     }

@@ -1,4 +1,4 @@
--- A point is hidden that no solid of the scene covers. Computed.
+-- A point is hidden that no solid of the scene covers, and stands with the true distance. Computed.
 use Prim.Native.Nat.{ℕ}
 use mathlib.Core.Path.{_≡_, refl, sym, ap, subst, _∙_}
 use mathlib.Core.Logic.{inl, inr}
@@ -18,8 +18,8 @@ use Rattle.lists.specs.Lists.{Member, allOf, listTo}
 use Rattle.limits.specs.Limits.{withinBox, withinPoint}
 use Rattle.solids.specs.Cubes.{cubeHit, cubeContains, outside}
 use Rattle.solids.specs.Solids.{solidBox, hitOf, containsOf}
-use Rattle.scene.specs.Entries.{simpleOf, simpleOr, entryOf, ownEntry, cutOf, compositeOf}
-use Rattle.scene_shape.specs.Cuts.{step, both, acceptedOr, restarted, cutContains}
+use Rattle.scene.specs.Entries.{simpleOf, simpleOr, entryOf, ownEntry, opOf, cutOf, compositeOf}
+use Rattle.scene_shape.specs.Cuts.{step, both, fromFirst, tellOf, acceptedOr, restarted, takesAway, cutContains}
 use Rattle.scene_shape.specs.Shapes.{Shape, shapeOf, read, shapeBox, shapeHit, shapeContains, cutFrom}
 use Rattle.scene_shape.specs.declared.Struck.{Struck}
 use Rattle.scene_shape.specs.declared.Struck.the-variants.{At, Refused as NotStruck}
@@ -36,21 +36,21 @@ use Rattle.tree_nodes.specs.Trees.{layout, rootOf, belowOf, leaves, belowRoot}
 use Rattle.tree_split.specs.Build.{nodesFor, orderFor, treeOf, planOf, planAxis, arranged, splitBy, hullOf}
 use Rattle.tree_walk.specs.Walks.{walkRows, walkOn, scan, tried, nearer, backward}
 use Rattle.tree_sight.specs.Sights.{sees, byDistance, eyeRay}
-use Rattle.tree_sight.specs.declared.Sight.the-variants.{Hidden}
+use Rattle.tree_sight.specs.declared.Sight.the-variants.{Visible, Hidden}
 use Rattle.query_scene.specs.Queries.{buildOf, builtAfter, plantedOf, visibleOf, seenAfter}
 use Rattle.query_scene.specs.declared.Built.the-variants.{Nodes}
 use Rattle.theorem_covering.specs.Scenes.{CoversPoint, Draws}
 use Rattle.draw.specs.Drawing.{solidIn}
 use Rattle.theorem_demand3.specs.Demand3.{EyeTest}
-use Rattle.theorem_demand3.specs.Witnesses.{overhead, openBin, binEye, ShortNotCovering}
+use Rattle.theorem_demand3.specs.Witnesses.{overhead, openBin, trueBin, binEye, ShortNotCovering, TrueBinClear}
 use Rattle.theorem_demand3.proofs.Answers.{seenOnRows, eye-test}
 
 built-bin : buildOf openBin 1 1 ≡ Nodes 1
-unfolding buildOf builtAfter plantedOf checkOf firstMet lengthsAgree allOf known isKind isStripes names namedBefore deepest depthsTo partsFree entryOk partsOk ownersOk goodStarts measured simpleMeasured solidMeasured cubeMeasured exceeds placingOk withinBox withinPoint within larger simpleOf simpleOr entryOf ownEntry shapeOf read cutOf compositeOf shapeBox solidBox unnamed nodesFor orderFor layout rootOf belowOf leaves belowRoot treeOf planOf planAxis arranged splitBy hullOf hull extendBox minV maxV minOf maxOf isNan lt le eq neg ofBits
+unfolding buildOf builtAfter plantedOf checkOf firstMet lengthsAgree allOf known isKind isStripes names namedBefore deepest depthsTo partsFree entryOk partsOk ownersOk goodStarts measured simpleMeasured solidMeasured cubeMeasured exceeds placingOk withinBox withinPoint within larger simpleOf simpleOr entryOf ownEntry shapeOf read opOf cutOf compositeOf shapeBox solidBox unnamed nodesFor orderFor layout rootOf belowOf leaves belowRoot treeOf planOf planAxis arranged splitBy hullOf hull extendBox minV maxV minOf maxOf isNan lt le eq neg ofBits
 built-bin = refl
 
 seen-bin : seenOnRows openBin binEye overhead ≡ Hidden
-unfolding visibleOf seenAfter sees byDistance walkRows walkOn scan tried nearer backward placesOf padded flat listTo checkOf firstMet lengthsAgree allOf known isKind isStripes names namedBefore deepest depthsTo partsFree entryOk partsOk ownersOk goodStarts measured simpleMeasured solidMeasured cubeMeasured exceeds placingOk withinBox withinPoint within larger simpleOf simpleOr entryOf ownEntry shapeOf read cutOf compositeOf shapeBox solidBox extendBox shapeHit hitOf cubeHit shapeContains cutFrom step both acceptedOr restarted cutContains position isOk minHit containsOf cubeContains outside unnamed nodesFor orderFor layout rootOf belowOf leaves belowRoot treeOf planOf planAxis arranged splitBy hullOf hull boxTest overlap slab ordered eyeRay sqrtOf distanceOf lengthOf lengthSquared subV divV divScalar dot minV maxV minComponent maxComponent minOf maxOf addV mulScalar add sub mul div lt le eq neg isNan ofBits
+unfolding visibleOf seenAfter sees byDistance walkRows walkOn scan tried nearer backward placesOf padded flat listTo checkOf firstMet lengthsAgree allOf known isKind isStripes names namedBefore deepest depthsTo partsFree entryOk partsOk ownersOk goodStarts measured simpleMeasured solidMeasured cubeMeasured exceeds placingOk withinBox withinPoint within larger simpleOf simpleOr entryOf ownEntry shapeOf read opOf cutOf compositeOf shapeBox solidBox extendBox shapeHit hitOf cubeHit shapeContains cutFrom step both tellOf acceptedOr restarted takesAway cutContains position isOk minHit containsOf cubeContains outside unnamed nodesFor orderFor layout rootOf belowOf leaves belowRoot treeOf planOf planAxis arranged splitBy hullOf hull boxTest overlap slab ordered eyeRay sqrtOf distanceOf lengthOf lengthSquared subV divV divScalar dot minV maxV minComponent maxComponent minOf maxOf addV mulScalar add sub mul div lt le eq neg isNan ofBits
 seen-bin = refl
 
 cut-drawn : drawn (openBin .marks) ≡ 2 ∷ []
@@ -63,7 +63,7 @@ distance (At h) = h .t
 distance (NotStruck k) = zeroF
 
 too-late : T (le (boxTest (shapeBox (solidIn openBin 2)) (eyeRay binEye overhead) .tmin) (distance (shapeHit (solidIn openBin 2) (eyeRay binEye overhead)))) → ⊥
-unfolding simpleOf simpleOr entryOf ownEntry shapeOf read cutOf compositeOf shapeBox solidBox extendBox shapeHit hitOf cubeHit shapeContains cutFrom step both acceptedOr restarted cutContains position isOk minHit containsOf cubeContains outside boxTest overlap slab ordered eyeRay sqrtOf distanceOf lengthOf lengthSquared subV divV divScalar dot minV maxV minComponent maxComponent minOf maxOf addV mulScalar add sub mul div lt le eq neg isNan ofBits
+unfolding simpleOf simpleOr entryOf ownEntry shapeOf read opOf cutOf compositeOf shapeBox solidBox extendBox shapeHit hitOf cubeHit shapeContains cutFrom step both tellOf acceptedOr restarted takesAway cutContains position isOk minHit containsOf cubeContains outside boxTest overlap slab ordered eyeRay sqrtOf distanceOf lengthOf lengthSquared subV divV divScalar dot minV maxV minComponent maxComponent minOf maxOf addV mulScalar add sub mul div lt le eq neg isNan ofBits
 too-late h = h
 
 cut-uncovered : CoversPoint (solidIn openBin 2) binEye overhead → ⊥
@@ -89,3 +89,15 @@ short-not-covering = record {
   uncovered = cut-uncovered;
   refuted = λ claim. let r = claim openBin binEye overhead bin-hidden in none-covers (r .0) (r .1) (r .2);
 }
+
+-- ---- with the true distance
+built-true : buildOf trueBin 1 1 ≡ Nodes 1
+unfolding buildOf builtAfter plantedOf checkOf firstMet lengthsAgree allOf known isKind isStripes names namedBefore deepest depthsTo partsFree entryOk partsOk ownersOk goodStarts measured simpleMeasured solidMeasured cubeMeasured exceeds placingOk withinBox withinPoint within larger simpleOf simpleOr entryOf ownEntry shapeOf read opOf cutOf compositeOf shapeBox solidBox unnamed nodesFor orderFor layout rootOf belowOf leaves belowRoot treeOf planOf planAxis arranged splitBy hullOf hull extendBox minV maxV minOf maxOf isNan lt le eq neg ofBits
+built-true = refl
+
+seen-true : seenOnRows trueBin binEye overhead ≡ Visible
+unfolding visibleOf seenAfter sees byDistance walkRows walkOn scan tried nearer backward placesOf padded flat listTo checkOf firstMet lengthsAgree allOf known isKind isStripes names namedBefore deepest depthsTo partsFree entryOk partsOk ownersOk goodStarts measured simpleMeasured solidMeasured cubeMeasured exceeds placingOk withinBox withinPoint within larger simpleOf simpleOr entryOf ownEntry shapeOf read opOf cutOf compositeOf shapeBox solidBox extendBox shapeHit hitOf cubeHit shapeContains cutFrom step both fromFirst tellOf acceptedOr restarted takesAway cutContains position isOk minHit containsOf cubeContains outside unnamed nodesFor orderFor layout rootOf belowOf leaves belowRoot treeOf planOf planAxis arranged splitBy hullOf hull boxTest overlap slab ordered eyeRay sqrtOf distanceOf lengthOf lengthSquared subV divV divScalar dot minV maxV minComponent maxComponent minOf maxOf addV mulScalar add sub mul div lt le eq neg isNan ofBits
+seen-true = refl
+
+pub true-bin-clear : TrueBinClear
+true-bin-clear = eye-test trueBin 1 1 1 built-true binEye overhead Visible (inl refl) seen-true

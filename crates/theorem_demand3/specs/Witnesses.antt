@@ -129,11 +129,18 @@ pub record MinusZeroNeeded : Type 0 where
 abbrev minusHalf : Float
 minusHalf = bits 0xbfe0_0000_0000_0000
 
-abbrev pub openBin : Scene
-openBin =
+abbrev binBy : ℕ → Scene
+binBy operation =
     sceneOf
     (corners minusOne minusOne minusOne oneF oneF oneF ++ corners minusHalf minusHalf zeroF halfF halfF twoF ++ corners zeroF zeroF zeroF zeroF zeroF zeroF)
-    (4 ∷ 1 ∷ 0 ∷ 0 ∷ 4 ∷ 1 ∷ 0 ∷ 0 ∷ 7 ∷ 1 ∷ 0 ∷ 1 ∷ []) [] [] []
+    (4 ∷ 1 ∷ 0 ∷ 0 ∷ 4 ∷ 1 ∷ 0 ∷ 0 ∷ 7 ∷ operation ∷ 0 ∷ 1 ∷ []) [] [] []
+
+abbrev pub openBin : Scene
+openBin = binBy 1
+
+-- the same with the true distance (document 02, vi)
+abbrev pub trueBin : Scene
+trueBin = binBy 3
 
 abbrev pub binEye : Vector
 binEye = vec zeroF zeroF halfF
@@ -146,3 +153,7 @@ pub record ShortNotCovering : Type 0 where
   pub uncovered : CoversPoint (solidIn openBin 2) binEye overhead → ⊥
   -- the last clause on hiding, if it asked for a solid that covers
   pub refuted : ((s : Scene) (eye point : Vector) → EyeTest s eye point Hidden → (solid : Shape) × Draws s solid × CoversPoint solid eye point) → ⊥
+
+-- With operation 3 the same point stands: the cut's distance is that of its surface, beyond the eye.
+abbrev pub TrueBinClear : Type 0
+TrueBinClear = EyeTest trueBin binEye overhead Visible

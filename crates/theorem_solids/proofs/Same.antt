@@ -6,7 +6,7 @@ use mathlib.Core.Bool.{Bool, true, false, cond}
 use native.Mathlib.Omega.{arith}
 use lib.ListN.{length, take, getD}
 use lib.Seq.{getD-take}
-use lib.Dec.{eqb}
+use lib.Dec.{leb, eqb}
 use lib.Ieee.{Float, nan}
 use borrow.Author.Tests.{eqb-true, lt-ltb}
 use Rattle.matrix_inverse.specs.Inverses.{inverted}
@@ -14,10 +14,10 @@ use Rattle.rows.specs.Rows.{row}
 use Rattle.rows.specs.Entries.{numbersOf}
 use Rattle.rows.specs.declared.Marks.{Marks}
 use Rattle.rows.specs.declared.Numbers.{Numbers}
-use Rattle.scene.specs.Entries.{simpleOf, simpleOr, cutOf, compositeOf, entryOf, matrixOf, matrixNumbers, marksAt, ownEntry}
+use Rattle.scene.specs.Entries.{simpleOf, simpleOr, opOf, cutOf, compositeOf, entryOf, matrixOf, matrixNumbers, marksAt, ownEntry}
 use Rattle.scene.specs.declared.entry.Simple.{Simple}
 use Rattle.scene.specs.declared.entry.Simple.the-variants.{Is, Other}
-use Rattle.scene.specs.declared.entry.Op.the-variants.{Intersection, Difference}
+use Rattle.scene.specs.declared.entry.Op.{Op}
 use Rattle.scene.specs.declared.entry.Entry.{Entry}
 use Rattle.scene.specs.declared.entry.Entry.the-variants.{Placed, Cut, None}
 use Rattle.scene_shape.specs.Shapes.{Shape, read, shapeOf}
@@ -102,18 +102,17 @@ module _ (F G : ℕ → Shape) (m m′ : Marks) (r r′ : List Float) (A : Alike
   unfolding shapeOf usedNumbers
   placed-as k = let e : take 16 r ≡ take 16 r′ = rw k at (A .numbers) in rw (all-agree r r′ e, A .part k)
 
-  cut-as : m .kind ≡ 7 → (o0 o1 : Bool) → shapeOf F (cond o0 (Cut Intersection (m .first) (m .second)) (cond o1 (Cut Difference (m .first) (m .second)) None)) ≡ shapeOf G (cond o0 (Cut Intersection (m′ .first) (m′ .second)) (cond o1 (Cut Difference (m′ .first) (m′ .second)) None))
+  cut-as : m .kind ≡ 7 → (t : Bool) (o : Op) → shapeOf F (cond t (Cut o (m .first) (m .second)) None) ≡ shapeOf G (cond t (Cut o (m′ .first) (m′ .second)) None)
   unfolding shapeOf
-  cut-as k true o1 = rw (A .parts k .0, A .parts k .1)
-  cut-as k false true = rw (A .parts k .0, A .parts k .1)
-  cut-as k false false = refl
+  cut-as k true o = rw (A .parts k .0, A .parts k .1)
+  cut-as k false o = refl
 
   composite-as : (t6 t7 : Bool) → eqb (m .kind) 6 ≡ t6 → eqb (m .kind) 7 ≡ t7 → shapeOf F (cond t6 (Placed (matrixOf (numbersOf r)) (matrixOf (inv r)) (m .first)) (cond t7 (cutOf m) None)) ≡ shapeOf G (cond t6 (Placed (matrixOf (numbersOf r′)) (matrixOf (inv r′)) (m′ .first)) (cond t7 (cutOf m′) None))
   unfolding cutOf usesDetail shapeOf
   composite-as true t7 e6 e7 = placed-as (eqb-true (m .kind) 6 e6)
   composite-as false true e6 e7 =
       let k : m .kind ≡ 7 = eqb-true (m .kind) 7 e7 in
-      rw (← A .detail (rw k)) (cut-as k (eqb (m .detail) 0) (eqb (m .detail) 1))
+      rw (← A .detail (rw k)) (cut-as k (leb (m .detail) 3) (opOf (m .detail)))
   composite-as false false e6 e7 = refl
 
   composites : shapeOf F (compositeOf m (numbersOf r) (inv r)) ≡ shapeOf G (compositeOf m′ (numbersOf r′) (inv r′))

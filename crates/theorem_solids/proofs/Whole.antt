@@ -13,7 +13,6 @@ use Rattle.rows.specs.declared.Numbers.{Numbers}
 use Rattle.scene.specs.Entries.{simpleOf, simpleOr, cutOf, compositeOf, entryOf, matrixOf, marksAt, numbersAt, ownEntry}
 use Rattle.scene.specs.declared.entry.Simple.{Simple}
 use Rattle.scene.specs.declared.entry.Simple.the-variants.{Is, Other}
-use Rattle.scene.specs.declared.entry.Op.the-variants.{Intersection, Difference}
 use Rattle.scene.specs.declared.entry.Entry.{Entry}
 use Rattle.scene.specs.declared.entry.Entry.the-variants.{Simple as SimpleEntry, Placed, Cut, None}
 use Rattle.scene_shape.specs.Shapes.{Shape, shapeOf, solidOf}
@@ -43,7 +42,7 @@ some-or (Is s) e h = refl
 some-or Other e h = h refl
 
 -- the marks of a cut, and of what is neither a placing nor a cut nor simple
-known-cut : (m : Marks) → m .kind ≡ 7 → known m ≡ leb (m .detail) 1
+known-cut : (m : Marks) → m .kind ≡ 7 → known m ≡ leb (m .detail) 3
 unfolding known
 known-cut m e = rw e
 
@@ -82,16 +81,13 @@ module _ (m : Marks) (n : Numbers) (o : simpleOf (m .kind) n ≡ Other) where
       omega (arith, k7, leb-true (m .kind) 7 (b .1), eqb-false (m .kind) 7 e7)
 
 module _ (m : Marks) (n v : Numbers) (h : known m ≡ true) where
-  some-cut : m .kind ≡ 7 → (o0 o1 : Bool) → eqb (m .detail) 0 ≡ o0 → eqb (m .detail) 1 ≡ o1 → some (cond o0 (Cut Intersection (m .first) (m .second)) (cond o1 (Cut Difference (m .first) (m .second)) None)) ≡ true
-  some-cut e true o1 p q = refl
-  some-cut e false true p q = refl
-  some-cut e false false p q =
-      absurd (omega (arith, leb-true (m .detail) 1 (sym (known-cut m e) ∙ h), eqb-false (m .detail) 0 p, eqb-false (m .detail) 1 q))
+  some-cut : m .kind ≡ 7 → some (cutOf m) ≡ true
+  unfolding cutOf
+  some-cut e = rw (sym (known-cut m e) ∙ h)
 
   some-composite : simpleOf (m .kind) n ≡ Other → (t6 t7 : Bool) → eqb (m .kind) 6 ≡ t6 → eqb (m .kind) 7 ≡ t7 → some (cond t6 (Placed (matrixOf n) (matrixOf v) (m .first)) (cond t7 (cutOf m) None)) ≡ true
-  unfolding cutOf
   some-composite o true t7 e6 e7 = refl
-  some-composite o false true e6 e7 = some-cut (eqb-true (m .kind) 7 e7) (eqb (m .detail) 0) (eqb (m .detail) 1) refl refl
+  some-composite o false true e6 e7 = some-cut (eqb-true (m .kind) 7 e7)
   some-composite o false false e6 e7 = absurd (not-known m n o e6 e7 h)
 
   some-entry : some (entryOf m n v) ≡ true

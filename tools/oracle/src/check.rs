@@ -38,7 +38,7 @@ fn lengths_agree(s: &Scene) -> bool {
 fn marks_known(marks: &[u32]) -> bool {
     match marks[0] {
         4 => (1..=1000).contains(&marks[1]),
-        7 => marks[1] <= 1,
+        7 => marks[1] <= 3,
         kind => (1..=7).contains(&kind),
     }
 }

@@ -30,6 +30,35 @@ pub enum Solid {
     Triangle(Triangle),
     Placed(Box<TransformedShape<Solid>>),
     Cut(BooleanShape<Solid>),
+    /// Operations 2 and 3: larnt's cut but for its hit.
+    TrueCut(BooleanShape<Solid>),
+}
+
+/// Kind 7. Operations 0 and 1 are larnt's own.
+fn cut(operation: u32, a: Solid, b: Solid) -> Solid {
+    let op = if operation.is_multiple_of(2) { Op::Intersection } else { Op::Difference };
+    let both = BooleanShape::new(op, Box::new(a), Box::new(b));
+    if operation < 2 { Solid::Cut(both) } else { Solid::TrueCut(both) }
+}
+
+/// The hit of operations 2 and 3 (document 02, vi): the distance from the first origin, the sum of
+/// (t + 0.01) over all restarts in order, then plus the last t. A last miss is returned unchanged.
+fn true_hit(cut: &BooleanShape<Solid>, first: Ray) -> Hit {
+    let mut restarts: Vec<f64> = Vec::new();
+    let mut ray = first;
+    loop {
+        let last = cut.a.intersect(ray).min(cut.b.intersect(ray));
+        if !last.is_ok() || cut.contains(ray.position(last.t), 0.0) {
+            if !last.ok {
+                return last;
+            }
+            let sum = restarts.iter().fold(0.0, |sum, t| sum + (t + 0.01));
+            return Hit { t: sum + last.t, ok: true };
+        }
+        restart(restarts.len());
+        restarts.push(last.t);
+        ray = Ray::new(ray.position(last.t + 0.01), ray.direction);
+    }
 }
 
 fn handed_paths(lines: &Handed) -> Paths<Vector> {
@@ -49,7 +78,7 @@ impl Shape for Solid {
             Solid::Cube(s) => s.bounding_box(),
             Solid::Triangle(s) => s.bounding_box(),
             Solid::Placed(s) => s.bounding_box(),
-            Solid::Cut(s) => s.bounding_box(),
+            Solid::Cut(s) | Solid::TrueCut(s) => s.bounding_box(),
         }
     }
 
@@ -61,7 +90,7 @@ impl Shape for Solid {
             Solid::Cube(s) => s.contains(v, f),
             Solid::Triangle(s) => s.contains(v, f),
             Solid::Placed(s) => s.contains(v, f),
-            Solid::Cut(s) => s.contains(v, f),
+            Solid::Cut(s) | Solid::TrueCut(s) => s.contains(v, f),
         }
     }
 
@@ -74,6 +103,7 @@ impl Shape for Solid {
             Solid::Triangle(s) => s.intersect(r),
             Solid::Placed(s) => s.intersect(r),
             Solid::Cut(s) => s.intersect(r),
+            Solid::TrueCut(s) => true_hit(s, r),
         }
     }
 
@@ -85,7 +115,7 @@ impl Shape for Solid {
             Solid::Cube(s) => s.paths(args),
             Solid::Triangle(s) => s.paths(args),
             Solid::Placed(s) => s.paths(args),
-            Solid::Cut(s) => s.paths(args),
+            Solid::Cut(s) | Solid::TrueCut(s) => s.paths(args),
         }
     }
 }
@@ -206,9 +236,8 @@ pub fn entries(scene: &Scene) -> Entries {
                 Solid::Placed(Box::new(placed))
             }
             7 => {
-                let op = if marks[1] == 0 { Op::Intersection } else { Op::Difference };
                 let (a, b) = (part(&mut held, 2), part(&mut held, 3));
-                Solid::Cut(BooleanShape::new(op, Box::new(a), Box::new(b)))
+                cut(marks[1], a, b)
             }
             kind => simple(kind, marks[1], numbers, handed(scene, i)),
         };
@@ -232,10 +261,7 @@ pub fn solid_of(scene: &Scene, i: usize) -> Solid {
     let part = |k: usize| solid_of(scene, marks[k] as usize);
     match marks[0] {
         6 => Solid::Placed(Box::new(TransformedShape::new(part(2), matrix(numbers)))),
-        7 => {
-            let op = if marks[1] == 0 { Op::Intersection } else { Op::Difference };
-            Solid::Cut(BooleanShape::new(op, Box::new(part(2)), Box::new(part(3))))
-        }
+        7 => cut(marks[1], part(2), part(3)),
         kind => simple(kind, marks[1], numbers, handed(scene, i)),
     }
 }

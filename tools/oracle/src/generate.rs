@@ -305,7 +305,7 @@ impl Maker {
         } else if depth > 1 && cuts > 0 && choice < 55 {
             let a = self.solid(depth - 1, cuts - 1, true);
             let b = self.solid(depth - 1, cuts - 1, true);
-            let operation = self.rng.below(2) as u32;
+            let operation = self.rng.below(4) as u32;
             self.scene.push([7, operation, a, b], &[])
         } else {
             self.leaf()
@@ -698,7 +698,7 @@ impl Maker {
             }
             _ => {
                 let (a, b) = (self.leaf(), self.leaf());
-                let operation = self.rng.pick(&[2, 3, u32::MAX]);
+                let operation = self.rng.pick(&[4, 5, u32::MAX]);
                 self.scene.push([7, operation, a, b], &[])
             }
         };

@@ -19,11 +19,21 @@ use larnt_limited::tree::Tree;
 pub mod plain {
     use larnt_plain as larnt;
     include!("engine.rs");
+
+    /// A true cut restarts as often as it likes.
+    fn restart(_count: usize) {}
 }
 
 pub mod limited {
     use larnt_limited as larnt;
     include!("engine.rs");
+
+    /// 11: a true cut is about to restart after `count` restarts; 64 pass.
+    fn restart(count: usize) {
+        if count == 64 {
+            larnt::limits::refuse(11);
+        }
+    }
 }
 
 /// The five slices of a scene.

@@ -49,6 +49,48 @@ impl Pieces {
     }
 }
 
+/// Operations 2 and 3: the distance from the first origin, and a last miss unchanged.
+fn true_cuts(p: &mut Pieces) {
+    let unit = [-1.0, -1.0, -1.0, 1.0, 1.0, 1.0];
+    // a part shrunk by 1e-6 misses at 1,000, so the ray goes on by 1,000.01 at a time
+    let through = |operation: u32, kind: u32, numbers: &[f64]| {
+        let mut s = one([kind, u32::from(kind == 4), 0, 0], numbers);
+        s.push([4, 1, 0, 0], &unit);
+        s.push([6, 0, 1, 0], &stretched(1e-6));
+        s.push([7, operation, 0, 2], &[]);
+        s
+    };
+    let far = |operation, x| through(operation, 4, &[x, -10.0, -10.0, x + 100.0, 10.0, 10.0]);
+    let along = ray([0.0, 5.0, 0.0], [1.0, 0.0, 0.0]);
+    let answers = |s: &Scene, r: [f64; 6], ok: bool, t: f64| {
+        oracle::intersect(s, r).is_ok_and(|h| h.ok == ok && (h.t - t).abs() < 1e-6)
+    };
+    p.holds("64 restarts, summed", answers(&far(3, 64_500.0), along, true, 64_500.0));
+    p.number("65 restarts of a true cut", oracle::intersect(&far(3, 65_500.0), along), 11);
+    // down a tube, which has no ends: the second miss lies inside, and is the last
+    let tube = |operation| through(operation, 2, &[10.0, 1500.0, 9000.0]);
+    let up = ray([5.0, 0.0, 0.0], [0.0, 0.0, 1.0]);
+    p.holds("a last miss", answers(&tube(1), up, false, 1000.0));
+    p.holds("a last miss of a true cut", answers(&tube(3), up, false, 1000.0));
+    // two cubes apart have nothing in common: each face is rejected, then nothing is left
+    let mut apart = cube();
+    apart.push([4, 1, 0, 0], &[3.0, -1.0, -1.0, 5.0, 1.0, 1.0]);
+    apart.push([7, 2, 0, 1], &[]);
+    let past = ray([-5.0, 0.0, 0.0], [1.0, 0.0, 0.0]);
+    p.holds("a true cut past everything", answers(&apart, past, false, 1e9));
+    // placed at twice its size: the sum of the part, times 2
+    let mut placed = far(3, 2500.0);
+    placed.push([6, 0, 3, 0], &stretched(2.0));
+    p.holds("a true cut, placed", answers(&placed, along, true, 5000.0));
+    // a part that is a true cut sums for itself, whatever the cut around it does
+    for outer in [0, 2] {
+        let mut nested = far(3, 2500.0);
+        nested.push([4, 1, 0, 0], &unit.map(|x| 1e5 * x));
+        nested.push([7, outer, 3, 4], &[]);
+        p.holds(&format!("a true cut in {outer}"), answers(&nested, along, true, 2500.0));
+    }
+}
+
 /// The refusal's number, or 0 for an answer.
 pub fn number_of<T>(found: &Answer<T>) -> Result<u32, Trouble> {
     match found {
@@ -168,6 +210,10 @@ fn worked(p: &mut Pieces) {
     cut.push([7, 1, 0, 1], &[]);
     let hit = oracle::intersect(&cut, ray(eye, DOWN));
     p.holds("cut near 0.99", hit.is_ok_and(|h| h.ok && (h.t - 0.99).abs() < 1e-9));
+    cut.marks[9] = 3;
+    let hit = oracle::intersect(&cut, ray(eye, DOWN));
+    p.holds("true cut near 5", hit.is_ok_and(|h| h.ok && (h.t - 5.0).abs() < 1e-9));
+    true_cuts(p);
 
     p.number("1,024 entries", oracle::check(&many(1024)), 0);
     p.number("1,025 entries", oracle::check(&many(1025)), 2);
@@ -214,7 +260,7 @@ fn boundaries(p: &mut Pieces) {
         let scene = one(marks, &[0.0, 0.0, 0.0, 1.0, 1.0, 1.0]);
         p.number(&format!("marks {marks:?}"), oracle::check(&scene), number);
     }
-    for (operation, number) in [(0, 0), (1, 0), (2, 3)] {
+    for (operation, number) in [(0, 0), (1, 0), (2, 0), (3, 0), (4, 3)] {
         let mut s = many(2);
         s.push([7, operation, 0, 1], &[f64::NAN; 16]);
         p.number(&format!("operation {operation}"), oracle::check(&s), number);
@@ -684,7 +730,7 @@ fn text(p: &mut Pieces) {
         ("stripes 1000001", format!("{view}(cube 1000001 0 0 0 1 1 1)"), "(refused 1)\n"),
         ("stripes -1", format!("{view}(cube -1 0 0 0 1 1 1)"), "(refused 1)\n"),
         ("stripes as bits", format!("{view}(cube #3FF0000000000000 0 0 0 1 1 1)"), "(refused 1)\n"),
-        ("operation 2", format!("{view}(cut 2(sphere 0 0 0 1)(cone 1 1))"), "(refused 3)\n"),
+        ("operation 4", format!("{view}(cut 4(sphere 0 0 0 1)(cone 1 1))"), "(refused 3)\n"),
         (
             "no space at brackets",
             format!("{view}(cut 1(sphere 0 0 0 1)(cone 1 1(line 0 0 0)(line)))"),

@@ -1,4 +1,4 @@
-use Rattle.scene_shape.proofs.Shapes.{decode-as, and-then, and-not}
+use Rattle.scene_shape.proofs.Shapes.{decode-as, and-then, and-not, not-true, not-false}
 use Rattle.scene_shape.specs.Shapes.{read, shapeOf, shapeContains}
 use Rattle.scene_shape.specs.Cuts.{cutContains}
 use native.Mathlib.Omega.{arith}
@@ -18,6 +18,7 @@ use Rattle.scene_shape.proofs.+cut_contains+entry_contains.{statement}
 use Rattle.solids.proofs.solid.Solid.contains.Reads as contains-reads
 use Rattle.scene.proofs.entry.entry_at.Reads as entry-at-reads
 use Rattle.matrix.proofs.Matrix.mul_position.Reads as mul-position-reads
+use Rattle.scene_shape.proofs.takes_away.Reads as takes-away-reads
 use Rattle.scene_shape.proofs.+cut_contains+entry_contains.Tie.{close}
 
 abbrev μ-cut-contains : Measures 3 cut-contains-kinds.ps ℕ
@@ -55,7 +56,7 @@ entry-contains-below t =
     entry-contains.Pre
 
 abbrev cut-contains-claims : ℕ → cut-contains-lts.Claims
-cut-contains-claims t = (entry-contains-below t, entry-contains.Post)
+cut-contains-claims t = (entry-contains-below t, entry-contains.Post, takes-away-reads.Asked, takes-away-reads.Learnt)
 
 abbrev entry-contains-claims : ℕ → entry-contains-lts.Claims
 entry-contains-claims t = (entry-at-reads.Asked, entry-at-reads.Learnt, contains-reads.Asked, contains-reads.Learnt, mul-position-reads.Asked, mul-position-reads.Learnt, entry-contains-below t, entry-contains.Post, cut-contains-below t, cut-contains.Post)
@@ -69,32 +70,27 @@ cut-contains-entry-contains-requires-2 t c κs = (omega arith, tt)
 cut-contains-entry-contains-requires-3 : (t : ℕ) → cut-contains-lts.Need-entry-contains-requires-3 (cut-contains-claims t) (cut-contains-at t) cut-contains.Post
 cut-contains-entry-contains-requires-3 t c κs = (omega arith, tt)
 
-cut-contains-entry-contains-requires-4 : (t : ℕ) → cut-contains-lts.Need-entry-contains-requires-4 (cut-contains-claims t) (cut-contains-at t) cut-contains.Post
-cut-contains-entry-contains-requires-4 t c κs = (omega arith, tt)
-
 cut-contains-returns : (t : ℕ) → cut-contains-lts.Need-returns (cut-contains-claims t) (cut-contains-at t) cut-contains.Post
 unfolding cutContains
-cut-contains-returns t c =
-    let at1 = c .before in let if1 = at1 .if1 in
-    let at2 = at1 .before in let entry-contains = at2 .entry-contains in
-    let at3 = at2 .before in let enum-told = at3 .enum-told in
-    rw (enum-told .given .1) (and-then (entry-contains .ensures) (if1 .taken) (c .entry-contains2 .ensures))
+cut-contains-returns t c = and-not _ (c .before .entry-contains .ensures) (not-true _ (c .if1 .taken))
 
 cut-contains-returns-2 : (t : ℕ) → cut-contains-lts.Need-returns-2 (cut-contains-claims t) (cut-contains-at t) cut-contains.Post
 unfolding cutContains
-cut-contains-returns-2 t c = rw (c .before .before .enum-told .given .1) (and-not _ (c .before .entry-contains .ensures) (c .if1 .left))
+cut-contains-returns-2 t c =
+    let at1 = c .before in let if2 = at1 .if2 in
+    let at2 = at1 .before in let takes-away = at2 .takes-away in
+    let at3 = at2 .before in let if1 = at3 .if1 in
+    let at4 = at3 .before in let entry-contains = at4 .entry-contains in
+    rw (← takes-away .ensures, if2 .taken) (and-then (entry-contains .ensures) (not-false _ (if1 .left)) (ap not (c .entry-contains2 .ensures)))
 
 cut-contains-returns-3 : (t : ℕ) → cut-contains-lts.Need-returns-3 (cut-contains-claims t) (cut-contains-at t) cut-contains.Post
 unfolding cutContains
 cut-contains-returns-3 t c =
     let at1 = c .before in let if2 = at1 .if2 in
-    let at2 = at1 .before in let entry-contains3 = at2 .entry-contains3 in
-    let at3 = at2 .before in let enum-told2 = at3 .enum-told2 in
-    rw (enum-told2 .given .1) (and-then (entry-contains3 .ensures) (if2 .taken) (ap not (c .entry-contains4 .ensures)))
-
-cut-contains-returns-4 : (t : ℕ) → cut-contains-lts.Need-returns-4 (cut-contains-claims t) (cut-contains-at t) cut-contains.Post
-unfolding cutContains
-cut-contains-returns-4 t c = rw (c .before .before .enum-told2 .given .1) (and-not _ (c .before .entry-contains3 .ensures) (c .if2 .left))
+    let at2 = at1 .before in let takes-away = at2 .takes-away in
+    let at3 = at2 .before in let if1 = at3 .if1 in
+    let at4 = at3 .before in let entry-contains = at4 .entry-contains in
+    rw (← takes-away .ensures, if2 .left) (and-then (entry-contains .ensures) (not-false _ (if1 .left)) (c .entry-contains3 .ensures))
 
 entry-contains-returns : (t : ℕ) → entry-contains-lts.Need-returns (entry-contains-claims t) (entry-contains-at t) entry-contains.Post
 unfolding read shapeContains
@@ -140,16 +136,13 @@ pub +cut-contains+entry-contains-spec : {M : Type 1} → statement M
     close μ-cut-contains μ-entry-contains (λ t. cut-contains-lts.spec (cut-contains-claims t)
     (cut-contains-at t)
     cut-contains.Post
-    (λ c. search needs)
     (cut-contains-entry-contains-requires t)
-    (cut-contains-entry-contains-requires-2 t)
-    (λ c. search needs)
-    (cut-contains-entry-contains-requires-3 t)
-    (cut-contains-entry-contains-requires-4 t)
     (cut-contains-returns t)
+    (λ c κs. search needs)
+    (cut-contains-entry-contains-requires-2 t)
     (cut-contains-returns-2 t)
-    (cut-contains-returns-3 t)
-    (cut-contains-returns-4 t))
+    (cut-contains-entry-contains-requires-3 t)
+    (cut-contains-returns-3 t))
     λ t. entry-contains-lts.spec (entry-contains-claims t)
     (entry-contains-at t)
     entry-contains.Post

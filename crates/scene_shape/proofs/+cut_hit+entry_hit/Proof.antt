@@ -23,6 +23,7 @@ use Rattle.geometry.proofs.hit.Hit.no_hit.Reads as no-hit-reads
 use Rattle.geometry.proofs.ray.Ray.position.Reads as position-reads
 use Rattle.scene_shape.proofs.rescaled.Reads as rescaled-reads
 use Rattle.scene_shape.proofs.restarted.Reads as restarted-reads
+use Rattle.scene_shape.proofs.tell_of.Reads as tell-of-reads
 use Rattle.scene_shape.proofs.+cut_hit+entry_hit.Tie.{close}
 
 abbrev μ-cut-hit : Measures 3 cut-hit-kinds.ps ℕ
@@ -45,7 +46,7 @@ entry-hit-below t =
     and 3 entry-hit-kinds.ps (falls 3 entry-hit-kinds.ps _<_ μ-entry-hit t) entry-hit.Pre
 
 abbrev cut-hit-claims : ℕ → cut-hit-lts.Claims
-cut-hit-claims t = (entry-hit-below t, entry-hit.Post, both-reads.Asked, both-reads.Learnt, is-ok-reads.Asked, is-ok-reads.Learnt, position-reads.Asked, position-reads.Learnt, cut-contains-reads.Asked, cut-contains-reads.Learnt, restarted-reads.Asked, restarted-reads.Learnt, cut-hit-below t, cut-hit.Post)
+cut-hit-claims t = (entry-hit-below t, entry-hit.Post, both-reads.Asked, both-reads.Learnt, is-ok-reads.Asked, is-ok-reads.Learnt, tell-of-reads.Asked, tell-of-reads.Learnt, position-reads.Asked, position-reads.Learnt, cut-contains-reads.Asked, cut-contains-reads.Learnt, restarted-reads.Asked, restarted-reads.Learnt, cut-hit-below t, cut-hit.Post)
 
 abbrev entry-hit-claims : ℕ → entry-hit-lts.Claims
 entry-hit-claims t = (no-hit-reads.Asked, no-hit-reads.Learnt, entry-at-reads.Asked, entry-at-reads.Learnt, intersect-reads.Asked, intersect-reads.Learnt, mul-ray-reads.Asked, mul-ray-reads.Learnt, entry-hit-below t, entry-hit.Post, rescaled-reads.Asked, rescaled-reads.Learnt, cut-hit-below t, cut-hit.Post)
@@ -58,24 +59,26 @@ cut-hit-entry-hit-requires-2 t c κs = (omega arith, tt)
 
 cut-hit-returns : (t : ℕ) → cut-hit-lts.Need-returns (cut-hit-claims t) (cut-hit-at t) cut-hit.Post
 cut-hit-returns t c =
-    let at1 = c .before in let is-ok = at1 .is-ok in
-    let at3 = at1 .before .before in let n2 = at3 .n2 in
-    let at5 = at3 .before .before in let both = at5 .both in
-    let at6 = at5 .before in let entry-hit2 = at6 .entry-hit2 in
-    let at7 = at6 .before in let entry-hit = at7 .entry-hit in
-    cut-missed _ _ _ _ _ (entry-hit .ensures) (entry-hit2 .ensures) (both .ensures) (n2 .given .1) (is-ok .ensures) (c .if1 .taken)
+    let at1 = c .before in let if1 = at1 .if1 in
+    let at2 = at1 .before in let is-ok = at2 .is-ok in
+    let at4 = at2 .before .before in let n2 = at4 .n2 in
+    let at6 = at4 .before .before in let both = at6 .both in
+    let at7 = at6 .before in let entry-hit2 = at7 .entry-hit2 in
+    let at8 = at7 .before in let entry-hit = at8 .entry-hit in
+    cut-missed _ _ _ _ _ _ _ (entry-hit .ensures) (entry-hit2 .ensures) (both .ensures) (n2 .given .1) (is-ok .ensures) (if1 .taken) (c .tell-of .ensures)
 
 cut-hit-returns-2 : (t : ℕ) → cut-hit-lts.Need-returns-2 (cut-hit-claims t) (cut-hit-at t) cut-hit.Post
 cut-hit-returns-2 t c =
-    let at1 = c .before in let cut-contains = at1 .cut-contains in
-    let at2 = at1 .before in let position = at2 .position in
-    let at3 = at2 .before in let if1 = at3 .if1 in
-    let at4 = at3 .before in let is-ok = at4 .is-ok in
-    let at6 = at4 .before .before in let n2 = at6 .n2 in
-    let at8 = at6 .before .before in let both = at8 .both in
-    let at9 = at8 .before in let entry-hit2 = at9 .entry-hit2 in
-    let at10 = at9 .before in let entry-hit = at10 .entry-hit in
-    cut-inside _ _ _ _ _ (entry-hit .ensures) (entry-hit2 .ensures) (both .ensures) (n2 .given .1) (is-ok .ensures) (if1 .left) (position .ensures) (cut-contains .ensures) (c .if2 .taken)
+    let at1 = c .before in let if2 = at1 .if2 in
+    let at2 = at1 .before in let cut-contains = at2 .cut-contains in
+    let at3 = at2 .before in let position = at3 .position in
+    let at4 = at3 .before in let if1 = at4 .if1 in
+    let at5 = at4 .before in let is-ok = at5 .is-ok in
+    let at7 = at5 .before .before in let n2 = at7 .n2 in
+    let at9 = at7 .before .before in let both = at9 .both in
+    let at10 = at9 .before in let entry-hit2 = at10 .entry-hit2 in
+    let at11 = at10 .before in let entry-hit = at11 .entry-hit in
+    cut-inside _ _ _ _ _ _ _ (entry-hit .ensures) (entry-hit2 .ensures) (both .ensures) (n2 .given .1) (is-ok .ensures) (if1 .left) (position .ensures) (cut-contains .ensures) (if2 .taken) (c .tell-of2 .ensures)
 
 cut-hit-returns-3 : (t : ℕ) → cut-hit-lts.Need-returns-3 (cut-hit-claims t) (cut-hit-at t) cut-hit.Post
 cut-hit-returns-3 t c =
@@ -88,11 +91,11 @@ cut-hit-returns-3 t c =
     let at9 = at7 .before .before in let both = at9 .both in
     let at10 = at9 .before in let entry-hit2 = at10 .entry-hit2 in
     let at11 = at10 .before in let entry-hit = at11 .entry-hit in
-    cut-spent _ _ _ _ _ (entry-hit .ensures) (entry-hit2 .ensures) (both .ensures) (n2 .given .1) (is-ok .ensures) (if1 .left) (position .ensures) (cut-contains .ensures) (c .if3 .taken) (if2 .left)
+    cut-spent _ _ _ _ _ _ _ (entry-hit .ensures) (entry-hit2 .ensures) (both .ensures) (n2 .given .1) (is-ok .ensures) (if1 .left) (position .ensures) (cut-contains .ensures) (c .if3 .taken) (if2 .left)
 
 cut-hit-cut-hit-requires : (t : ℕ) → cut-hit-lts.Need-cut-hit-requires (cut-hit-claims t) (cut-hit-at t) cut-hit.Post
 cut-hit-cut-hit-requires t c κs =
-    let at16 = c .before .before .before .before .before .before .before .before .before .before .before .before .before .before .before .before in let pre = at16 .pre in
+    let at17 = c .before .before .before .before .before .before .before .before .before .before .before .before .before .before .before .before .before in let pre = at17 .pre in
     (omega (arith, pre .0), tt)
 
 cut-hit-returns-4 : (t : ℕ) → cut-hit-lts.Need-returns-4 (cut-hit-claims t) (cut-hit-at t) cut-hit.Post
@@ -101,22 +104,22 @@ cut-hit-returns-4 t c =
     let at3 = at1 .before .before in let both = at3 .both in
     let at4 = at3 .before in let entry-hit2 = at4 .entry-hit2 in
     let at5 = at4 .before in let entry-hit = at5 .entry-hit in
-    cut-refused _ _ _ _ _ (entry-hit .ensures) (entry-hit2 .ensures) (both .ensures) (n .given .1)
+    cut-refused _ _ _ _ _ _ _ (entry-hit .ensures) (entry-hit2 .ensures) (both .ensures) (n .given .1)
 
 cut-hit-returns-5 : (t : ℕ) → cut-hit-lts.Need-returns-5 (cut-hit-claims t) (cut-hit-at t) cut-hit.Post
 cut-hit-returns-5 t c =
-    let at1 = c .before in let restarted = at1 .restarted in
-    let at2 = at1 .before in let if3 = at2 .if3 in
-    let at3 = at2 .before in let if2 = at3 .if2 in
-    let at4 = at3 .before in let cut-contains = at4 .cut-contains in
-    let at5 = at4 .before in let position = at5 .position in
-    let at6 = at5 .before in let if1 = at6 .if1 in
-    let at7 = at6 .before in let is-ok = at7 .is-ok in
-    let at9 = at7 .before .before in let n2 = at9 .n2 in
-    let at11 = at9 .before .before in let both = at11 .both in
-    let at12 = at11 .before in let entry-hit2 = at12 .entry-hit2 in
-    let at13 = at12 .before in let entry-hit = at13 .entry-hit in
-    c .cut-hit .ensures ∙ rw (restarted .ensures) (cut-again _ _ _ _ _ (entry-hit .ensures) (entry-hit2 .ensures) (both .ensures) (n2 .given .1) (is-ok .ensures) (if1 .left) (position .ensures) (cut-contains .ensures) (if3 .left) (if2 .left))
+    let at2 = c .before .before in let restarted = at2 .restarted in
+    let at3 = at2 .before in let if3 = at3 .if3 in
+    let at4 = at3 .before in let if2 = at4 .if2 in
+    let at5 = at4 .before in let cut-contains = at5 .cut-contains in
+    let at6 = at5 .before in let position = at6 .position in
+    let at7 = at6 .before in let if1 = at7 .if1 in
+    let at8 = at7 .before in let is-ok = at8 .is-ok in
+    let at10 = at8 .before .before in let n2 = at10 .n2 in
+    let at12 = at10 .before .before in let both = at12 .both in
+    let at13 = at12 .before in let entry-hit2 = at13 .entry-hit2 in
+    let at14 = at13 .before in let entry-hit = at14 .entry-hit in
+    c .cut-hit .ensures ∙ rw (restarted .ensures) (cut-again _ _ _ _ _ _ _ (entry-hit .ensures) (entry-hit2 .ensures) (both .ensures) (n2 .given .1) (is-ok .ensures) (if1 .left) (position .ensures) (cut-contains .ensures) (if3 .left) (if2 .left))
 
 entry-hit-returns : (t : ℕ) → entry-hit-lts.Need-returns (entry-hit-claims t) (entry-hit-at t) entry-hit.Post
 unfolding read shapeHit
@@ -172,7 +175,9 @@ pub +cut-hit+entry-hit-spec : {M : Type 1} → statement M
     (λ c. search needs)
     (λ c. search needs)
     (λ c κs. search needs)
+    (λ c κs. search needs)
     (cut-hit-returns t)
+    (λ c κs. search needs)
     (λ c κs. search needs)
     (λ c κs. search needs)
     (cut-hit-returns-2 t)
