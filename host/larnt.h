@@ -5,7 +5,8 @@
 
    Stack, measured (docs/MEASURES.md): larnt_draw, larnt_draw_with and larnt_build need about 201 KB for
    local arrays and 512 bytes for each level of the tree, at most 1,023 levels, so 725 KB at most.
-   larnt_own_hit, larnt_own_contains, larnt_intersect, larnt_visible and larnt_occluder need about 200 KB, larnt_check 9 KB.
+   larnt_own_hit, larnt_own_contains, larnt_intersect, larnt_visible, larnt_occluder, larnt_covered and
+   larnt_covered_all need about 200 KB, larnt_check 9 KB.
    larnt_chop needs 25 KB and larnt_simplify 4 KB, however long the paths are. */
 #ifndef LARNT_H
 #define LARNT_H
@@ -100,6 +101,18 @@ uint32_t larnt_visible(LARNT_SCENE, LARNT_TREE, const double eye[3], const doubl
 /* The same with a name: the entry that hides the point, whose own distance falls short of the eye;
    LARNT_NOBODY where the point is visible. */
 uint32_t larnt_occluder(LARNT_SCENE, LARNT_TREE, const double eye[3], const double point[3], uint32_t *entry);
+
+/* The same by a walk that stops at the first solid whose distance falls short of the eye: wherever larnt_visible
+   answers, the same; where it meets 11 or 12 only after such a solid, false with 0; else the same number. This call
+   and the next are asked, as those two, only where larnt_build answered 0. */
+uint32_t larnt_covered(LARNT_SCENE, LARNT_TREE, const double eye[3], const double point[3], bool *seen);
+
+/* The same of many points, three numbers each, with one check of the scene: fills `told` with a byte a point, 1
+   seen, 2 not, or the number of the point's own refusal, 9, 11 or 12, followed by zeros. Answers 0, or 2 where
+   `tested_count` is not three numbers a point, 2 to 7 for the scene, 8 for the eye, 13 where `told` has fewer bytes
+   than there are points; `told` is then zeros throughout. */
+uint32_t larnt_covered_all(LARNT_SCENE, LARNT_TREE, const double eye[3], const double *tested, size_t tested_count,
+                           uint8_t *told, size_t told_count);
 
 /* Paths: three numbers a point, and where each path starts, in points. The result is followed by zeros in
    both slices; what is counted is points and paths. Each answers 0, or the number of the refusal: 2 and 4

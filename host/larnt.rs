@@ -138,6 +138,30 @@ pub mod raw {
             p: &[f64; 3],
             entry: &mut u32,
         );
+        fn larnt_covered(
+            node_boxes: *const f64,
+            node_boxes_count: usize,
+            node_marks: *const u32,
+            node_marks_count: usize,
+            order: *const u32,
+            order_count: usize,
+            eye: &[f64; 3],
+            p: &[f64; 3],
+            seen: &mut bool,
+        );
+        fn larnt_covered_all(
+            node_boxes: *const f64,
+            node_boxes_count: usize,
+            node_marks: *const u32,
+            node_marks_count: usize,
+            order: *const u32,
+            order_count: usize,
+            eye: &[f64; 3],
+            tested: *const f64,
+            tested_count: usize,
+            told: *mut u8,
+            told_count: usize,
+        );
         fn larnt_draw(
             view: &[f64; 22],
             out: *mut f64,
@@ -401,6 +425,42 @@ pub fn occluder(s: Scene, tree: Tree, eye: &[f64; 3], p: &[f64; 3]) -> Result<Op
     match on_tree!(larnt_occluder, s, tree, eye, p, &mut entry) {
         0 => Ok(named(entry)),
         number => Err(number),
+    }
+}
+
+/// The same by a walk that stops at the first solid that falls short: no where `visible` meets 11 or 12 only
+/// after that solid.
+pub fn covered(s: Scene, tree: Tree, eye: &[f64; 3], p: &[f64; 3]) -> Result<bool, u32> {
+    let mut seen = false;
+    match on_tree!(larnt_covered, s, tree, eye, p, &mut seen) {
+        0 => Ok(seen),
+        number => Err(number),
+    }
+}
+
+/// The same of many points, three numbers each, with one check of the scene. Fills a byte a point, then zeros: 1
+/// yes, 2 no, or the number of the point's own refusal, 9, 11 or 12.
+pub fn covered_all(
+    s: Scene,
+    tree: Tree,
+    eye: &[f64; 3],
+    tested: &[f64],
+    told: &mut [u8],
+) -> Result<(), u32> {
+    let number = on_tree!(
+        larnt_covered_all,
+        s,
+        tree,
+        eye,
+        tested.as_ptr(),
+        tested.len(),
+        told.as_mut_ptr(),
+        told.len()
+    );
+    if number == 0 {
+        Ok(())
+    } else {
+        Err(number)
     }
 }
 

@@ -8,6 +8,7 @@
 
 mod calls;
 mod core;
+mod covers;
 mod demand;
 mod draw_inputs;
 mod draws;
@@ -34,11 +35,12 @@ use std::process::ExitCode;
 /// Its name, what it compares, and what it times.
 type Layer = (&'static str, fn(&mut Run), fn());
 
-const LAYERS: [Layer; 6] = [
+const LAYERS: [Layer; 7] = [
     ("roots", roots::compare, roots::speed),
     ("leaves", leaves::compare, leaves::speed),
     ("scenes", scenes::compare, scenes::speed),
     ("trees", trees::compare, trees::speed),
+    ("covers", covers::compare, covers::speed),
     ("stages", stages::compare, stages::speed),
     ("draws", draws::compare, draws::speed),
 ];

@@ -158,7 +158,7 @@ pub fn full(rng: &mut Rng) -> Case {
 
 /// A solid cut by one so small that its misses come back as 0.01 or so: the cut restarts every two
 /// centimetres on the way to the surface, which may be as far away as 64 restarts go, or farther.
-fn many_restarts(rng: &mut Rng) -> Case {
+pub fn many_restarts(rng: &mut Rng) -> Case {
     let mut yard = Yard::new(rng);
     yard.grain = Grain::Any;
     let about = inputs::place(yard.rng, yard.grain);

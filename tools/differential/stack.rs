@@ -139,6 +139,11 @@ fn questions() {
     println!("visible: {bytes} bytes, seen {ok}");
     let bytes = taken(|| assert_eq!((CORE.occluder)(&scene, &rows, &eye, &point, &mut entry), 0));
     println!("occluder: {bytes} bytes, entry {entry}");
+    let bytes = taken(|| assert_eq!((CORE.covered)(&scene, &rows, &eye, &point, &mut ok), 0));
+    println!("covered: {bytes} bytes, seen {ok}");
+    let mut told = [0];
+    let bytes = taken(|| assert_eq!((CORE.covered_all)(&scene, &rows, &eye, &point, &mut told), 0));
+    println!("covered of many: {bytes} bytes, told {}", told[0]);
 }
 
 /// A draw of many equal boxes, whose tree is deepest; of a line to and fro, which is split most often;

@@ -4,7 +4,7 @@ use crate::calls::alike;
 use crate::core::{direct, lent, numbered};
 use crate::host::{self, raw};
 use crate::scene_calls::{Found, MOST, UNFILLED, Words, copy, number, put, put_floats, unfilled};
-use crate::tree_inputs::{Build, Rays};
+use crate::tree_inputs::{Build, Many, Rays};
 use oracle::Scene;
 
 /// The most nodes of a tree.
@@ -48,6 +48,8 @@ pub struct TreeCalls {
     pub intersect: fn(&Scene, &Rows, &[f64; 6], &mut f64, &mut bool, &mut u32) -> u32,
     pub visible: fn(&Scene, &Rows, &[f64; 3], &[f64; 3], &mut bool) -> u32,
     pub occluder: fn(&Scene, &Rows, &[f64; 3], &[f64; 3], &mut u32) -> u32,
+    pub covered: fn(&Scene, &Rows, &[f64; 3], &[f64; 3], &mut bool) -> u32,
+    pub covered_all: AllCall,
 }
 
 pub const CORE: TreeCalls = TreeCalls {
@@ -55,6 +57,8 @@ pub const CORE: TreeCalls = TreeCalls {
     intersect: core_intersect,
     visible: core_visible,
     occluder: core_occluder,
+    covered: core_covered,
+    covered_all: core_covered_all,
 };
 
 pub const HOST: TreeCalls = TreeCalls {
@@ -62,6 +66,8 @@ pub const HOST: TreeCalls = TreeCalls {
     intersect: host_intersect,
     visible: host_visible,
     occluder: host_occluder,
+    covered: host_covered,
+    covered_all: host_covered_all,
 };
 
 /// A direct call on a scene and its tree.
@@ -115,6 +121,21 @@ fn core_occluder(s: &Scene, rows: &Rows, eye: &[f64; 3], point: &[f64; 3], entry
     on_rows!(larnt_occluder, s, rows, eye, point, entry)
 }
 
+fn core_covered(s: &Scene, rows: &Rows, eye: &[f64; 3], point: &[f64; 3], seen: &mut bool) -> u32 {
+    on_rows!(larnt_covered, s, rows, eye, point, seen)
+}
+
+fn core_covered_all(
+    s: &Scene,
+    rows: &Rows,
+    eye: &[f64; 3],
+    tested: &[f64],
+    told: &mut [u8],
+) -> u32 {
+    let (points, bytes) = ((tested.as_ptr(), tested.len()), (told.as_mut_ptr(), told.len()));
+    on_rows!(larnt_covered_all, s, rows, eye, points.0, points.1, bytes.0, bytes.1)
+}
+
 fn host_build(s: &Scene, rows: &mut Rows) -> u32 {
     let number;
     let built = host::build(lent(s), &mut rows.node_boxes, &mut rows.node_marks, &mut rows.order);
@@ -150,7 +171,23 @@ fn host_occluder(s: &Scene, rows: &Rows, eye: &[f64; 3], point: &[f64; 3], entry
     number
 }
 
-/// The walk and the eye test of crate host_bench: on a scene that is checked already, with its inverses.
+fn host_covered(s: &Scene, rows: &Rows, eye: &[f64; 3], point: &[f64; 3], seen: &mut bool) -> u32 {
+    let number;
+    (number, *seen) = numbered(host::covered(lent(s), rows.lent(), eye, point));
+    number
+}
+
+fn host_covered_all(
+    s: &Scene,
+    rows: &Rows,
+    eye: &[f64; 3],
+    tested: &[f64],
+    told: &mut [u8],
+) -> u32 {
+    numbered(host::covered_all(lent(s), rows.lent(), eye, tested, told)).0
+}
+
+/// The walks and the eye test of crate host_bench: on a scene that is checked already, with its inverses.
 mod bench {
     #[link(name = "host_bench", kind = "static")]
     unsafe extern "C" {
@@ -173,6 +210,23 @@ mod bench {
             entry: &mut u32,
         ) -> u32;
         pub fn bench_visible(
+            numbers: *const f64,
+            numbers_count: usize,
+            inverses: *const f64,
+            inverses_count: usize,
+            marks: *const u32,
+            marks_count: usize,
+            node_boxes: *const f64,
+            node_boxes_count: usize,
+            node_marks: *const u32,
+            node_marks_count: usize,
+            order: *const u32,
+            order_count: usize,
+            eye: &[f64; 3],
+            point: &[f64; 3],
+            seen: &mut bool,
+        ) -> u32;
+        pub fn bench_covered(
             numbers: *const f64,
             numbers_count: usize,
             inverses: *const f64,
@@ -239,6 +293,10 @@ impl Checked<'_> {
     pub fn visible(&self, eye: &[f64; 3], point: &[f64; 3], seen: &mut bool) -> u32 {
         inner!(bench_visible, self, eye, point, seen)
     }
+
+    pub fn covered(&self, eye: &[f64; 3], point: &[f64; 3], seen: &mut bool) -> u32 {
+        inner!(bench_covered, self, eye, point, seen)
+    }
 }
 
 // Answers as words.
@@ -272,6 +330,51 @@ pub fn rust_build(scene: &Scene, rows: &mut Rows) -> u32 {
     number(&answer)
 }
 
+/// The answer of many points, then the slice of bytes.
+pub fn covered_all(call: AllCall, case: &Many) -> Words {
+    let mut rows = Rows::ample();
+    (CORE.build)(&case.scene, &mut rows);
+    let mut told = vec![7; case.room];
+    let number = call(&case.scene, &rows, &case.eye, &case.tested, &mut told);
+    let mut words = vec![u64::from(number)];
+    put(&mut words, told.len(), |k| u64::from(told[k]));
+    Words(words)
+}
+
+/// A call on many points.
+pub type AllCall = fn(&Scene, &Rows, &[f64; 3], &[f64], &mut [u8]) -> u32;
+
+pub fn rust_covered_all(case: &Many) -> Words {
+    let answers = rust_bytes(case);
+    let number = number(&answers);
+    let bytes = answers.unwrap_or_default();
+    let mut words = vec![u64::from(number)];
+    put(&mut words, bytes.len(), |k| u64::from(bytes[k]));
+    Words(words)
+}
+
+fn rust_bytes(case: &Many) -> oracle::Answer<Vec<u8>> {
+    let refused = |number| Err(oracle::Trouble::Refused(number));
+    if case.tested.len() % 3 != 0 {
+        return refused(2);
+    }
+    let entries = oracle::accepted(&case.scene)?;
+    oracle::check::measures(&case.eye)?;
+    if case.room < case.tested.len() / 3 {
+        return refused(13);
+    }
+    let tree = oracle::tree(&entries);
+    let byte = |point: &[f64]| {
+        let answer = oracle::covered_built(&tree, case.eye, point.try_into().unwrap());
+        match answer {
+            Ok(true) => 1,
+            Ok(false) => 2,
+            _ => number(&answer) as u8,
+        }
+    };
+    Ok(case.tested.chunks(3).map(byte).collect())
+}
+
 /// Number, t and ok, or number and seen.
 pub type Told = [u64; 3];
 
@@ -303,10 +406,21 @@ pub fn core_hits(case: &Rays) -> Vec<Told> {
 }
 
 pub fn core_sights(case: &Rays) -> Vec<Told> {
+    core_eye_tests(case, |calls| calls.visible)
+}
+
+pub fn core_covers(case: &Rays) -> Vec<Told> {
+    core_eye_tests(case, |calls| calls.covered)
+}
+
+/// A call that asks whether the eye sees a point.
+type EyeTest = fn(&Scene, &Rows, &[f64; 3], &[f64; 3], &mut bool) -> u32;
+
+fn core_eye_tests(case: &Rays, which: fn(&TreeCalls) -> EyeTest) -> Vec<Told> {
     by_calls(case, |calls, rows, k, asked| {
         let mut seen = k % 4 < 2;
         let (eye, point) = eye_and_point(asked);
-        let number = (calls.visible)(&case.scene, rows, eye, point, &mut seen);
+        let number = which(calls)(&case.scene, rows, eye, point, &mut seen);
         told_sight(number, seen)
     })
 }
@@ -331,6 +445,17 @@ pub fn inner_hits(case: &Rays) -> Vec<Told> {
 }
 
 pub fn inner_sights(case: &Rays) -> Vec<Told> {
+    inner_eye_tests(case, |checked, eye, point, seen| checked.visible(eye, point, seen))
+}
+
+pub fn inner_covers(case: &Rays) -> Vec<Told> {
+    inner_eye_tests(case, |checked, eye, point, seen| checked.covered(eye, point, seen))
+}
+
+/// A call that asks the same of a scene that is checked already.
+type InnerTest = fn(&Checked<'_>, &[f64; 3], &[f64; 3], &mut bool) -> u32;
+
+fn inner_eye_tests(case: &Rays, which: InnerTest) -> Vec<Told> {
     inner(case, |checked, k, asked| {
         let (eye, point) = eye_and_point(asked);
         if oracle::check::measures(eye).is_err() {
@@ -340,7 +465,7 @@ pub fn inner_sights(case: &Rays) -> Vec<Told> {
             return told_sight(9, false);
         }
         let mut seen = k % 4 < 2;
-        let number = checked.visible(eye, point, &mut seen);
+        let number = which(checked, eye, point, &mut seen);
         told_sight(number, seen)
     })
 }
@@ -370,6 +495,18 @@ pub fn rust_sights(case: &Rays) -> Vec<Told> {
         let (eye, point) = eye_and_point(asked);
         // 9 precedes the test for a length of 0
         let answer = oracle::visible_built(tree, *eye, *point);
+        told_sight(number(&answer), answer.unwrap_or(false))
+    })
+}
+
+/// The same by the walk that stops; `behind` is told each 11 or 12 that the full walk meets only after a cover.
+pub fn rust_covers(case: &Rays, behind: &dyn Fn(u32)) -> Vec<Told> {
+    rust(case, |tree, asked| {
+        let (eye, point) = eye_and_point(asked);
+        let answer = oracle::covered_built(tree, *eye, *point);
+        if answer == Ok(false) {
+            behind(number(&oracle::visible_built(tree, *eye, *point)));
+        }
         told_sight(number(&answer), answer.unwrap_or(false))
     })
 }

@@ -19,6 +19,31 @@ pub struct Rays {
     pub asked: Vec<[f64; 6]>,
 }
 
+/// A scene, an eye, points, and how many bytes there are for their answers.
+pub struct Many {
+    pub scene: Scene,
+    pub eye: Point,
+    pub tested: Vec<f64>,
+    pub room: usize,
+}
+
+impl Shown for Many {
+    fn size(&self) -> u32 {
+        self.case().size()
+    }
+
+    fn text(&self) -> String {
+        format!("{} {}", self.case().text(), self.room)
+    }
+}
+
+impl Many {
+    fn case(&self) -> Case {
+        let asked = self.eye.iter().chain(&self.tested).copied().collect();
+        Case { scene: self.scene.clone(), i: 0, asked }
+    }
+}
+
 impl Shown for Build {
     fn size(&self) -> u32 {
         self.case().size()
@@ -131,6 +156,106 @@ pub fn sights(rng: &mut Rng) -> Rays {
         })
         .collect();
     Rays { scene, asked }
+}
+
+/// Eyes and points as above; in some cases a solid stands before what meets 11 or 12.
+pub fn covers(rng: &mut Rng) -> Rays {
+    match rng.below(100) {
+        0..8 => steep_cover(rng),
+        8..20 => restart_cover(rng),
+        _ => sights(rng),
+    }
+}
+
+/// Boxes in boxes, whose walk meets 12, and a beam that a walk tries before or after them.
+fn steep_cover(rng: &mut Rng) -> Rays {
+    let mut scene = Scene::default();
+    let (n, low) = (58 + rng.below(11), rng.pick(&[0.5, 1.0, 2.0, 50.0, 200.0]));
+    let (before, side) = (rng.chance(50), rng.pick(&[-8e5, -8e5, -8e5, 8e5, -1.0]));
+    let beam = |scene: &mut Scene| {
+        let (a, b) = if side < 0.0 { (side, 1.0) } else { (-1.0, side) };
+        cube(scene, [a, -1.0, low], [b, 1.0, low + 0.25]);
+    };
+    if before {
+        beam(&mut scene);
+    }
+    let mut size = 1e-57;
+    for _ in 0..n {
+        cube(&mut scene, [0.0; 3], [size; 3]);
+        size *= 8.0;
+    }
+    if !before {
+        beam(&mut scene);
+    }
+    let asked = (0..EACH)
+        .map(|_| {
+            [
+                0.0,
+                0.0,
+                rng.pick(&[100.0, 1.5, 9e5, 60.0]),
+                0.0,
+                0.0,
+                rng.pick(&[-1.0, -5.0, 0.0, -0.25]),
+            ]
+        })
+        .collect();
+    Rays { scene, asked }
+}
+
+/// A cut that may need a 65th restart, and one or two more solids about the points, before or after it.
+fn restart_cover(rng: &mut Rng) -> Rays {
+    let Case { scene: cut, asked: ray, .. } = scene_inputs::many_restarts(rng);
+    let origin: Point = [ray[0], ray[1], ray[2]];
+    let way = [ray[3], ray[4], ray[5]];
+    let eye = inputs::along(origin, way, rng.between(1.0, 9.0));
+    let mut more = Scene::default();
+    for _ in 0..1 + rng.below(2) {
+        let at = inputs::along(origin, way, rng.between(0.0, 3.0));
+        let half = rng.between(0.01, 0.5);
+        simple(rng, &mut more, (at, [half; 3]));
+    }
+    let scene = if rng.chance(70) { joined(more, cut) } else { joined(cut, more) };
+    let asked = (0..EACH)
+        .map(|_| {
+            let point = inputs::along(origin, way, rng.between(-0.5, 0.5));
+            [eye[0], eye[1], eye[2], point[0], point[1], point[2]]
+        })
+        .collect();
+    Rays { scene, asked }
+}
+
+/// The entries of two scenes without lines, the second's parts raised.
+fn joined(mut a: Scene, b: Scene) -> Scene {
+    let by = a.entries() as u32;
+    a.numbers.extend(&b.numbers);
+    for m in b.marks.chunks(4) {
+        let raise = |k: usize| match (m[0], k) {
+            (6, 2) | (7, 2 | 3) => m[k] + by,
+            _ => m[k],
+        };
+        a.marks.extend([m[0], m[1], raise(2), raise(3)]);
+    }
+    a
+}
+
+/// The points of such a case with one of its eyes; now and then a slice that does not fit.
+pub fn many(rng: &mut Rng) -> Many {
+    let Rays { scene, asked } = covers(rng);
+    let k = rng.below(asked.len());
+    let eye = *asked[k].first_chunk().unwrap();
+    let mut tested: Vec<f64> = asked.iter().flat_map(|a| a[3..].iter().copied()).collect();
+    tested.truncate(3 * rng.below(EACH + 1));
+    if rng.chance(3) {
+        tested.push(0.5);
+    }
+    let n = tested.len() / 3;
+    let room = match rng.below(20) {
+        0 => n.saturating_sub(1),
+        1 => rng.below(n + 1),
+        2..8 => n + rng.below(9),
+        _ => n,
+    };
+    Many { scene, eye, tested, room }
 }
 
 /// A scene for rays, and whether its tree is deeper than the walk's places.

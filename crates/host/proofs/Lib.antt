@@ -1,3 +1,4 @@
 pub mod Calls
 pub mod TreeCalls
+pub mod CoverCalls
 pub mod StageCalls

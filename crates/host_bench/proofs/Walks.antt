@@ -10,6 +10,8 @@ use Rattle.tree_walk.specs.Walks.{entryHit, walkRows}
 use Rattle.tree_walk.specs.declared.Found.{Found}
 use Rattle.tree_sight.specs.Sights.{sees}
 use Rattle.tree_sight.specs.declared.Sight.{Sight}
+use Rattle.tree_cover.specs.Seeking.{seekRows, coveredBy}
+use Rattle.tree_cover.specs.declared.Sought.{Sought}
 use Rattle.host.specs.TreeCalls.{sightNumber, inSight}
 
 module _ (numbers inverses : List Float) (marks : List ℕ) (nodeBoxes : List Float) (nodeMarks order : List ℕ) where
@@ -24,4 +26,14 @@ module _ (numbers inverses : List Float) (marks : List ℕ) (nodeBoxes : List Fl
       → (n ≡ sightNumber (sees walked f q)) × (seen ≡ inSight (sees walked f q))
   sees-so {e} {f} {p} {q} s x y n b =
       let k = s ∙ ap (λ (v : Vector). sees walked v p) x ∙ ap (sees walked f) y in
+      (n ∙ ap sightNumber k, b ∙ ap inSight k)
+
+  abbrev sought : Float → Ray → Sought
+  sought d r = seekRows d (entryHit numbers inverses marks r) r nodeBoxes nodeMarks order
+
+  pub covered-so : {e f p q : Vector} {s : Sight} {n : ℕ} {seen : Bool}
+      → s ≡ coveredBy sought e p → e ≡ f → p ≡ q → n ≡ sightNumber s → seen ≡ inSight s
+      → (n ≡ sightNumber (coveredBy sought f q)) × (seen ≡ inSight (coveredBy sought f q))
+  covered-so {e} {f} {p} {q} s x y n b =
+      let k = s ∙ ap (λ (v : Vector). coveredBy sought v p) x ∙ ap (coveredBy sought f) y in
       (n ∙ ap sightNumber k, b ∙ ap inSight k)

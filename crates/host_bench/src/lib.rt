@@ -1,10 +1,12 @@
-// The walk and the eye test on a scene that is checked already: for timing them, and for many rays on one
+// The walks and the eye test on a scene that is checked already: for timing them, and for many rays on one
 // scene. No host links this; its calls are those of crate host.
 ghost use mathlib.Core.Path.{_≡_};
+ghost use lib.Ieee.{Float};
 ghost use Rattle.geometry.specs.declared.ray.Ray.{Ray};
 ghost use Rattle.rows.specs.Points.{pointOf};
 ghost use Rattle.tree_walk.specs.Walks.{entryHit, walkRows};
 ghost use Rattle.tree_sight.specs.Sights.{sees};
+ghost use Rattle.tree_cover.specs.Seeking.{seekRows, coveredBy};
 ghost use Rattle.host.specs.Calls.{rayOfRow};
 ghost use Rattle.host.specs.TreeCalls as TreeCalls;
 use geometry::ray::Ray;
@@ -95,6 +97,35 @@ pub extern "C" fn bench_visible(
     ensures { λ r. ⌜ TreeCalls.SightTold (sees (λ (s : Ray). walkRows (entryHit (now (numbers .entry)) (now (inverses .entry)) (now (marks .entry)) s) s (now («node_boxes» .entry)) (now («node_marks» .entry)) (now (order .entry))) (pointOf (now (eye .entry))) (pointOf (now (p .entry)))) r (now (seen .exit)) ⌝ }
 {
     let s = tree_sight::visible(
+        numbers,
+        inverses,
+        marks,
+        node_boxes,
+        node_marks,
+        order,
+        point(eye),
+        point(p),
+    );
+    *seen = host::trees::in_sight(s);
+    host::trees::sight_number(s)
+}
+
+// The same by the walk that stops.
+#[no_mangle]
+pub extern "C" fn bench_covered(
+    numbers: &[f64],
+    inverses: &[f64],
+    marks: &[u32],
+    node_boxes: &[f64],
+    node_marks: &[u32],
+    order: &[u32],
+    eye: &[f64; 3],
+    p: &[f64; 3],
+    seen: &mut bool,
+) -> u32
+    ensures { λ r. ⌜ TreeCalls.SightTold (coveredBy (λ (d : Float) (s : Ray). seekRows d (entryHit (now (numbers .entry)) (now (inverses .entry)) (now (marks .entry)) s) s (now («node_boxes» .entry)) (now («node_marks» .entry)) (now (order .entry))) (pointOf (now (eye .entry))) (pointOf (now (p .entry)))) r (now (seen .exit)) ⌝ }
+{
+    let s = tree_cover::covered(
         numbers,
         inverses,
         marks,

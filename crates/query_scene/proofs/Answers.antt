@@ -60,7 +60,7 @@ module _ (s : Scene) (n : ℕ) (is : checkOf s ≡ Accepted n) where
 
   -- with the inverses that it left, the walk meets the scene's own solids
   module _ (L : ℕ) (vs : List Float) (left : vs ≡ padded zeroF L (inversesOf s)) (bs : List Float) (ms os : List ℕ) where
-    hits-are : (r : Ray) → entryHit (s .numbers) vs (s .marks) r ≡ ownHits s r
+    pub hits-are : (r : Ray) → entryHit (s .numbers) vs (s .marks) r ≡ ownHits s r
     unfolding entryHit
     hits-are r = fun-ext (λ (i : ℕ). ap (λ (x : Shape). shapeHit x r) (own-solid s n is L vs left i))
 

@@ -26,7 +26,8 @@ use Rattle.tree_walk.specs.declared.Found.the-variants.{Best}
 use Rattle.tree_walk.specs.Walks.{nothing, scan, backward, childrenOf, leafEntries, visit, walkOn, walkRows}
 use Rattle.tree_nodes.specs.Members.{Sensible}
 use Rattle.tree_nodes.proofs.Nodes.{node-at}
-use Rattle.tree_walk.proofs.Turns.{walk-none, walk-gone, walk-skip, walk-leaf}
+use Rattle.tree_walk.proofs.Rounds.{round-gone, round-skip, round-leaf}
+use Rattle.tree_walk.proofs.Turns.{walk-none, walk-rounds}
 use Rattle.tree_walk.proofs.Stacks.{visits, visits-leaf, visits-split, onward-same, onward-best}
 
 -- ---- a tree that stands among the nodes
@@ -221,9 +222,9 @@ module _ (hit : ℕ → Struck) (r : Ray) (N : ℕ → Node) (places : ℕ) (ord
   lone zero c a = refl
   lone (suc k) c a = by-test (ltb 0 places)
       (λ h. by-test (skips (boxTest (N 0 .bx) r) (best .hit .t))
-      (λ s. walk-skip hit r N places order k 0 [] best h s ∙ walk-none hit r N places order k best)
-      (λ s. walk-leaf hit r N places order k 0 [] best h s (rw a) ∙ rw c (walk-none hit r N places order k best)))
-      (λ h. walk-gone hit r N places order k 0 [] best h ∙ walk-none hit r N places order k best)
+      (λ s. round-skip (walk-rounds hit r N places order) k 0 [] best h s ∙ walk-none hit r N places order k best)
+      (λ s. round-leaf (walk-rounds hit r N places order) k 0 [] best h s (rw a) ∙ rw c (walk-none hit r N places order k best)))
+      (λ h. round-gone (walk-rounds hit r N places order) k 0 [] best h ∙ walk-none hit r N places order k best)
 
 -- The walk of marks that are zeros throughout finds nothing.
 pub walk-of-zeros : (hit : ℕ → Struck) (r : Ray) (boxes : List Float) (M : ℕ) (order : List ℕ) → walkRows hit r boxes (padded 0 M []) order ≡ Best nothing

@@ -1,3 +1,4 @@
+pub mod Rounds
 pub mod Turns
 pub mod Stacks
 pub mod Layouts

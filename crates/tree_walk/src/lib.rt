@@ -31,7 +31,7 @@ pub struct Children {
 }
 
 // The best before any solid is tried.
-fn nothing() -> Nearest
+pub fn nothing() -> Nearest
     ensures { λ r. ⌜ r ≡ Walks.nothing ⌝ }
 {
     Nearest {
@@ -50,7 +50,7 @@ pub fn entry_hit(numbers: &[f64], inverses: &[f64], marks: &[u32], r: Ray, i: us
     scene_shape::entry_hit(numbers, inverses, marks, i, r, 8)
 }
 
-fn nearer(i: u32, h: Hit, best: Nearest) -> Nearest
+pub fn nearer(i: u32, h: Hit, best: Nearest) -> Nearest
     ensures { λ r. ⌜ r ≡ Walks.nearer i h best ⌝ }
 {
     if h.t < best.hit.t {
@@ -106,7 +106,7 @@ fn scan(
 }
 
 // Whether the walk passes a box by.
-fn skip(b: BBox, r: Ray, best: f64) -> bool
+pub fn skip(b: BBox, r: Ray, best: f64) -> bool
     ensures { λ s. ⌜ s ≡ skips (boxTest b r) best ⌝ }
 {
     let s = b.intersect(r);
@@ -119,7 +119,7 @@ fn skip(b: BBox, r: Ray, best: f64) -> bool
     s.tmin >= best
 }
 
-fn is_leaf(count: u32, axis: u32) -> bool
+pub fn is_leaf(count: u32, axis: u32) -> bool
     ensures { λ s. ⌜ s ≡ (eqb axis 0 || ltb 0 count) ⌝ }
 {
     if axis == 0 {
@@ -128,7 +128,7 @@ fn is_leaf(count: u32, axis: u32) -> bool
     count > 0
 }
 
-fn backward(r: Ray, axis: u32) -> bool
+pub fn backward(r: Ray, axis: u32) -> bool
     ensures { λ s. ⌜ s ≡ Walks.backward r axis ⌝ }
 {
     if axis == 1 {
@@ -141,7 +141,7 @@ fn backward(r: Ray, axis: u32) -> bool
 }
 
 // The first child stands at a, the second one after it.
-fn sided(a: usize, back: bool) -> Children
+pub fn sided(a: usize, back: bool) -> Children
     requires { ⌜ a < 4294967296 ⌝ }
     ensures { λ r. ⌜ r ≡ Walks.childrenOf a back ⌝ }
 {

@@ -203,6 +203,55 @@ pub fn visible_built(tree: &Tree<limited::Drawn>, eye: [f64; 3], point: [f64; 3]
     within(Room::ENDLESS, || limited::visible(tree, eye, point))
 }
 
+/// Whether the eye sees a point, as request (x) has it: where the full walk meets 11 or 12 only after a solid
+/// that falls short, no.
+pub fn covered_built(tree: &Tree<limited::Drawn>, eye: [f64; 3], point: [f64; 3]) -> Answer<bool> {
+    match visible_built(tree, eye, point) {
+        Err(Trouble::Refused(11 | 12)) if falls_short(tree, eye, point) => Ok(false),
+        answer => answer,
+    }
+}
+
+/// larnt's walk again, from its nodes and shapes: whether it tries a solid that falls short before it meets 11
+/// or 12.
+fn falls_short(tree: &Tree<limited::Drawn>, eye: [f64; 3], point: [f64; 3]) -> bool {
+    use larnt_limited::{axis::Axis, hit::Hit, ray::Ray, shape::Shape};
+    let (eye, point) = (limited::vector(eye), limited::vector(point));
+    let length = eye.sub(point).length();
+    let r = Ray::new(point, eye.sub(point).normalize());
+    let (mut best, mut waiting) = (Hit::no_hit().t, vec![0]);
+    while let Some(i) = waiting.pop() {
+        let node = &tree.nodes[i];
+        let (tmin, tmax) = node.bx.intersect(r);
+        if tmax < tmin || tmax <= 0.0 || tmin >= best {
+            continue;
+        }
+        let first = node.left_first;
+        let backward = match (node.axis, node.count) {
+            (Axis::X, 0) => r.direction.x < 0.0,
+            (Axis::Y, 0) => r.direction.y < 0.0,
+            (Axis::Z, 0) => r.direction.z < 0.0,
+            _ => {
+                for shape in &tree.shapes()[first..first + node.count] {
+                    let Ok(hit) = within(Room::ENDLESS, || shape.intersect(r)) else {
+                        return false;
+                    };
+                    if hit.t < length {
+                        return true;
+                    }
+                    best = if hit.t < best { hit.t } else { best };
+                }
+                continue;
+            }
+        };
+        if waiting.len() + 2 > 64 {
+            return false;
+        }
+        waiting.extend(if backward { [first, first + 1] } else { [first + 1, first] });
+    }
+    false
+}
+
 /// What entry `i` alone returns for a ray: no tree and no other solid.
 pub fn own_hit(scene: &Scene, i: usize, ray: [f64; 6]) -> Answer<Hit> {
     use larnt_limited::shape::Shape;

@@ -1,26 +1,29 @@
 use mathlib.Core.Path.{refl}
 use native.Mathlib.Omega.{arith}
 use borrow.Author.Needs.{needs}
-use Rattle.tree_walk.specs.Walks.{entryHit}
-use Rattle.tree_walk.proofs.Turns.{Walking, walking-start, walking-empty, walking-end, walking-gone, walking-box, walking-marks, walking-skip, walking-refused, walking-leaf, walking-full, walking-down}
+use Rattle.tree_walk.specs.Walks.{entryHit, walkOn, walkRows}
+use Rattle.tree_nodes.specs.Nodes.{nodeAt, placesOf}
+use Rattle.tree_walk.proofs.Rounds.{Walking, walking-start, walking-empty, walking-end, walking-gone, walking-box, walking-marks, walking-skip, walking-into, walking-past, walking-full, walking-down}
+use Rattle.tree_walk.proofs.Turns.{walk-rounds, leaf-refused, leaf-passed}
 use Rattle.tree_walk.proofs.intersect.Statement.{statement}
 use Rattle.tree_walk.proofs.intersect.Tie as tie
 
 abbrev Inv-loop : tie.InvT-loop
 Inv-loop numbers inverses marks boxes links order r many best₀ stack₀ sp₀ rounds₀ best stack sp rounds =
-    Walking (entryHit numbers inverses marks r) r boxes links order many stack sp rounds best
+    Walking (walkOn (entryHit numbers inverses marks r) r (nodeAt boxes links) (placesOf boxes links) order) (walkRows (entryHit numbers inverses marks r) r boxes links order) boxes links many stack sp rounds best
 
 abbrev μ-loop : tie.MeasureT-loop
 μ-loop numbers inverses marks boxes links order r many best₀ stack₀ sp₀ rounds₀ best stack sp rounds = rounds
 
 loop-holds : tie.Need-loop-holds Inv-loop μ-loop
-loop-holds c = walking-start _ _ _ _ _ _ _ _ (c .before .places .ensures) refl refl (c .nothing .ensures)
+unfolding walkRows
+loop-holds c = walking-start refl (c .before .places .ensures) refl refl (c .nothing .ensures)
 
 sub-rounds : tie.Need-sub-rounds Inv-loop μ-loop
 sub-rounds c = omega (arith, c .loop-test .taken)
 
 returns : tie.Need-returns Inv-loop μ-loop
-returns c = walking-empty _ _ _ _ _ _ _ _ _ _ (c .before .before .loop .inv) (c .if1 .taken)
+returns c = walking-empty (walk-rounds _ _ _ _ _) (c .before .before .loop .inv) (c .if1 .taken)
 
 sub-sp : tie.Need-sub-sp Inv-loop μ-loop
 sub-sp c = omega (arith, c .if1 .left)
@@ -32,10 +35,10 @@ loop-less : tie.Need-loop-less Inv-loop μ-loop
 loop-less c = omega (arith, c .before .before .loop-test .taken)
 
 loop-again : tie.Need-loop-again Inv-loop μ-loop
-loop-again c = walking-gone _ _ _ _ _ _ _ _ _ _ (c .before .before .before .loop .inv) (c .before .before .loop-test .taken) (c .before .if1 .left) (c .if2 .taken)
+loop-again c = walking-gone (walk-rounds _ _ _ _ _) (c .before .before .before .loop .inv) (c .before .before .loop-test .taken) (c .before .if1 .left) (c .if2 .taken)
 
 read-box-requires : tie.Need-read-box-requires Inv-loop μ-loop
-read-box-requires c κs = walking-box _ _ _ _ _ _ _ _ _ _ (c .before .before .before .loop .inv) (c .before .before .loop-test .taken) (c .before .if1 .left) (c .if2 .left)
+read-box-requires c κs = walking-box (walk-rounds _ _ _ _ _) (c .before .before .before .loop .inv) (c .before .before .loop-test .taken) (c .before .if1 .left) (c .if2 .left)
 
 loop-less-2 : tie.Need-loop-less-2 Inv-loop μ-loop
 loop-less-2 c =
@@ -50,7 +53,7 @@ loop-again-2 c =
     let at4 = at3 .before in let if1 = at4 .if1 in
     let at5 = at4 .before in let loop-test = at5 .loop-test in
     let at6 = at5 .before in let loop = at6 .loop in
-    walking-skip _ _ _ _ _ _ _ _ _ _ (loop .inv) (loop-test .taken) (if1 .left) (if2 .left)
+    walking-skip (walk-rounds _ _ _ _ _) (loop .inv) (loop-test .taken) (if1 .left) (if2 .left)
     _ _ (read-box .ensures) (skip .ensures) (c .if3 .taken)
 
 read-triple-requires : tie.Need-read-triple-requires Inv-loop μ-loop
@@ -59,7 +62,7 @@ read-triple-requires c κs =
     let at4 = at3 .before in let if1 = at4 .if1 in
     let at5 = at4 .before in let loop-test = at5 .loop-test in
     let at6 = at5 .before in let loop = at6 .loop in
-    walking-marks _ _ _ _ _ _ _ _ _ _ (loop .inv) (loop-test .taken) (if1 .left) (if2 .left)
+    walking-marks (walk-rounds _ _ _ _ _) (loop .inv) (loop-test .taken) (if1 .left) (if2 .left)
 
 scan-requires : tie.Need-scan-requires Inv-loop μ-loop
 scan-requires c κs = omega (arith, c .before .before .before .index .ensures .1, c .index2 .ensures .1)
@@ -80,9 +83,11 @@ returns-2 c =
     let at13 = at12 .before in let if1 = at13 .if1 in
     let at14 = at13 .before in let loop-test = at14 .loop-test in
     let at15 = at14 .before in let loop = at15 .loop in
-    walking-refused _ _ _ _ _ _ _ _ _ _ (loop .inv) (loop-test .taken) (if1 .left) (if2 .left)
+    leaf-refused _ _ (scan .ensures) _ _
+    (walking-into (walk-rounds _ _ _ _ _) (loop .inv) (loop-test .taken) (if1 .left) (if2 .left)
     _ _ (read-box .ensures) (skip .ensures) (if3 .left) _ (read-triple .ensures) _ (is-leaf .ensures)
-    _ (index .ensures .0) _ (index2 .ensures .0) _ (scan .ensures) (if4 .taken) _ (a .given .1)
+    _ (index .ensures .0) _ (index2 .ensures .0) (if4 .taken))
+    _ (a .given .1)
 
 loop-less-3 : tie.Need-loop-less-3 Inv-loop μ-loop
 loop-less-3 c =
@@ -105,9 +110,12 @@ loop-again-3 c =
     let at13 = at12 .before in let if1 = at13 .if1 in
     let at14 = at13 .before in let loop-test = at14 .loop-test in
     let at15 = at14 .before in let loop = at15 .loop in
-    walking-leaf _ _ _ _ _ _ _ _ _ _ (loop .inv) (loop-test .taken) (if1 .left) (if2 .left)
+    walking-past (walk-rounds _ _ _ _ _) (loop .inv) (loop-test .taken) (if1 .left)
+    (leaf-passed _ _ (scan .ensures) _ _
+    (walking-into (walk-rounds _ _ _ _ _) (loop .inv) (loop-test .taken) (if1 .left) (if2 .left)
     _ _ (read-box .ensures) (skip .ensures) (if3 .left) _ (read-triple .ensures) _ (is-leaf .ensures)
-    _ (index .ensures .0) _ (index2 .ensures .0) _ (scan .ensures) (if4 .taken) _ (a2 .given .1)
+    _ (index .ensures .0) _ (index2 .ensures .0) (if4 .taken))
+    _ (a2 .given .1))
 
 returns-3 : tie.Need-returns-3 Inv-loop μ-loop
 returns-3 c =
@@ -122,7 +130,7 @@ returns-3 c =
     let at9 = at8 .before in let if1 = at9 .if1 in
     let at10 = at9 .before in let loop-test = at10 .loop-test in
     let at11 = at10 .before in let loop = at11 .loop in
-    walking-full _ _ _ _ _ _ _ _ _ _ (loop .inv) (loop-test .taken) (if1 .left) (if2 .left)
+    walking-full (walk-rounds _ _ _ _ _) (loop .inv) (loop-test .taken) (if1 .left) (if2 .left)
     _ _ (read-box .ensures) (skip .ensures) (if3 .left) _ (read-triple .ensures) _ (is-leaf .ensures)
     _ (index .ensures .0) (if4 .left) (omega (arith, c .if5 .taken))
 
@@ -184,12 +192,12 @@ loop-again-4 c =
     let at11 = at10 .before in let if1 = at11 .if1 in
     let at12 = at11 .before in let loop-test = at12 .loop-test in
     let at13 = at12 .before in let loop = at13 .loop in
-    walking-down _ _ _ _ _ _ _ _ _ _ (loop .inv) (loop-test .taken) (if1 .left) (if2 .left)
+    walking-down (walk-rounds _ _ _ _ _) (loop .inv) (loop-test .taken) (if1 .left) (if2 .left)
     _ _ (read-box .ensures) (skip .ensures) (if3 .left) _ (read-triple .ensures) _ (is-leaf .ensures)
     _ (index .ensures .0) (if4 .left) (omega (arith, if5 .left)) _ (backward .ensures) _ (c .sided .ensures)
 
 returns-4 : tie.Need-returns-4 Inv-loop μ-loop
-returns-4 c = walking-end _ _ _ _ _ _ _ _ _ _ (c .before .loop .inv) (omega (arith, c .loop-test .left))
+returns-4 c = walking-end (walk-rounds _ _ _ _ _) (c .before .loop .inv) (omega (arith, c .loop-test .left))
 
 pub intersect-spec : {M : Type 1} → statement M
 intersect-spec =
