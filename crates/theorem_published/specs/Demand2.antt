@@ -1,7 +1,7 @@
 -- Demand 2 of the request on one page, as far as it is a claim to prove: square root, box test, triangle test and line simplification against IEEE 754 and the published
 -- methods. `demand-2` (proofs/Demand2.antt) is a value of it. That answers equal the Rust's is the other half: it is shown by differential runs (docs/DIFFERENCES.md).
 --
--- What is spoken of is what the code promises: `sqrt::sqrt` answers sqrtOf, `BBox::intersect` boxTest, `triangle::intersect_vertices` triangleHit, and `path_simplify::simplify`,
+-- What is spoken of is what the code promises: the root that `sqrt::sqrt` answers is sqrtOf, `BBox::intersect` answers boxTest, `triangle::intersect_vertices` triangleHit, and `path_simplify::simplify`,
 -- path by path, simplified. Terms that stand elsewhere:
 --   NearestOfAll                         sqrt/specs/Nearest.antt: of all finite f64s the nearest to the exact root, and no other is as near
 --   TestIsOverlap and the five after it  Slabs.antt: a ray is in the box where it is between the planes of all three pairs
