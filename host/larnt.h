@@ -1,5 +1,5 @@
-/* The calls that libhost.a exports (`rt staticlib host`). Nothing checks these declarations against
-   crates/host/src/lib.rt: whoever changes the one changes the other. The pointers must not be null,
+/* The calls that libhost.a exports (`rt staticlib host`). `tools/house` holds these declarations to
+   crates/host/src, type by type. The pointers must not be null,
    not even those of no elements, and what is filled must overlap neither what is read nor anything
    else that is filled. Matrices stand by rows.
 

@@ -1,5 +1,5 @@
-//! The calls of libhost.a (`rt staticlib host`) for Rust. Nothing checks these declarations against
-//! crates/host/src/lib.rt: whoever changes the one changes the other. Matrices stand by rows; the
+//! The calls of libhost.a (`rt staticlib host`) for Rust. `tools/house` looks that none is missing; nothing
+//! checks their types against crates/host/src. Matrices stand by rows; the
 //! kinds and the order of their numbers are in larnt.h, and so is what a scene holds.
 
 /// The calls as they are.
