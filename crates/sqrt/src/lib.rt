@@ -9,7 +9,7 @@ ghost use mir.Syntax.{w64};
 ghost use mir.Val.{SFits};
 ghost use lib.Ieee.{binary64, ofBits};
 ghost use lib.Ieee.Exact.{HasValue};
-ghost use Rattle.sqrt.specs.Floor.{FloorRoot, NearestRoot};
+ghost use Rattle.sqrt.specs.Floor.{FloorRoot, LowRoot, NearestRoot};
 ghost use Rattle.sqrt.specs.Root.{sqrtOf, restOf};
 
 // A whole number and what is left over of another when its square is taken off.
@@ -41,17 +41,13 @@ fn digits(m: u64) -> WholeRoot
     WholeRoot { whole, rest }
 }
 
-// t * 2^52 for a t that is at least 1 and below 2, and 2^52 for every other.
+// t * 2^52 for a t that is at least 1 and below 2, and some number of 53 bits for every other.
 fn scaled(t: f64) -> u64
     ensures { λ r. ⌜ (2 ^ 52 ≤ r) × (r < 2 ^ 53) ⌝ }
 {
     if t == t {
         let b: u64 = f64::to_bits(t);
-        if 0x3ff0_0000_0000_0000 <= b {
-            if b < 0x4000_0000_0000_0000 {
-                return b - 0x3fe0_0000_0000_0000;
-            }
-        }
+        return b % 0x10_0000_0000_0000 + 0x10_0000_0000_0000;
     }
     0x10_0000_0000_0000
 }
@@ -62,61 +58,35 @@ fn guess(bits: u64) -> u64
     ensures { λ r. ⌜ (2 ^ 52 ≤ r) × (r < 2 ^ 53) ⌝ }
 {
     let x = f64::from_bits(bits);
-    let h = 0.5 * x;
-    // 1 / sqrt(x): the halved exponent, a first step within 7e-4, and a step of Newton's method
+    // 1 / sqrt(x): the halved exponent, a first step within 7e-4, and a step of Newton's method. The first
+    // step's result is divided by the third root of 2, so that the next has no factor at its cube.
     let y0 = f64::from_bits(0x5fe3_ffff_2000_0000 - bits / 2);
-    let y1 = 1.6819140909799934 * y0 - (0.703952253 * x * y0) * (y0 * y0);
-    let y = 1.5 * y1 - (h * y1) * (y1 * y1);
+    let y1 = 1.3349360986708898 * y0 - (0.558727273473792 * x * y0) * (y0 * y0);
+    let y = 1.8898815748423097 * y1 - (x * y1) * (y1 * y1);
     // sqrt(x), and a step whose error is of the third order
     let s = x * y;
-    let e = 0.5 - s * (0.5 * y);
-    scaled(s + (s * e) * (1.0 + 1.5 * e))
+    let e = 1.0 - s * y;
+    scaled(s + (s * e) * (0.5 + 0.375 * e))
 }
 
-// The same square and rest together, with a root that is one larger where the rest allows it.
-fn raised(p: WholeRoot) -> WholeRoot
-    requires { ⌜ p .whole < 2 ^ 53 ⌝ }
-    ensures { λ r. ⌜ (r .whole * r .whole + r .rest ≡ p .whole * p .whole + p .rest) × (r .whole ≤ 2 ^ 53) ⌝ }
-{
-    let whole = p.whole;
-    let rest = p.rest;
-    if 2 * whole < rest {
-        WholeRoot {
-            whole: whole + 1,
-            rest: rest - 2 * whole - 1,
-        }
-    } else {
-        p
-    }
-}
-
-// The whole part of the root of m * 2^52, and what is left over. The estimate is made of `bits`, the
-// pattern of m / 2^52 where m is that of a normal number.
+// The whole part of the root of m * 2^52, or one less, and what is left over. The estimate is made of
+// `bits`, the pattern of m / 2^52 where m is that of a normal number.
 fn root_of(m: u64, bits: u64) -> WholeRoot
     requires { ⌜ (m < 2 ^ 54) × (bits < 0x4010_0000_0000_0000) ⌝ }
-    ensures { λ r. ⌜ FloorRoot (m * 2 ^ 52) (r .whole) (r .rest) ⌝ }
+    ensures { λ r. ⌜ LowRoot (m * 2 ^ 52) (r .whole) (r .rest) ⌝ }
 {
     let r = guess(bits) - 1;
-    // r * r is top * 2^52 + low
+    // r is a * 2^26 + b: its square is taken off part by part. What would be below 0 wraps, and is too
+    // large for the test that follows.
     let a = r / 0x400_0000;
     let b = r % 0x400_0000;
-    let ab = a * b;
-    let top = a * a + ab / 0x200_0000;
-    let low = ab % 0x200_0000 * 0x800_0000 + b * b;
-    if top <= m {
-        let d = m - top;
-        if d < 64 {
-            let high = d * 0x10_0000_0000_0000;
-            if low <= high {
-                let p = raised(WholeRoot {
-                    whole: r,
-                    rest: high - low,
-                });
-                let whole = p.whole;
-                let rest = p.rest;
-                if rest <= 2 * whole {
-                    return p;
-                }
+    let d = std::num::wrapping_sub_u64(m, a * a);
+    if d < 0x4000_0000 {
+        let e = std::num::wrapping_sub_u64(d * 0x200_0000, a * b);
+        if e < 0x4000_0000 {
+            let rest = std::num::wrapping_sub_u64(e * 0x800_0000, b * b);
+            if rest <= 4 * r + 3 {
+                return WholeRoot { whole: r, rest };
             }
         }
     }
@@ -156,23 +126,24 @@ pub struct NearRoot {
     pub rest: i64,
 }
 
-// The whole number nearest to the root, and what is left over of n.
+// The whole number nearest to the root, and what is left over of n: k steps up from one that is less than
+// 2 below the root.
 fn rounded(p: WholeRoot) -> NearRoot
-    requires { ⌜ (p .whole < 2 ^ 53) × (p .rest ≤ 2 * p .whole) ⌝ }
-    ensures { λ r. ⌜ ((n : ℕ) → n < 4 ^ 53 → FloorRoot n (p .whole) (p .rest) → NearestRoot n (r .whole) (r .rest)) ⌝ }
+    requires { ⌜ (p .whole < 2 ^ 53) × (p .rest ≤ 4 * p .whole + 3) ⌝ }
+    ensures { λ r. ⌜ ((n : ℕ) → 0 < n → n < 4 ^ 53 → LowRoot n (p .whole) (p .rest) → NearestRoot n (r .whole) (r .rest)) ⌝ }
 {
     let whole = p.whole;
     let rest = p.rest;
+    let mut k: u64 = 0;
     if whole < rest {
-        NearRoot {
-            whole: whole + 1,
-            rest: 0 - ((2 * whole + 1 - rest) as i64),
-        }
-    } else {
-        NearRoot {
-            whole,
-            rest: rest as i64,
-        }
+        k = 1;
+    }
+    if 3 * whole + 2 < rest {
+        k = 2;
+    }
+    NearRoot {
+        whole: whole + k,
+        rest: (rest as i64) - ((k * (2 * whole + k)) as i64),
     }
 }
 

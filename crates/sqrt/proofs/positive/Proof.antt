@@ -7,7 +7,7 @@ use mir.Val.{SFits}
 use mir.ValLaws.{toZ-ofZ}
 use lib.IntN.{pos, _-ℤ_}
 use lib.Ieee.{binary64, ofBits, odd}
-use Rattle.sqrt.specs.Floor.{FloorRoot, NearestRoot}
+use Rattle.sqrt.specs.Floor.{LowRoot, NearestRoot}
 use Rattle.floats.proofs.Patterns.{no-nan-bits, high-is}
 use Rattle.sqrt.proofs.Values.{Doubled, doubled, small-root, root-range, whole-units, root-at, rest-at}
 use borrow.Author.Needs.{needs}
@@ -24,11 +24,11 @@ scale c = doubled (c .unpack .result .m) (c .unpack .result .g % 2) (c .unpack .
 S-lt : (c : tie.After-unpack) → S c < 2 ^ 106
 S-lt c = let d = scale c in omega arith
 
-floor : (c : tie.After-root-of) → FloorRoot (S (c .before)) (c .root-of .result .whole) (c .root-of .result .rest)
-floor c = subst (λ (m : ℕ). FloorRoot (m * 2 ^ 52) (c .root-of .result .whole) (c .root-of .result .rest)) (scale (c .before) .same) (c .root-of .ensures)
+low : (c : tie.After-root-of) → LowRoot (S (c .before)) (c .root-of .result .whole) (c .root-of .result .rest)
+low c = subst (λ (m : ℕ). LowRoot (m * 2 ^ 52) (c .root-of .result .whole) (c .root-of .result .rest)) (scale (c .before) .same) (c .root-of .ensures)
 
 answer : (c : tie.After-rounded) → NearestRoot (S (c .before .before)) (c .rounded .result .whole) (c .rounded .result .rest)
-answer c = c .rounded .ensures (S (c .before .before)) (S-lt (c .before .before)) (floor (c .before))
+answer c = let d = scale (c .before .before) in c .rounded .ensures (S (c .before .before)) (omega arith) (S-lt (c .before .before)) (low (c .before))
 
 digits : (c : tie.After-rounded) → (2 ^ 52 ≤ c .rounded .result .whole) × (c .rounded .result .whole < 2 ^ 53)
 digits c =
@@ -39,7 +39,7 @@ root-of-requires : tie.Need-root-of-requires
 root-of-requires c κs = let d = scale c in (omega arith, omega arith)
 
 rounded-requires : tie.Need-rounded-requires
-rounded-requires c κs = (small-root (S (c .before)) (c .root-of .result .whole) (c .root-of .result .rest) (S-lt (c .before)) (floor c), floor c .small)
+rounded-requires c κs = (small-root (S (c .before)) (c .root-of .result .whole) (c .root-of .result .rest) (S-lt (c .before)) (low c), low c .small)
 
 add-pattern-2 : tie.Need-add-pattern-2
 add-pattern-2 c = let k = digits (c .before) in omega arith

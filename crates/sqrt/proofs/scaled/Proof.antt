@@ -7,4 +7,4 @@ float-to-bits-b : tie.Need-float-to-bits-b
 float-to-bits-b c = equals-itself (c .before .args .t) (c .if1 .taken)
 
 pub scaled-spec : {M : Type 1} → statement M
-scaled-spec = tie.close (tie.spec float-to-bits-b (λ c. search needs) (λ c. search needs) (λ c. search needs) (λ c. search needs) (λ c. search needs))
+scaled-spec = tie.close (tie.spec float-to-bits-b (λ c. search needs) (λ c. search needs) (λ c. search needs))
