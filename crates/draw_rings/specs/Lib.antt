@@ -1,0 +1,4 @@
+pub mod Ring
+pub mod Pieces
+pub mod Spheres
+pub mod Promise
