@@ -148,6 +148,28 @@ uint32_t larnt_draw_with(LARNT_SCENE, const double view[22], double threshold, d
                          uint32_t *node_marks, size_t node_marks_count, uint32_t *order, size_t order_count,
                          size_t *points_out, size_t *paths_out);
 
+/* The plotter's registers: the calls that libhost_plotter.a exports (`rt staticlib host_plotter`), declared in
+   crates/host_plotter/src/registers.rt. No machine is behind them, and all state is in what is lent.
+
+   pen is where the pen is and target where the last accepted move goes, X and Y in tenths of a millimetre. bytes
+   are 0 last command (1 pen down, 2 pen up, 3 home, 4 go), 1 status (bit 0 pen down, bit 1 busy, bit 2 off sheet),
+   2 and 3 target X, 4 and 5 target Y, low byte first, 6 interrupt mask, 7 pending. All are 0 at first; the calls
+   take any contents. */
+typedef struct {
+    uint16_t pen[2], target[2];
+    uint8_t bytes[8];
+} larnt_registers;
+
+/* Writes one byte. Answers 0, or the number of the refusal, and then nothing changes: 16 for bytes 1 and 7 and
+   past byte 7, 17 for a command that is not 1 to 4 and for any while busy. A go past 8,410 in X or 5,940 in Y
+   answers 0 too: it sets bit 2 and moves nothing. A write to the mask clears pending. */
+uint32_t larnt_plotter_write(larnt_registers *registers, size_t at, uint8_t value);
+
+/* One step: while busy each axis moves one tenth toward the target; on arrival busy clears, and bit 0 of pending
+   is set if bit 0 of the mask is. Changes nothing where bit 1 of the status is clear. After an accepted move busy
+   clears after as many steps as the larger axis distance, or after one if that is 0. */
+void larnt_plotter_step(larnt_registers *registers);
+
 #ifdef __cplusplus
 }
 #endif

@@ -599,3 +599,38 @@ pub fn draw_with(
 ) -> Result<(usize, usize), u32> {
     on_work!(larnt_draw_with, s, out, begins, work, view, threshold)
 }
+
+/// The plotter's registers, which larnt.h describes: the calls of libhost_plotter.a (`rt staticlib host_plotter`),
+/// declared in crates/host_plotter/src/registers.rt. All are 0 at first.
+#[repr(C)]
+#[derive(Clone, Copy, Debug, Default, PartialEq, Eq)]
+pub struct Registers {
+    pub pen: [u16; 2],
+    pub target: [u16; 2],
+    pub bytes: [u8; 8],
+}
+
+pub mod raw_registers {
+    use super::Registers;
+
+    #[link(name = "host_plotter", kind = "static")]
+    unsafe extern "C" {
+        pub safe fn larnt_plotter_write(r: &mut Registers, at: usize, value: u8) -> u32;
+        pub safe fn larnt_plotter_step(r: &mut Registers);
+    }
+}
+
+impl Registers {
+    /// A write of one byte, or 16 or 17, which change nothing.
+    pub fn write(&mut self, at: usize, value: u8) -> Result<(), u32> {
+        match raw_registers::larnt_plotter_write(self, at, value) {
+            0 => Ok(()),
+            number => Err(number),
+        }
+    }
+
+    /// One step; it changes nothing unless the plotter is busy.
+    pub fn step(&mut self) {
+        raw_registers::larnt_plotter_step(self);
+    }
+}

@@ -17,6 +17,7 @@ mod harness;
 mod host;
 mod inputs;
 mod leaves;
+mod registers;
 mod roots;
 mod names;
 mod scene_calls;
@@ -35,7 +36,7 @@ use std::process::ExitCode;
 /// Its name, what it compares, and what it times.
 type Layer = (&'static str, fn(&mut Run), fn());
 
-const LAYERS: [Layer; 7] = [
+const LAYERS: [Layer; 8] = [
     ("roots", roots::compare, roots::speed),
     ("leaves", leaves::compare, leaves::speed),
     ("scenes", scenes::compare, scenes::speed),
@@ -43,6 +44,7 @@ const LAYERS: [Layer; 7] = [
     ("covers", covers::compare, covers::speed),
     ("stages", stages::compare, stages::speed),
     ("draws", draws::compare, draws::speed),
+    ("registers", registers::compare, registers::speed),
 ];
 
 fn layers(named: &[&str]) -> Option<Vec<Layer>> {

@@ -1,0 +1,5 @@
+pub mod Accepting
+pub mod Keeping
+pub mod Moving
+pub mod Stepping
+pub mod Writing
