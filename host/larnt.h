@@ -120,7 +120,8 @@ uint32_t larnt_covered_all(LARNT_SCENE, LARNT_TREE, const double eye[3], const d
 #define LARNT_PATHS \
     double *out, size_t out_count, size_t *begins, size_t begins_count, size_t *points_out, size_t *paths_out
 
-/* The paths chopped for a view: matrix by rows (16), eye (3), width, height, step; 10 for its halvings. */
+/* The paths chopped for a view: matrix by rows (16), eye (3), width, height, step. 10, once for its halvings, no
+   longer occurs, in this call or any other. */
 uint32_t larnt_chop(const double view[22], const double *points, size_t points_count, const size_t *starts,
                     size_t starts_count, LARNT_PATHS);
 

@@ -184,13 +184,13 @@ COMPILE = [
     swap("cone.rs", "    fn paths_striped", "    pub fn paths_striped"),
 ]
 
-# The refusals 9 to 13, for the limited build alone.
+# The refusals 9 and 11 to 13, for the limited build alone.
 HOOKS = [
     # 9: points handed to chop and simplify, and put to the eye test
     after("path.rs", "pub fn chop_adaptive(&self, args: &RenderArgs) -> Self {\n", "        crate::limits::judge(&self.buffer);\n"),
     after("path.rs", "pub fn simplify(&self, threshold: f64) -> Self {\n", "        crate::limits::judge(&self.buffer);\n"),
     before("scene.rs", "            let v = eye.sub(point);", "            crate::limits::put(point);\n"),
-    # 10: nested halvings of one segment
+    # nested halvings of one segment: document 02 (ix) allows no more than 37
     before("path.rs", "        let mid = divider(a, b);", "        crate::limits::halve();\n"),
     after("path.rs", "        recursive_subdivide((mid, b), divider, terminator, collector);\n", "        crate::limits::halved();\n"),
     # 11: restarts of a cut for one ray put from outside

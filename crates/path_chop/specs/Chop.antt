@@ -7,8 +7,7 @@ use Rattle.floats.specs.Arith.{_⊗_, zeroF, halfF, EPS}
 use Rattle.geometry.specs.Vectors.{addV, mulScalar, distanceSquared}
 use Rattle.geometry.specs.declared.vector.Vector.{Vector}
 use Rattle.matrix.specs.Matrices.{mulPositionW}
-use Rattle.refusals.specs.declared.Refusal.the-variants.{Halvings}
-use Rattle.paths.specs.Answers.{Answer, answered, refused, next}
+use Rattle.paths.specs.Answers.{Answer, answered, next}
 use Rattle.paths.specs.Paths.{Paths, push, onePath, stage}
 use Rattle.paths.specs.Ends.{allPoints}
 use Rattle.paths.specs.Judged.{pathsJudged, unless}
@@ -48,24 +47,40 @@ unfoldable pub pushOr : (List Vector → Answer (List Vector)) → ℕ → Vecto
 pushOr halve room v vs true = push room vs v
 pushOr halve room v vs false = halve vs
 
--- so many nested halvings are left; one more is document 01's number 10
+-- So many halvings, one inside another, are left; where none is, the segment is not halved. Of points that pass number 9 the stop rule holds there (crate theorem_halvings): document 01's number 10 is unused.
 unfoldable pub subdivide : Screen → ℕ → ℕ → Spot → Spot → List Vector → Answer (List Vector)
-subdivide s room zero a b vs = pushOr (λ _. refused Halvings) room (b .at) vs (stops s a b)
+subdivide s room zero a b vs = push room vs (b .at)
 subdivide s room (suc depth) a b vs =
     pushOr (λ (us : List Vector). next (subdivide s room depth a (middleOf s a b) us) (subdivide s room depth (middleOf s a b) b)) room (b .at) vs (stops s a b)
 
--- ---- a path: its first point, and then each segment
-unfoldable pub chopFrom : Screen → ℕ → Spot → List Vector → List Vector → Answer (List Vector)
-chopFrom s room a [] vs = answered vs
-chopFrom s room a (p ∷ ps) vs = next (subdivide s room 40 a (spotOf s p) vs) (chopFrom s room (spotOf s p) ps)
+-- a segment is not halved
+unfoldable pub done : Screen → ℕ → Spot → Spot → Bool
+done s zero a b = true
+done s (suc depth) a b = stops s a b
 
-unfoldable pub pathChop : Screen → ℕ → List Vector → List Vector → Answer (List Vector)
-pathChop s room [] vs = answered vs
-pathChop s room (p ∷ ps) vs = next (push room vs p) (chopFrom s room (spotOf s p) ps)
+-- how many are left at first: document 02's request (ix)
+abbrev pub mostHalvings : ℕ
+mostHalvings = 37
 
+-- ---- a path: its first point, and then each segment, with at most n halvings one inside another
+unfoldable pub chopFrom : ℕ → Screen → ℕ → Spot → List Vector → List Vector → Answer (List Vector)
+chopFrom n s room a [] vs = answered vs
+chopFrom n s room a (p ∷ ps) vs = next (subdivide s room n a (spotOf s p) vs) (chopFrom n s room (spotOf s p) ps)
+
+unfoldable pub pathChop : ℕ → Screen → ℕ → List Vector → List Vector → Answer (List Vector)
+pathChop n s room [] vs = answered vs
+pathChop n s room (p ∷ ps) vs = next (push room vs p) (chopFrom n s room (spotOf s p) ps)
+
+abbrev pub chopUpto : ℕ → RenderArgs → List Vector → List ℕ → ℕ → ℕ → Answer Paths
+chopUpto n a vs ss room startRoom = stage (onePath (pathChop n (screenOf a))) vs ss room startRoom
+
+-- refusals 2, 4, 8 and 9, and then 13
+unfoldable pub callUpto : ℕ → View → List Float → List ℕ → ℕ → ℕ → Answer Paths
+callUpto n v xs ss room startRoom = unless (pathsJudged xs ss (viewOk v)) (chopUpto n (argsOf v) (allPoints xs) ss room startRoom)
+
+-- the chop, and the public call
 abbrev pub chopPaths : RenderArgs → List Vector → List ℕ → ℕ → ℕ → Answer Paths
-chopPaths a vs ss room startRoom = stage (onePath (pathChop (screenOf a))) vs ss room startRoom
+chopPaths = chopUpto mostHalvings
 
--- the public call: refusals 2, 4, 8 and 9, and then 10 and 13
-unfoldable pub chopCall : View → List Float → List ℕ → ℕ → ℕ → Answer Paths
-chopCall v xs ss room startRoom = unless (pathsJudged xs ss (viewOk v)) (chopPaths (argsOf v) (allPoints xs) ss room startRoom)
+abbrev pub chopCall : View → List Float → List ℕ → ℕ → ℕ → Answer Paths
+chopCall = callUpto mostHalvings

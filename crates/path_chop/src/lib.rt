@@ -12,22 +12,21 @@ use matrix::Matrix;
 use paths::Count;
 use paths::Counts;
 use paths::Judgement;
-use refusals::Refusal;
 use view::RenderArgs;
 use view::View;
 
 // What the stop rule looks at: the matrix to the sheet, its width and height, and the step squared.
-struct Screen {
-    matrix: Matrix,
-    width: f64,
-    height: f64,
-    square: f64,
+pub struct Screen {
+    pub matrix: Matrix,
+    pub width: f64,
+    pub height: f64,
+    pub square: f64,
 }
 
 // A point, and where it is seen on the sheet.
-struct Spot {
-    at: Vector,
-    seen: Vector,
+pub struct Spot {
+    pub at: Vector,
+    pub seen: Vector,
 }
 
 fn screen_of(a: RenderArgs) -> Screen
@@ -88,7 +87,7 @@ fn off_sheet(s: Screen, a: Vector, b: Vector) -> bool
     both_beyond(s.height, a.y, b.y)
 }
 
-// Whether a segment is not halved.
+// The stop rule: whether a segment needs no halving.
 fn stops(s: Screen, a: Spot, b: Spot) -> bool
     ensures { λ r. ⌜ r ≡ Chop.stops s a b ⌝ }
 {
@@ -103,6 +102,16 @@ fn stops(s: Screen, a: Spot, b: Spot) -> bool
     let p = a.at;
     let q = b.at;
     p.distance_squared(q) < Vector::EPS
+}
+
+// Whether a segment is not halved: by the stop rule, or since no halving is left.
+fn done(s: Screen, a: Spot, b: Spot, left: usize) -> bool
+    ensures { λ r. ⌜ r ≡ Chop.done s left a b ⌝ }
+{
+    if left == 0 {
+        return true;
+    }
+    stops(s, a, b)
 }
 
 // The ends of the pieces of a segment go after the first n points; `depth` nested halvings are left.
@@ -121,10 +130,7 @@ fn recursive_subdivide(
     let mut from = a;
     let mut left = depth;
     let mut m = n;
-    while !stops(s, from, b) {
-        if left == 0 {
-            return Count::Refused(Refusal::Halvings);
-        }
+    while !done(s, from, b, left) {
         left -= 1;
         let mid = middle(s, from, b);
         let r = recursive_subdivide(s, from, mid, left, out, m);
@@ -151,7 +157,7 @@ fn chop_from(
     n: usize,
 ) -> Count
     requires { ⌜ (from ≤ end) × (end * 3 ≤ length (now path)) × (n * 3 ≤ length (now out)) ⌝ }
-    ensures { λ r. ⌜ Ends (Chop.chopFrom s (places (now (out .entry))) first (slice from end (allPoints (now (path .entry)))) (points n (now (out .entry)))) (now (out .exit)) r ⌝ }
+    ensures { λ r. ⌜ Ends (Chop.chopFrom Chop.mostHalvings s (places (now (out .entry))) first (slice from end (allPoints (now (path .entry)))) (points n (now (out .entry)))) (now (out .exit)) r ⌝ }
 {
     let mut a = first;
     let mut i = from;
@@ -159,7 +165,7 @@ fn chop_from(
     while i < end {
         let v = rows::read_point(path, i);
         let b = spot_of(s, v);
-        let r = recursive_subdivide(s, a, b, 40, out, m);
+        let r = recursive_subdivide(s, a, b, 37, out, m);
         match r {
             Count::Refused(k) => return Count::Refused(k),
             Count::At(q) => {
@@ -181,7 +187,7 @@ fn path_chop_adaptive(
     n: usize,
 ) -> Count
     requires { ⌜ (from ≤ end) × (end * 3 ≤ length (now path)) × (n * 3 ≤ length (now out)) ⌝ }
-    ensures { λ r. ⌜ Ends (Chop.pathChop s (places (now (out .entry))) (slice from end (allPoints (now (path .entry)))) (points n (now (out .entry)))) (now (out .exit)) r ⌝ }
+    ensures { λ r. ⌜ Ends (Chop.pathChop Chop.mostHalvings s (places (now (out .entry))) (slice from end (allPoints (now (path .entry)))) (points n (now (out .entry)))) (now (out .exit)) r ⌝ }
 {
     if end <= from {
         return Count::At(n);
@@ -207,7 +213,7 @@ fn one_path(
     m: usize,
 ) -> Counts
     requires { ⌜ (from ≤ end) × (end * 3 ≤ length (now path)) × (n * 3 ≤ length (now out)) × (m ≤ length (now begins)) ⌝ }
-    ensures { λ r. ⌜ EndsBoth (onePath (Chop.pathChop s) (places (now (out .entry))) (length (now (begins .entry))) (slice from end (allPoints (now (path .entry)))) (held n (now (out .entry)) m (now (begins .entry)))) (now (out .exit)) (now (begins .exit)) r ⌝ }
+    ensures { λ r. ⌜ EndsBoth (onePath (Chop.pathChop Chop.mostHalvings s) (places (now (out .entry))) (length (now (begins .entry))) (slice from end (allPoints (now (path .entry)))) (held n (now (out .entry)) m (now (begins .entry)))) (now (out .exit)) (now (begins .exit)) r ⌝ }
 {
     let o = paths::new_path(begins, m, n);
     match o {

@@ -17,7 +17,7 @@ use Rattle.rows.specs.Points.{pointOf}
 use Rattle.rows.proofs.Rows.{length-view, getD-view, getD-padded}
 use Rattle.refusals.specs.Refusals.{numberOf}
 use Rattle.refusals.specs.declared.Refusal.{Refusal}
-use Rattle.refusals.specs.declared.Refusal.the-variants.{Lengths, Values, Parts, Measures, Placing, Extent, View, Point, Halvings, Restarts, Waiting, Room}
+use Rattle.refusals.specs.declared.Refusal.the-variants.{Lengths, Values, Parts, Measures, Placing, Extent, View, Point, Restarts, Waiting, Room}
 use Rattle.limits.specs.Limits.{withinPoint}
 use Rattle.scene.specs.Scenes.{Scene}
 use Rattle.scene_shape.specs.declared.Struck.{Struck}
@@ -75,7 +75,6 @@ number-fits Placing = omega arith
 number-fits Extent = omega arith
 number-fits View = omega arith
 number-fits Point = omega arith
-number-fits Halvings = omega arith
 number-fits Restarts = omega arith
 number-fits Waiting = omega arith
 number-fits Room = omega arith

@@ -1,7 +1,7 @@
--- Document 01's numbered refusals, 2 to 13; number 1 is the program's alone.
+-- Document 01's numbered refusals, 2 to 13; number 1 is the program's alone. Number 10 is unused: no chop halves so deep (document 02's request (ix), crate theorem_halvings).
 use Prim.Native.Nat.{ℕ}
 use Rattle.refusals.specs.declared.Refusal.{Refusal}
-use Rattle.refusals.specs.declared.Refusal.the-variants.{Lengths, Values, Parts, Measures, Placing, Extent, View, Point, Halvings, Restarts, Waiting, Room}
+use Rattle.refusals.specs.declared.Refusal.the-variants.{Lengths, Values, Parts, Measures, Placing, Extent, View, Point, Restarts, Waiting, Room}
 
 unfoldable pub numberOf : Refusal → ℕ
 numberOf Lengths = 2
@@ -12,7 +12,6 @@ numberOf Placing = 6
 numberOf Extent = 7
 numberOf View = 8
 numberOf Point = 9
-numberOf Halvings = 10
 numberOf Restarts = 11
 numberOf Waiting = 12
 numberOf Room = 13

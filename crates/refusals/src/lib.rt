@@ -1,4 +1,4 @@
-// Why a call is refused: document 01's numbers 2 to 13, by what each says.
+// Why a call is refused: document 01's numbers 2 to 13, by what each says; 10 is unused.
 ghost use mathlib.Core.Path.{_≡_};
 ghost use Rattle.refusals.specs.Refusals.{numberOf};
 
@@ -11,7 +11,6 @@ pub enum Refusal {
     Extent,
     View,
     Point,
-    Halvings,
     Restarts,
     Waiting,
     Room,
@@ -31,7 +30,6 @@ impl Refusal {
             Refusal::Extent => 7,
             Refusal::View => 8,
             Refusal::Point => 9,
-            Refusal::Halvings => 10,
             Refusal::Restarts => 11,
             Refusal::Waiting => 12,
             Refusal::Room => 13,

@@ -1,5 +1,5 @@
-//! Refusals 9 to 13 of document 01, met where larnt does the work. The patched sources call
-//! these functions; each one either returns or leaves the whole run by unwinding.
+//! Refusals 9 and 11 to 13 of document 01, met where larnt does the work, and the nesting of halvings.
+//! The patched sources call these functions; each one either returns or leaves the whole run by unwinding.
 
 use crate::matrix::Matrix;
 use crate::vector::Vector;
@@ -63,7 +63,6 @@ thread_local! {
     static HALVINGS: Cell<u32> = const { Cell::new(0) };
     static DEEPEST: Cell<u32> = const { Cell::new(0) };
     static RESTARTS: Cell<u32> = const { Cell::new(0) };
-    static JUDGING: Cell<bool> = const { Cell::new(true) };
     static PUT: Cell<usize> = const { Cell::new(0) };
 }
 
@@ -75,7 +74,6 @@ pub fn begin(room: Room) {
     HALVINGS.set(0);
     DEEPEST.set(0);
     RESTARTS.set(0);
-    JUDGING.set(true);
     PUT.set(0);
 }
 
@@ -89,11 +87,6 @@ pub fn points_put() -> usize {
     PUT.get()
 }
 
-/// Leaves points unjudged until the next `begin`: 10 is out of reach of points that pass 9.
-pub fn judge_nothing() {
-    JUDGING.set(false);
-}
-
 /// Leaves the run with this number. The panic hook is not called.
 pub fn refuse(number: u32) -> ! {
     std::panic::resume_unwind(Box::new(Refusal(number)))
@@ -102,7 +95,7 @@ pub fn refuse(number: u32) -> ! {
 /// 9: a coordinate that is not finite or exceeds 1,000,000 in magnitude.
 pub fn judge(points: &[Vector]) {
     let sound = |x: f64| x.is_finite() && x.abs() <= 1e6;
-    if JUDGING.get() && !points.iter().all(|v| sound(v.x) && sound(v.y) && sound(v.z)) {
+    if !points.iter().all(|v| sound(v.x) && sound(v.y) && sound(v.z)) {
         refuse(9);
     }
 }
@@ -113,11 +106,9 @@ pub fn put(point: Vector) {
     PUT.set(PUT.get() + 1);
 }
 
-/// 10: about to halve; 40 nested halvings pass.
+/// About to halve. Points that pass 9 need at most 37 halvings, one inside another: a 38th is a mistake.
 pub fn halve() {
-    if HALVINGS.get() == 40 {
-        refuse(10);
-    }
+    assert!(HALVINGS.get() < 37, "a segment is halved more than 37 deep");
     HALVINGS.set(HALVINGS.get() + 1);
     DEEPEST.set(DEEPEST.get().max(HALVINGS.get()));
 }

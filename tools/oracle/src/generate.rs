@@ -1,7 +1,7 @@
 //! Seeded cases for comparisons: a scene with a view and room, rays, points and paths.
-//! Most scenes are accepted and drawn; each refusal 2 to 9 and 11 to 13 occurs (10 can't, see
-//! `chop_unjudged`). Only sums, products, quotients and square roots are formed, so that a
-//! seed gives the same case everywhere.
+//! Most scenes are accepted and drawn; each refusal 2 to 9 and 11 to 13 occurs (10 is unused).
+//! Only sums, products, quotients and square roots are formed, so that a seed gives the same case
+//! everywhere.
 
 use crate::check::{LARGEST, used_numbers};
 use crate::{FINE, Lines, Places, Room, Scene, View, draw_measured};

@@ -268,16 +268,6 @@ pub fn chop(view: &View, lines: &Lines, places: Places) -> Answer<Lines> {
     within(Room { out: places, ..Room::ENDLESS }, || limited::chop(view, lines))
 }
 
-/// The same without 9: points that pass it never need 41 nested halvings, so 10 shows only here.
-pub fn chop_unjudged(view: &View, lines: &Lines, places: Places) -> Answer<Lines> {
-    check::lines(lines)?;
-    check::view(view)?;
-    within(Room { out: places, ..Room::ENDLESS }, || {
-        larnt_limited::limits::judge_nothing();
-        limited::chop(view, lines)
-    })
-}
-
 /// `simplify` of paths that are handed in.
 pub fn simplify(threshold: f64, lines: &Lines, places: Places) -> Answer<Lines> {
     check::lines(lines)?;

@@ -465,30 +465,23 @@ fn boundaries(p: &mut Pieces) {
     p.number("put to the eye test", far(0.0, 1e-7), 9);
     p.number("chopped before clipping", far(1.0, 1.0), 9);
 
-    // 10: the screen is one spot but for a NaN where x is 0, so one side is halved to the end
+    // halvings: the screen is one spot but for a NaN in one corner, so one side is halved to the end
     let mut matrix = [0.0; 16];
-    (matrix[0], matrix[4], matrix[12]) = (0.5, 0.5, 1.0);
+    (matrix[0], matrix[1], matrix[2], matrix[3]) = (0.5, 0.5, 0.5, 1.5e6);
+    (matrix[4], matrix[5], matrix[6], matrix[7]) = (0.5, 0.5, 0.5, 1.5e6);
+    (matrix[12], matrix[13], matrix[14], matrix[15]) = (1.0, 1.0, 1.0, 3e6);
     let v = View { matrix, step: 1.0, ..view.clone() };
-    let long = |x: f64| Lines { points: vec![0., 0., 0., x, 0., 0.], starts: vec![0] };
-    let forty = 3.1622e-5 * 2f64.powi(40);
-    let chopped = oracle::chop_unjudged(&v, &long(forty), AMPLE).map(|l| l.points.len() / 3);
-    p.equal("40 nested halvings", chopped, Ok(42));
+    let longest = Lines { points: [[-1e6; 3], [1e6; 3]].concat(), starts: vec![0] };
+    let chopped = oracle::chop(&v, &longest, AMPLE).map(|l| l.points.len() / 3);
+    p.equal("37 nested halvings", chopped, Ok(39));
+    p.equal("the deepest nesting", oracle::larnt_limited::limits::deepest_halving(), 37);
     let fine = View { step: 0.001, ..view.clone() };
     let line = Lines { points: vec![-0.5, 0., 0., 0.5, 0., 0.], starts: vec![0] };
     let chopped = oracle::chop(&fine, &line, AMPLE).map(|l| l.points.len() / 3);
     p.equal("1,023 halvings, 10 of them nested", chopped, Ok(1025));
-    p.number("41 nested halvings", oracle::chop_unjudged(&v, &long(2.0 * forty), AMPLE), 10);
-    p.number(
-        "10 before 13",
-        oracle::chop_unjudged(&v, &long(2.0 * forty), Places { points: 1, starts: 1 }),
-        10,
-    );
-    p.number(
-        "13 before 10",
-        oracle::chop_unjudged(&v, &long(2.0 * forty), Places { points: 0, starts: 1 }),
-        13,
-    );
-    p.number("the same, judged", oracle::chop(&v, &long(2.0 * forty), AMPLE), 9);
+    p.number("13 at the deepest", oracle::chop(&v, &longest, Places { points: 1, starts: 1 }), 13);
+    let beyond = Lines { points: [[-above; 3], [1e6; 3]].concat(), starts: vec![0] };
+    p.number("9 before any halving", oracle::chop(&v, &beyond, AMPLE), 9);
 
     // 11: a part shrunk by 1e-6 misses at 1,000, so the ray goes on by 1,000.01 at a time
     let far_cut = |x: f64| {

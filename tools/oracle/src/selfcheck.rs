@@ -99,22 +99,13 @@ impl Tally {
         self.met.get(call).and_then(|m| m.get(&number)).copied().unwrap_or(0)
     }
 
-    /// Refusals that never occurred where they must: 10 without 9 in the way, the rest in draws.
+    /// Refusals that never occurred in a draw; 10 is unused.
     fn missing(&self) -> Vec<u32> {
-        let where_met = |n| if n == 10 { "chop unjudged" } else { "draw" };
-        (2..=13).filter(|n| self.count(where_met(*n), *n) == 0).collect()
-    }
-
-    /// 10 where 9 has let all points pass: 37 nested halvings are enough for those.
-    fn surplus(&self) -> u64 {
-        self.count("draw", 10) + self.count("chop", 10)
+        (2..=13).filter(|n| *n != 10 && self.count("draw", *n) == 0).collect()
     }
 
     fn good(&self) -> bool {
-        self.differences == 0
-            && self.panics == 0
-            && self.missing().is_empty()
-            && self.surplus() == 0
+        self.differences == 0 && self.panics == 0 && self.missing().is_empty()
     }
 
     fn print(&self, scenes: u64, seed: u64) {
@@ -138,7 +129,6 @@ impl Tally {
         println!("omitted: {}", self.omitted);
         println!("panics: {}", self.panics);
         println!("refusals that never occurred: {:?}", self.missing());
-        println!("10 after 9 had passed: {}", self.surplus());
         println!("differences: {}", self.differences);
     }
 }
@@ -216,10 +206,6 @@ fn compare_paths(tally: &mut Tally, case: &Case) {
         || plain::simplify(case.threshold, lines),
         same_lines,
     );
-    let mut long = lines.clone();
-    long.points.iter_mut().for_each(|x| *x *= 1e8);
-    let chopped = oracle::chop_unjudged(view, &long, case.places);
-    tally.compare(case, "chop unjudged", &chopped, || plain::chop(view, &long), same_lines);
 }
 
 fn compare_draw(tally: &mut Tally, case: &Case, exactly: bool) {

@@ -1,6 +1,6 @@
 use Rattle.paths.specs.Ends.{places, allPoints}
 use native.Mathlib.Omega.{arith}
-use Rattle.path_chop.specs.Chop.{pathChop}
+use Rattle.path_chop.specs.Chop.{mostHalvings, pathChop}
 use Rattle.path_chop.proofs.Halving.{chopped-as}
 use Rattle.paths.proofs.Stages.{Staging, staging-start, staging-turn, staging-refused, staging-end}
 use Rattle.paths.proofs.Parts.{range-fits}
@@ -13,7 +13,7 @@ use Rattle.path_chop.proofs.chop_paths.Statement.{statement}
 use Rattle.path_chop.proofs.chop_paths.Tie as tie
 
 abbrev Inv-loop : tie.InvT-loop
-Inv-loop path starts out₀ begins₀ s total n₀ m₀ i₀ out begins n m i = Staging (onePath (pathChop s)) path starts out₀ begins₀ out begins i n m
+Inv-loop path starts out₀ begins₀ s total n₀ m₀ i₀ out begins n m i = Staging (onePath (pathChop mostHalvings s)) path starts out₀ begins₀ out begins i n m
 
 abbrev μ-loop : tie.MeasureT-loop
 μ-loop path starts out₀ begins₀ s total n₀ m₀ i₀ out begins n m i = length starts - i

@@ -1,5 +1,5 @@
 use Rattle.paths.proofs.Stages.{one-full, one-refused, one-done}
-use Rattle.path_chop.specs.Chop.{pathChop}
+use Rattle.path_chop.specs.Chop.{mostHalvings, pathChop}
 use native.Mathlib.Omega.{arith}
 use borrow.Author.Needs.{needs}
 use Rattle.path_chop.proofs.one_path.Statement.{statement}
@@ -16,7 +16,7 @@ returns c =
     let at1 = c .before in let o = at1 .o in
     let at5 = at1 .before .before .before .before in let new-path = at5 .new-path in
     let at10 = at5 .before .before .before .before .before in let args = at10 .args in
-    one-full (pathChop (args .s)) _ (args .out .now) (args .begins .now) (args .n) (args .m) _ (new-path .ensures) (o .given .1)
+    one-full (pathChop mostHalvings (args .s)) _ (args .out .now) (args .begins .now) (args .n) (args .m) _ (new-path .ensures) (o .given .1)
 
 returns-2 : tie.Need-returns-2
 returns-2 c =
@@ -25,7 +25,7 @@ returns-2 c =
     let at8 = at5 .before .before .before in let o2 = at8 .o2 in
     let at12 = at8 .before .before .before .before in let new-path = at12 .new-path in
     let at17 = at12 .before .before .before .before .before in let args = at17 .args in
-    one-refused (pathChop (args .s)) _ (args .out .now) (args .begins .now) (args .n) (args .m) _ (new-path .ensures) (o2 .given .1) _ (path-chop-adaptive .ensures) (r .given .1)
+    one-refused (pathChop mostHalvings (args .s)) _ (args .out .now) (args .begins .now) (args .n) (args .m) _ (new-path .ensures) (o2 .given .1) _ (path-chop-adaptive .ensures) (r .given .1)
 
 returns-3 : tie.Need-returns-3
 returns-3 c =
@@ -34,7 +34,7 @@ returns-3 c =
     let at10 = at7 .before .before .before in let o2 = at10 .o2 in
     let at14 = at10 .before .before .before .before in let new-path = at14 .new-path in
     let at19 = at14 .before .before .before .before .before in let args = at19 .args in
-    one-done (pathChop (args .s)) _ (args .out .now) (args .begins .now) (args .n) (args .m) _ (new-path .ensures) (o2 .given .1) _ (path-chop-adaptive .ensures) _ (r2 .given .1) (c .close .ensures .0) (c .close .ensures .1)
+    one-done (pathChop mostHalvings (args .s)) _ (args .out .now) (args .begins .now) (args .n) (args .m) _ (new-path .ensures) (o2 .given .1) _ (path-chop-adaptive .ensures) _ (r2 .given .1) (c .close .ensures .0) (c .close .ensures .1)
 
 pub one-path-spec : {M : Type 1} → statement M
 one-path-spec =

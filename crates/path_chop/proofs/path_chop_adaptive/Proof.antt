@@ -1,5 +1,5 @@
 use Rattle.path_chop.proofs.Halving.{chop-none, chop-some}
-use Rattle.path_chop.specs.Chop.{chopFrom}
+use Rattle.path_chop.specs.Chop.{mostHalvings, chopFrom}
 use Rattle.paths.proofs.Runs.{run-refused, run-on}
 use Rattle.paths.proofs.Ending.{ends-as, answers}
 use Rattle.paths.specs.Ends.{allPoints}
@@ -36,7 +36,7 @@ returns-2 c =
     let at9 = at8 .before in let if1 = at9 .if1 in
     let at12 = at9 .before .before .before in let args = at12 .args in
     let pre = at12 .pre in
-    ends-as (chop-some (args .s) (args .path .now) (args .from) (args .end) _ _ (read-point .result) (spot-of .result) (if1 .left) (pre .1) (read-point .ensures) (spot-of .ensures)) (run-refused (λ (l : ℕ) (o : List Vector). push l o (read-point .result)) (λ (l : ℕ) (o : List Vector). chopFrom (args .s) l (spot-of .result) (slice (args .from + 1) (args .end) (allPoints (args .path .now))) o) (args .out .now) _ (args .n) (push′ .ensures) (r .given .1))
+    ends-as (chop-some (args .s) (args .path .now) (args .from) (args .end) _ _ (read-point .result) (spot-of .result) (if1 .left) (pre .1) (read-point .ensures) (spot-of .ensures)) (run-refused (λ (l : ℕ) (o : List Vector). push l o (read-point .result)) (λ (l : ℕ) (o : List Vector). chopFrom mostHalvings (args .s) l (spot-of .result) (slice (args .from + 1) (args .end) (allPoints (args .path .now))) o) (args .out .now) _ (args .n) (push′ .ensures) (r .given .1))
 
 returns-3 : tie.Need-returns-3
 returns-3 c =
@@ -48,7 +48,7 @@ returns-3 c =
     let at13 = at12 .before in let if1 = at13 .if1 in
     let at16 = at13 .before .before .before in let args = at16 .args in
     let pre = at16 .pre in
-    ends-as (chop-some (args .s) (args .path .now) (args .from) (args .end) _ _ (read-point .result) (spot-of .result) (if1 .left) (pre .1) (read-point .ensures) (spot-of .ensures)) (run-on (λ (l : ℕ) (o : List Vector). push l o (read-point .result)) (λ (l : ℕ) (o : List Vector). chopFrom (args .s) l (spot-of .result) (slice (args .from + 1) (args .end) (allPoints (args .path .now))) o) (args .out .now) _ (args .n) (push′ .ensures) _ (r2 .given .1) (push′ .kept .0) (chop-from .ensures))
+    ends-as (chop-some (args .s) (args .path .now) (args .from) (args .end) _ _ (read-point .result) (spot-of .result) (if1 .left) (pre .1) (read-point .ensures) (spot-of .ensures)) (run-on (λ (l : ℕ) (o : List Vector). push l o (read-point .result)) (λ (l : ℕ) (o : List Vector). chopFrom mostHalvings (args .s) l (spot-of .result) (slice (args .from + 1) (args .end) (allPoints (args .path .now))) o) (args .out .now) _ (args .n) (push′ .ensures) _ (r2 .given .1) (push′ .kept .0) (chop-from .ensures))
 
 pub path-chop-adaptive-spec : {M : Type 1} → statement M
 path-chop-adaptive-spec =

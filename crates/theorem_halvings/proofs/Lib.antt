@@ -1,0 +1,4 @@
+pub mod Nearness
+pub mod Tight
+pub mod Alike
+pub mod Drawn
