@@ -47,10 +47,12 @@ uint32_t larnt_solid_box(uint32_t kind, const double numbers[16], double box[6])
 uint32_t larnt_solid_contains(uint32_t kind, const double numbers[16], const double point[3], double f, bool *inside);
 
 /* A scene: five slices, each a pointer and a count of elements. An entry has 16 numbers and 4 marks
-   (kind, detail, first part, second part); kinds 1 to 5 as above, 6 a placed part (matrix by rows),
-   7 a cut (detail 0 intersection, 1 difference, which answer the t of the last ray as the Rust does; 2 and
-   3 the same with the true distance, from a ray's first origin). Three numbers a point; a path has a start,
-   in points, and an owner, an entry of kinds 1 to 3. */
+   (kind, detail, first part, second part); kinds 1 to 5 as above, 6 a placed part (matrix by rows), 7 a cut
+   (detail 0 intersection, 1 difference, which answer the t of the last ray as the Rust does; 2 and 3 the same
+   with the true distance, from a ray's first origin). The detail of kind 4 is its stripes, 1 to 1,000; that of
+   kinds 2 and 3 is the stripe count, 0 to 360: a line at each (360 / count, rounded down) degrees, before the
+   handed-in ones, 0 for these only. Three numbers a point; a path has a start, in points, and an owner, an
+   entry of kinds 1 to 3. */
 #define LARNT_SCENE \
     const double *numbers, size_t numbers_count, const uint32_t *marks, size_t marks_count, \
     const double *points, size_t points_count, const size_t *starts, size_t starts_count, \
@@ -59,7 +61,7 @@ uint32_t larnt_solid_contains(uint32_t kind, const double numbers[16], const dou
 /* The most entries of a scene. */
 #define LARNT_ENTRIES 1024
 
-/* Each answers 0, or the number of the refusal, 2 to 7 for the scene; what is filled is then 0 and false. */
+/* Each answers 0, or the number of the refusal, 2 to 7 or 14 for the scene; what is filled is then 0 and false. */
 
 /* Fills 16 numbers an entry (the inverse of a placing, else zeros), 6 an entry (its box, min and max),
    and the drawn entries, each followed by zeros; count is how many are drawn. */
@@ -109,7 +111,7 @@ uint32_t larnt_covered(LARNT_SCENE, LARNT_TREE, const double eye[3], const doubl
 
 /* The same of many points, three numbers each, with one check of the scene: fills `told` with a byte a point, 1
    seen, 2 not, or the number of the point's own refusal, 9, 11 or 12, followed by zeros. Answers 0, or 2 where
-   `tested_count` is not three numbers a point, 2 to 7 for the scene, 8 for the eye, 13 where `told` has fewer bytes
+   `tested_count` is not three numbers a point, 2 to 7 or 14 for the scene, 8 for the eye, 13 where `told` has fewer bytes
    than there are points; `told` is then zeros throughout. */
 uint32_t larnt_covered_all(LARNT_SCENE, LARNT_TREE, const double eye[3], const double *tested, size_t tested_count,
                            uint8_t *told, size_t told_count);
@@ -132,7 +134,7 @@ uint32_t larnt_simplify(const double *points, size_t points_count, const size_t 
 /* The drawing of a scene by a view, simplified with 1e-4. It works in the slices after `begins`, which are zeros throughout
    afterwards: `work` and `work_starts` are eight equal slices end to end, one for the collected lines and
    one for each cut within a cut; then the result of a chop, and the tree as above. Answers 0, or the number
-   of the refusal: 2 to 7 for the scene, 8 for the view, then 9 to 13 for the first trouble met. */
+   of the refusal: 2 to 7 or 14 for the scene, 8 for the view, then 9 to 13 for the first trouble met. */
 uint32_t larnt_draw(LARNT_SCENE, const double view[22], double *out, size_t out_count, size_t *begins,
                     size_t begins_count, double *work, size_t work_count, size_t *work_starts,
                     size_t work_starts_count, double *chopped, size_t chopped_count, size_t *chopped_starts,

@@ -21,7 +21,7 @@ pub fn compare(run: &mut Run) {
     let shares: &[Part<Rays, Told>] = &[
         ("visible", &|_, _, a| a[0] == 0 && a[1] == 1),
         ("hidden", &|_, _, a| a[0] == 0 && a[1] == 0),
-        ("2 to 7", &|_, _, a| (2..8).contains(&a[0])),
+        ("2 to 7 or 14", &|_, _, a| matches!(a[0], 2..8 | 14)),
         ("8", &|_, _, a| a[0] == 8),
         ("9", &|_, _, a| a[0] == 9),
         ("11", &|_, _, a| a[0] == 11),
@@ -43,7 +43,7 @@ pub fn compare(run: &mut Run) {
 
     let shares: &[Share<Many, Words>] = &[
         ("answered", &|_, a| a.0[0] == 0),
-        ("2 to 7", &|_, a| (2..8).contains(&a.0[0])),
+        ("2 to 7 or 14", &|_, a| matches!(a.0[0], 2..8 | 14)),
         ("8", &|_, a| a.0[0] == 8),
         ("13", &|_, a| a.0[0] == 13),
         ("a point's 9", &|_, a| a.0[2..].contains(&9)),

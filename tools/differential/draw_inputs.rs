@@ -453,7 +453,7 @@ fn moved(mut m: Numbers, to: Point) -> Numbers {
 
 /// Silos, hoppers, tanks, walls, roofs, augers and bins that are cut open; `scale` is a metre.
 pub fn yard(rng: &mut Rng, scale: f64, pieces: usize) -> Scene {
-    let mut yard = Yard { rng, scale, scene: Scene::default() };
+    let mut yard = Yard { rng, scale, scene: Scene::default(), striped: true };
     for _ in 0..pieces {
         yard.piece();
     }
@@ -464,6 +464,8 @@ struct Yard<'a> {
     rng: &'a mut Rng,
     scale: f64,
     scene: Scene,
+    /// Whether its tubes and cones may have stripes.
+    striped: bool,
 }
 
 impl Yard<'_> {
@@ -531,9 +533,28 @@ impl Yard<'_> {
         }
     }
 
+    /// A count of stripes: none, as few as a yard's, or at the boundaries of what they are.
+    fn stripes(&mut self) -> u32 {
+        if !self.striped {
+            return 0;
+        }
+        match self.rng.below(100) {
+            0..60 => 0,
+            60..90 => self.rng.pick(&[1, 2, 3, 5, 7, 8, 12]),
+            90..97 => 13 + self.rng.below(60) as u32,
+            97 => self.rng.pick(&[120, 121, 180]),
+            98 => self.rng.pick(&[181, 359, 360]),
+            _ => self.rng.pick(&[361, 1000, u32::MAX]),
+        }
+    }
+
     fn tube(&mut self, r: f64, h: f64) -> u32 {
         let (r, h) = (self.scale * r, self.scale * h);
-        let tube = self.scene.push([2, 0, 0, 0], &[r, 0.0, h]);
+        let count = self.stripes();
+        let tube = self.scene.push([2, count, 0, 0], &[r, 0.0, h]);
+        if count > 0 && self.rng.chance(30) {
+            return tube;
+        }
         // on the surface, or just outside it
         let out = r * self.rng.pick(&[1.0, 1.0, 1.001, 1.05]);
         let points = self.rng.pick(&[8, 12, 24]);
@@ -546,7 +567,11 @@ impl Yard<'_> {
 
     fn cone(&mut self, r: f64, h: f64) -> u32 {
         let (r, h) = (self.scale * r, self.scale * h);
-        let cone = self.scene.push([3, 0, 0, 0], &[r, h]);
+        let count = self.stripes();
+        let cone = self.scene.push([3, count, 0, 0], &[r, h]);
+        if count > 0 && self.rng.chance(30) {
+            return cone;
+        }
         let out = r * self.rng.pick(&[1.0, 1.0, 1.001, 1.05]);
         self.ring(cone, [0.0; 3], out, 12);
         let count = self.rng.below(7);
@@ -666,7 +691,7 @@ pub fn ordinary(rng: &mut Rng, n: usize, step: f64) -> (Scene, View) {
 }
 
 fn full_yard(rng: &mut Rng, n: usize, placed: usize) -> Scene {
-    let mut yard = Yard { rng, scale: 1.0, scene: Scene::default() };
+    let mut yard = Yard { rng, scale: 1.0, scene: Scene::default(), striped: false };
     for k in 0..n {
         let at = inputs::place(yard.rng, Grain::Any);
         let at = [at[0], at[1], at[2].abs() / 5.0];

@@ -8,6 +8,7 @@ use crate::host::{self, raw};
 use crate::scene_calls::{Words, copy, number, put, put_floats};
 use crate::stage_inputs::view_numbers;
 use oracle::generate::Rng;
+use oracle::stripes::striped;
 use oracle::{Answer, FINE, Lines, Room, Scene, View, draw_measured, plain};
 use std::cell::{Cell, RefCell};
 use std::hint::black_box;
@@ -178,7 +179,7 @@ pub fn alike(a: &Lines, b: &Lines) -> bool {
 /// How often each number was met, 0 for an answer; and how long the core took.
 #[derive(Default)]
 struct Tally {
-    met: RefCell<[u64; 14]>,
+    met: RefCell<[u64; 15]>,
     calls: Cell<u64>,
     core: Cell<Duration>,
 }
@@ -205,7 +206,7 @@ impl Tally {
 
     fn print(&self, name: &str, omitted: u64, all: Duration) {
         let met = self.met.borrow();
-        let refused: Vec<String> = (1..14).map(|n| format!("{n}: {}", met[n])).collect();
+        let refused: Vec<String> = (1..15).map(|n| format!("{n}: {}", met[n])).collect();
         let a_case = |time: Duration| time.as_secs_f64() * 1e6 / self.calls.get() as f64;
         println!(
             "({name}: answered {}; refused {}; omitted {omitted}; {:.0} us a case, the core {:.0})",
@@ -215,6 +216,12 @@ impl Tally {
             a_case(self.core.get())
         );
     }
+}
+
+/// Whether an entry has stripes, and lines besides if asked for.
+fn has_stripes(scene: &Scene, with_lines: bool) -> bool {
+    let mut counted = scene.marks.chunks(4).enumerate().filter(|(_, m)| striped(m[0]) && m[1] > 0);
+    counted.any(|(i, _)| !with_lines || scene.owners.contains(&(i as u32)))
 }
 
 fn has(scene: &Scene, kind: u32) -> bool {
@@ -232,6 +239,10 @@ pub fn compare(run: &mut Run) {
         }),
         ("with a placing", &|case, a| a.0[0] == 0 && has(&case.scene, 6)),
         ("with lines handed in", &|case, a| a.0[0] == 0 && !case.scene.starts.is_empty()),
+        ("with stripes", &|case, a| a.0[0] == 0 && has_stripes(&case.scene, false)),
+        ("with stripes and lines of one solid", &|case, a| {
+            a.0[0] == 0 && has_stripes(&case.scene, true)
+        }),
         ("out exactly full", &|case, a| {
             a.0[0] == 0 && a.0[1] > 0 && case.lengths[0] / 3 == a.0[1] as usize
         }),

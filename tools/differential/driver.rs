@@ -26,6 +26,7 @@ mod scenes;
 mod stack;
 mod stage_inputs;
 mod stages;
+mod stripes;
 mod tree_calls;
 mod tree_inputs;
 mod trees;
@@ -36,13 +37,14 @@ use std::process::ExitCode;
 /// Its name, what it compares, and what it times.
 type Layer = (&'static str, fn(&mut Run), fn());
 
-const LAYERS: [Layer; 8] = [
+const LAYERS: [Layer; 9] = [
     ("roots", roots::compare, roots::speed),
     ("leaves", leaves::compare, leaves::speed),
     ("scenes", scenes::compare, scenes::speed),
     ("trees", trees::compare, trees::speed),
     ("covers", covers::compare, covers::speed),
     ("stages", stages::compare, stages::speed),
+    ("stripes", stripes::compare, || ()),
     ("draws", draws::compare, draws::speed),
     ("registers", registers::compare, registers::speed),
 ];

@@ -6,6 +6,7 @@ use crate::inputs::{self, Grain, Numbers, Point, Spot};
 use oracle::Scene;
 use oracle::check::{parts, used_numbers};
 use oracle::generate::Rng;
+use oracle::stripes::striped;
 use std::fmt::Write;
 
 /// A scene and what is asked of it: an entry with a ray, or with a point and a widening.
@@ -125,6 +126,7 @@ pub fn has_true_cut(scene: &Scene) -> bool {
 pub fn ordinary(rng: &mut Rng) -> Case {
     loop {
         let (mut case, grain) = aimed_at(rng);
+        without_stripes(&mut case.scene);
         if has_true_cut(&case.scene) {
             continue;
         }
@@ -134,6 +136,11 @@ pub fn ordinary(rng: &mut Rng) -> Case {
             return case;
         }
     }
+}
+
+/// The Rust side would make the stripes of a solid with the solid.
+fn without_stripes(scene: &mut Scene) {
+    scene.marks.chunks_exact_mut(4).filter(|marks| striped(marks[0])).for_each(|m| m[1] = 0);
 }
 
 /// A scene as large as it may be: cuts, placings and simple solids.
@@ -150,6 +157,7 @@ pub fn full(rng: &mut Rng) -> Case {
         while yard.scene.entries() < 1024 {
             yard.leaf([0.0; 3]);
         }
+        without_stripes(&mut yard.scene);
         if oracle::check(&yard.scene).is_ok() {
             return Case { scene: yard.scene, i: 0, asked: Vec::new() };
         }
@@ -396,8 +404,12 @@ impl Yard<'_> {
                 *x = (*x - from[k % 3]) + to[k % 3];
             }
         }
-        let stripes = self.rng.pick(&[1, 1, 1, 2, 999, 1000]);
-        self.scene.push([kind, if kind == 4 { stripes } else { 0 }, 0, 0], &n)
+        let detail = match kind {
+            4 => self.rng.pick(&[1, 1, 1, 2, 999, 1000]),
+            kind if striped(kind) => self.rng.pick(&[0, 0, 0, 0, 0, 0, 0, 1, 7, 8, 181, 360]),
+            _ => 0,
+        };
+        self.scene.push([kind, detail, 0, 0], &n)
     }
 
     /// A placing at that point. A part of a cut is mostly enlarged: else a miss may come back below
@@ -476,6 +488,7 @@ impl Yard<'_> {
                 4 => &[1],
                 6 => &[2],
                 7 => &[1, 2, 3],
+                kind if striped(kind) => &[1],
                 _ => &[],
             };
             for k in (1..4).filter(|k| !used.contains(k)) {
@@ -491,7 +504,7 @@ impl Yard<'_> {
 
     fn any_mark(&mut self) -> u32 {
         let any = self.rng.next() as u32;
-        self.rng.pick(&[0, 1, 2, 7, 8, 1023, 1024, u32::MAX, any])
+        self.rng.pick(&[0, 1, 2, 7, 8, 360, 361, 1023, 1024, u32::MAX, any])
     }
 
     /// An entry, if there is one, of a kind that `wanted` takes.
@@ -502,11 +515,12 @@ impl Yard<'_> {
         (!found.is_empty()).then(|| self.rng.pick(&found))
     }
 
-    /// Does damage that may meet one of 2 to 7, or just not.
+    /// Does damage that may meet one of 2 to 7 or 14, or just not.
     fn damage(&mut self) {
-        match self.rng.below(18) {
+        match self.rng.below(20) {
             0..3 => self.damage_lengths(),
             3..5 => self.damage_marks(),
+            18.. => self.damage_stripes(),
             5..8 => self.damage_parts(),
             8..10 => self.damage_owners(),
             10..12 => self.damage_starts(),
@@ -546,6 +560,19 @@ impl Yard<'_> {
             _ => (0, self.rng.pick(&[0, 8, 9, 1 << 16 | kind, 1 << 31 | kind, wrong])),
         };
         self.scene.marks[4 * i + k] = mark;
+    }
+
+    /// A count at the boundaries of what it may be, or beyond.
+    fn damage_stripes(&mut self) {
+        let i = match self.some(striped) {
+            Some(i) => i,
+            None => self.scene.push([2, 0, 0, 0], &[1.0, 0.0, 2.0]) as usize,
+        };
+        let any = self.any_mark();
+        let count = self.rng.pick(&[0, 1, 7, 181, 360, 361, 361, 362, 1000, u32::MAX, any]);
+        if let Some(mark) = self.scene.marks.get_mut(4 * i + 1) {
+            *mark = count;
+        }
     }
 
     fn damage_parts(&mut self) {

@@ -311,6 +311,13 @@ fn boundaries(list: &mut List) {
     list.number("stripes 0", &one([4, 0, 0, 0], &[0.0; 6]), 3);
     list.number("stripes 1,000", &one([4, 1000, 0, 0], &[0.0; 6]), 0);
     list.number("kind 8", &one([8, 0, 0, 0], &[]), 3);
+    list.number("360 stripes", &one([2, 360, 0, 0], &[1.0, 0.0, 1.0]), 0);
+    list.number("361 stripes", &one([3, 361, 0, 0], &[1.0, 1.0]), 14);
+    let mut s = one([2, u32::MAX, 0, 0], &[1.0, 0.0, 1.0]);
+    s.push([6, 0, 1, 0], &IDENTITY);
+    list.number("14 before 4", &s, 14);
+    s.push([4, 0, 0, 0], &[]);
+    list.number("3 before 14", &s, 3);
     let mut s = many(2);
     s.push([7, 0, 0, 0], &[]);
     list.number("both parts one entry", &s, 4);
@@ -347,7 +354,7 @@ fn main() -> std::io::Result<()> {
     restarts(&mut list);
     boundaries(&mut list);
     let deep = |s: &Scene| s.entries() > 4;
-    list.pick(6, scene_inputs::hit, |s, a| deep(s) && a.hit.0 == 0 && a.hit.2);
+    list.pick(5, scene_inputs::hit, |s, a| deep(s) && a.hit.0 == 0 && a.hit.2);
     list.pick(4, scene_inputs::hit, |s, a| deep(s) && a.hit.0 == 0 && !a.hit.2 && a.hit.1 != 1e9);
     list.pick(2, scene_inputs::hit, |s, a| deep(s) && a.hit.0 == 11);
     list.pick(5, scene_inputs::contains, |s, a| deep(s) && a.contains.1);

@@ -19,6 +19,7 @@ pub fn compare(run: &mut Run) {
         ("accepted", &|_, a| a.0[0] == 0),
         ("2", &|_, a| a.0[0] == 2),
         ("3", &|_, a| a.0[0] == 3),
+        ("14", &|_, a| a.0[0] == 14),
         ("4", &|_, a| a.0[0] == 4),
         ("5", &|_, a| a.0[0] == 5),
         ("6", &|_, a| a.0[0] == 6),
@@ -36,7 +37,7 @@ pub fn compare(run: &mut Run) {
         ("t no number", &|_, a| a.0[0] == 0 && float(a.0[1]).is_nan()),
         ("11", &|_, a| a.0[0] == 11),
         ("8", &|_, a| a.0[0] == 8),
-        ("2 to 7", &|_, a| (2..8).contains(&a.0[0])),
+        ("2 to 7 or 14", &|_, a| refused(a)),
         ("placed", &|case, _| kind(case) == 6),
         ("cut", &|case, _| kind(case) == 7),
         ("of parts with parts", &|case, _| nested(case)),
@@ -59,7 +60,7 @@ pub fn compare(run: &mut Run) {
     let shares: &Sharing = &[
         ("inside", &|_, a| a.0[0] == 0 && a.0[1] == 1),
         ("outside", &|_, a| a.0[0] == 0 && a.0[1] == 0),
-        ("2 to 7", &|_, a| a.0[0] != 0),
+        ("2 to 7 or 14", &|_, a| refused(a)),
         ("placed", &|case, _| kind(case) == 6),
         ("cut", &|case, _| kind(case) == 7),
         ("of parts with parts", &|case, _| nested(case)),
@@ -78,6 +79,11 @@ fn line(
     let cores: [&dyn Fn(&Case) -> Words; 2] =
         [&|case| answer(&CORE_SCENES, case), &|case| answer(&HOST_SCENES, case)];
     run.compare(name, count, make, |case| answer(&RUST, case), &cores, shares);
+}
+
+/// By the check of the scene.
+fn refused(a: &Words) -> bool {
+    matches!(a.0[0], 2..8 | 14)
 }
 
 fn float(word: u64) -> f64 {

@@ -23,6 +23,7 @@ mod tree_inputs;
 
 use oracle::check::used_numbers;
 use oracle::generate::Rng;
+use oracle::stripes::striped;
 use oracle::{Scene, View};
 use std::collections::BTreeMap;
 use std::io::Write;
@@ -129,7 +130,7 @@ fn text(rng: &mut Rng) -> Vec<u8> {
 /// A scene whose slices agree, so that it can be written as forms, mostly not a large one.
 fn readable(rng: &mut Rng) -> (Scene, View) {
     loop {
-        let (scene, mut view) = draw_inputs::scene_and_view(rng);
+        let (mut scene, mut view) = draw_inputs::scene_and_view(rng);
         let sound = oracle::check::scene(&scene);
         if sound.is_err() || scene.entries() > 520 {
             continue;
@@ -137,7 +138,21 @@ fn readable(rng: &mut Rng) -> (Scene, View) {
         if rng.chance(50) {
             view.step = rng.pick(&[0.0, 40.0, 100.0, 200.0]);
         }
+        if rng.chance(15) {
+            recount(rng, &mut scene);
+        }
         return (scene, view);
+    }
+}
+
+/// Another count of stripes in some of the solids that have one.
+fn recount(rng: &mut Rng, scene: &mut Scene) {
+    let most = rng.pick(&[1, 12, 360, 361]);
+    for marks in scene.marks.chunks_exact_mut(4).filter(|marks| striped(marks[0])) {
+        if rng.chance(70) {
+            let any = rng.below(most + 1) as u32;
+            marks[1] = rng.pick(&[any, any, any, any, 360, 361, 1_000_000, 1_000_001, u32::MAX]);
+        }
     }
 }
 
@@ -152,6 +167,33 @@ fn small(rng: &mut Rng) -> Vec<u8> {
             b"(sphere 0 0 0 1 (line 1 0 0 0 1 0) (line))",
             b"(cylinder 1 -1 1(line 1 0 0 1 0 1))",
             b"(cone 1 2 (line 0 0 2))",
+            b"(cylinder 1 -1 1 0)",
+            b"(cylinder 1 -1 1 1)",
+            b"(cylinder 1 -1 1 7 (line 1 0 0 1 0 1)(line))",
+            b"(cylinder 1 -1 1 360)",
+            b"(cylinder 1 -1 1 361)",
+            b"(cylinder 1 -1 1 1000000)",
+            b"(cylinder 1 -1 1 1000001)",
+            b"(cylinder 1 -1 1 0012(line 1 1 1))",
+            b"(cylinder 1 -1 1 -4)",
+            b"(cylinder 1 -1 1 -0)",
+            b"(cylinder 1 -1 1 +4)",
+            b"(cylinder 1 -1 4)",
+            b"(cylinder 1 -1 1 4 4)",
+            b"(cylinder 1 -1 1 #4010000000000000)",
+            b"(cylinder 1 -1 1 (line 1 0 0) 4)",
+            b"(cone 1 2 0)",
+            b"(cone 1 2 00)",
+            b"(cone 1 2 1 )",
+            b"(cone 1 2 181(line 0 0 2))",
+            b"(cone 1 2 360)",
+            b"(cone 1 2 000361)",
+            b"(cone 1 2 x)",
+            b"(sphere 0 0 0 1 4)",
+            b"(sphere 0 0 0 1 4 (line 1 0 0))",
+            b"(cut 1 (cube 1 -1 -1 -1 1 1 1) (cylinder 1 -2 2 5))",
+            b"(cut 0 (cone 1 2 361) (cut 4 (cone 1 1) (cone 1 1)))",
+            b"(place 1 0 0 0 0 1 0 0 0 0 1 0 0 0 0 1 (cone 1 2 361))",
             b"(place 1 0 0 0 0 1 0 0 0 0 1 0 0 0 0 1 (cube 1 0 0 0 1 1 1))",
             b"(cut 1 (cube 1 -1 -1 -1 1 1 1) (cube 1 0 0 0 2 2 2))",
             b"(cut 0 (sphere 0 0 0 1) (cone 1 1))",
@@ -177,11 +219,11 @@ fn small(rng: &mut Rng) -> Vec<u8> {
     text
 }
 
-/// As many entries, points, lines or nested forms as there may be, or one more or less.
+/// As many entries, points, lines, stripes or nested forms as there may be, or one more or less.
 fn limits(rng: &mut Rng) -> Vec<u8> {
     let mut text = b"(view 10 10 0 0 0 5 1 0 0 0 0 1 0 0 0 0 1 0 0 0 0 1)\n".to_vec();
     let near = |rng: &mut Rng, most: usize| most + 1 - rng.below(3);
-    match rng.below(5) {
+    match rng.below(6) {
         0 => {
             for _ in 0..near(rng, 512) {
                 text.extend(b"(cone 0 1)\n");
@@ -212,6 +254,14 @@ fn limits(rng: &mut Rng) -> Vec<u8> {
             }
             text.extend(b"(cone 1 1)");
             text.extend(std::iter::repeat_n(b')', deep - 1));
+        }
+        4 => {
+            // as many stripes as the slices take: 720 of two tubes and 304 of cones have 2,048 points
+            let rest = near(rng, 304);
+            text.extend(b"(cylinder 9 0 1 360)\n(cylinder 9 0 1 181)\n");
+            for _ in 0..rest {
+                text.extend(b"(cone 9 9 1)\n");
+            }
         }
         _ => {
             // half of them parts
@@ -292,6 +342,10 @@ impl Writer<'_> {
         for x in &numbers[..used_numbers(marks[0])] {
             self.number(*x);
         }
+        if striped(marks[0]) && (marks[1] > 0 || self.rng.chance(20)) {
+            let zeros = self.rng.pick(&["", "", "", "", "", "0", "0000000"]);
+            self.word(&format!("{zeros}{}", marks[1]));
+        }
         for part in oracle::check::parts(marks) {
             self.form(scene, *part as usize);
         }
@@ -345,6 +399,10 @@ fn spoil(rng: &mut Rng, text: &mut Vec<u8>) {
                 b" # ",
                 b" -#0000000000000000 ",
                 b" +1 ",
+                b" 0 ",
+                b" 7 ",
+                b" 360 ",
+                b" 361 ",
                 b" 1.5 ",
                 b" 1e3 ",
                 b" () ",

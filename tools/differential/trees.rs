@@ -16,7 +16,7 @@ pub fn compare(run: &mut Run) {
     let shares: &[Share<Build, Words>] = &[
         ("built", &|_, a| a.0[0] == 0),
         ("13", &|_, a| a.0[0] == 13),
-        ("2 to 7", &|_, a| (2..8).contains(&a.0[0])),
+        ("2 to 7 or 14", &|_, a| matches!(a.0[0], 2..8 | 14)),
         ("no solids", &|case, a| a.0[0] == 0 && case.scene.marks.is_empty()),
         ("more than 8 entries", &|case, _| case.scene.entries() > 8),
         ("more than 100", &|case, _| case.scene.entries() > 100),
@@ -32,7 +32,7 @@ pub fn compare(run: &mut Run) {
     let shares: &[Part<Rays, Told>] = &[
         ("hit", &|_, _, a| a[0] == 0 && a[2] == 1),
         ("missed", &|_, _, a| a[0] == 0 && a[2] == 0),
-        ("2 to 7", &|_, _, a| (2..8).contains(&a[0])),
+        ("2 to 7 or 14", &|_, _, a| matches!(a[0], 2..8 | 14)),
         ("8", &|_, _, a| a[0] == 8),
         ("11", &|_, _, a| a[0] == 11),
         ("12", &|_, _, a| a[0] == 12),
@@ -46,7 +46,7 @@ pub fn compare(run: &mut Run) {
     let shares: &[Part<Rays, Told>] = &[
         ("visible", &|_, _, a| a[0] == 0 && a[1] == 1),
         ("hidden", &|_, _, a| a[0] == 0 && a[1] == 0),
-        ("2 to 7", &|_, _, a| (2..8).contains(&a[0])),
+        ("2 to 7 or 14", &|_, _, a| matches!(a[0], 2..8 | 14)),
         ("8", &|_, _, a| a[0] == 8),
         ("9", &|_, _, a| a[0] == 9),
         ("11", &|_, _, a| a[0] == 11),

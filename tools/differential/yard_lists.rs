@@ -45,7 +45,7 @@ impl List {
                 3 => spoilt[k] = rng.pick(b" ()#-0123456789aAfFgG\t\r\n.+e\x00\xff"),
                 _ => spoilt.insert(k, rng.pick(b" ()#-0123456789aAfFgG\t\r\n.+e\x00\xff")),
             }
-            if oracle::yard::run(&spoilt).len() < 4_000 {
+            if oracle::yard::run(&spoilt).len() < 2_000 {
                 self.add(spoilt);
             }
         }
@@ -68,12 +68,14 @@ impl List {
     }
 }
 
-const FORMS: [&str; 25] = [
+const FORMS: [&str; 28] = [
     "(triangle 0 0 0 #3FE0000000000000 0 0 0 #3fe0000000000000 0)",
     "(sphere 0 0 0 1)",
     "(sphere 0 0 0 1 (line 1 0 0 0 1 0 -1 0 0) (line))",
     "(cylinder 1 -1 1 (line 1 0 -1 1 0 1))",
     "(cone 1 2 (line 1 0 0 0 0 2))",
+    "(cylinder 1 -1 1 7 (line 1 0 -1 1 0 1))",
+    "(cone 1 2 012)",
     "(cube 1 -1 -1 -1 1 1 1)",
     "(cube 7 0 0 0 1 1 1)",
     "(place 1 0 0 1 0 1 0 0 0 0 -1 0 0 0 0 1 (cube 1 0 0 0 1 1 1))",
@@ -86,6 +88,8 @@ const FORMS: [&str; 25] = [
     "(cube 0 0 0 0 1 1 1)",
     "(cube 1001 0 0 0 1 1 1)",
     "(cut 4 (cone 1 1) (cone 1 1))",
+    // 14
+    "(cone 1 2 361)",
     // 5
     "(sphere 0 0 0 -1)",
     "(cone 1 0)",
@@ -129,6 +133,16 @@ const TEXTS: [&str; 20] = [
 fn bounds(list: &mut List) {
     for stripes in [1000, 1001] {
         list.form(&format!("(cube {stripes} -1 -1 -1 1 1 1)"));
+    }
+    for stripes in ["0", "1", "360", "361", "1000000", "1000001", "-0", "+4"] {
+        list.form(&format!("(cylinder 9 0 1 {stripes})"));
+    }
+    list.form("(sphere 0 0 0 1 4)");
+    list.form("(cone 1 2 361)\n(cut 4 (cone 1 1) (cone 1 1))");
+    list.form("(cylinder 1 1 0)\n(cone 1 2 361)");
+    for n in [304, 305] {
+        let tubes = "(cylinder 9 0 1 360)\n(cylinder 9 0 1 181)\n";
+        list.add(format!("{VIEW}{tubes}{}", "(cone 9 9 1)\n".repeat(n)));
     }
     for n in [512, 513] {
         list.add(format!("{VIEW}{}", "(cone 0 1)\n".repeat(n)));
@@ -214,14 +228,16 @@ fn main() {
         restarts_and_places(&mut list);
         let mut rng = Rng::new(1);
         for form in FORMS {
-            list.spoilt(&mut rng, &format!("{VIEW}{form}\n"), 25);
+            list.spoilt(&mut rng, &format!("{VIEW}{form}\n"), 18);
         }
         let entries = std::fs::read_dir("examples").expect("examples");
         let mut yards: Vec<_> = entries.map(|e| e.expect("an entry").path()).collect();
         yards.retain(|path| path.extension().is_some_and(|x| x == "yard"));
         yards.sort();
-        for yard in yards {
-            let text = std::fs::read(yard).expect("a yard");
+        let mut texts: Vec<_> =
+            yards.iter().map(|yard| std::fs::read(yard).expect("a yard")).collect();
+        texts.sort_by_key(Vec::len);
+        for text in texts {
             list.add(text);
             // one that is too long for the list is left out
             if list.bytes().len() > MOST {

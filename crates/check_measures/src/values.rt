@@ -1,4 +1,4 @@
-// Number 3: kind, operation and stripe count are among their values.
+// Number 3: kind, operation and a cube's stripe count are among their values; number 14: a cylinder's and a cone's.
 ghost use mathlib.Core.Path.{_≡_};
 ghost use Prim.Native.Nat.{_/_};
 ghost use lib.ListN.{length};
@@ -45,6 +45,27 @@ pub fn all_known(marks: &[u32]) -> bool
     let mut i = 0;
     while i < n {
         if !known(rows::read_marks(marks, i)) {
+            return false;
+        }
+        i += 1;
+    }
+    true
+}
+
+fn few_stripes(m: Marks) -> bool
+    ensures { λ r. ⌜ r ≡ Values.fewStripes m ⌝ }
+{
+    scene::entry::stripe_count(m) <= 360
+}
+
+// Whether no entry has more than 360 stripes.
+pub fn all_few_stripes(marks: &[u32]) -> bool
+    ensures { λ r. ⌜ r ≡ allOf (λ i. Values.fewStripes (marksAt (now (marks .entry)) i)) (length (now (marks .entry)) / 4) ⌝ }
+{
+    let n = marks.len() / 4;
+    let mut i = 0;
+    while i < n {
+        if !few_stripes(rows::read_marks(marks, i)) {
             return false;
         }
         i += 1;

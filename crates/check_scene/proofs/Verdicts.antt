@@ -11,12 +11,12 @@ use borrow.Author.Tests.{leb-true, eqb-true}
 use Rattle.rows.specs.Rows.{view, flat, padded}
 use Rattle.rows.proofs.Rows.{flat-view, padded-take}
 use Rattle.refusals.specs.declared.Refusal.{Refusal}
-use Rattle.refusals.specs.declared.Refusal.the-variants.{Lengths, Values, Parts, Measures, Placing, Extent}
+use Rattle.refusals.specs.declared.Refusal.the-variants.{Lengths, Values, Stripes, Parts, Measures, Placing, Extent}
 use Rattle.check_parts.specs.Parts.{namedBefore}
 use Rattle.scene.specs.Scenes.{entries, Scene, entriesOf}
 use Rattle.check_parts.specs.Drawn.{unnamed, drawn}
 use Rattle.check_parts.proofs.Parts.{never}
-use Rattle.check_scene.specs.Checks.{lengthsAgree, valuesOk, namesOk, linesOwned, startsOk, measuresOk, placingsOk, extentsOk, checkOf, firstMet}
+use Rattle.check_scene.specs.Checks.{lengthsAgree, valuesOk, stripesOk, namesOk, linesOwned, startsOk, measuresOk, placingsOk, extentsOk, checkOf, firstMet}
 use Rattle.check_scene.specs.Stored.{Held}
 use Rattle.check_scene.specs.declared.Verdict.{Verdict}
 use Rattle.check_scene.specs.declared.Verdict.the-variants.{Accepted, Refused}
@@ -45,39 +45,44 @@ module _ (s : Scene) {a : Bool} (ea : a ≡ lengthsAgree s) where
     unfolding checkOf firstMet
     is-values f = rw (← ea, ta, ← eb, f)
 
-    module _ (tb : b ≡ true) {c : Bool} (ec : c ≡ namesOk s) where
-      pub is-named : c ≡ false → Refused Parts ≡ checkOf s
+    module _ (tb : b ≡ true) {z : Bool} (ez : z ≡ stripesOk s) where
+      pub is-striped : z ≡ false → Refused Stripes ≡ checkOf s
       unfolding checkOf firstMet
-      is-named f = rw (← ea, ta, ← eb, tb, ← ec, f)
+      is-striped f = rw (← ea, ta, ← eb, tb, ← ez, f)
 
-      module _ (tc : c ≡ true) {d : Bool} (ed : d ≡ linesOwned s) where
-        pub is-owners : d ≡ false → Refused Parts ≡ checkOf s
+      module _ (tz : z ≡ true) {c : Bool} (ec : c ≡ namesOk s) where
+        pub is-named : c ≡ false → Refused Parts ≡ checkOf s
         unfolding checkOf firstMet
-        is-owners f = rw (← ea, ta, ← eb, tb, ← ec, tc, ← ed, f)
+        is-named f = rw (← ea, ta, ← eb, tb, ← ez, tz, ← ec, f)
 
-        module _ (td : d ≡ true) {e : Bool} (ee : e ≡ startsOk s) where
-          pub is-starts : e ≡ false → Refused Parts ≡ checkOf s
+        module _ (tc : c ≡ true) {d : Bool} (ed : d ≡ linesOwned s) where
+          pub is-owners : d ≡ false → Refused Parts ≡ checkOf s
           unfolding checkOf firstMet
-          is-starts f = rw (← ea, ta, ← eb, tb, ← ec, tc, ← ed, td, ← ee, f)
+          is-owners f = rw (← ea, ta, ← eb, tb, ← ez, tz, ← ec, tc, ← ed, f)
 
-          module _ (te : e ≡ true) {g : Bool} (eg : g ≡ measuresOk s) where
-            pub is-measures : g ≡ false → Refused Measures ≡ checkOf s
+          module _ (td : d ≡ true) {e : Bool} (ee : e ≡ startsOk s) where
+            pub is-starts : e ≡ false → Refused Parts ≡ checkOf s
             unfolding checkOf firstMet
-            is-measures f = rw (← ea, ta, ← eb, tb, ← ec, tc, ← ed, td, ← ee, te, ← eg, f)
+            is-starts f = rw (← ea, ta, ← eb, tb, ← ez, tz, ← ec, tc, ← ed, td, ← ee, f)
 
-            module _ (tg : g ≡ true) {h : Bool} (eh : h ≡ placingsOk s) where
-              pub is-placing : h ≡ false → Refused Placing ≡ checkOf s
+            module _ (te : e ≡ true) {g : Bool} (eg : g ≡ measuresOk s) where
+              pub is-measures : g ≡ false → Refused Measures ≡ checkOf s
               unfolding checkOf firstMet
-              is-placing f = rw (← ea, ta, ← eb, tb, ← ec, tc, ← ed, td, ← ee, te, ← eg, tg, ← eh, f)
+              is-measures f = rw (← ea, ta, ← eb, tb, ← ez, tz, ← ec, tc, ← ed, td, ← ee, te, ← eg, f)
 
-              module _ (th : h ≡ true) {i : Bool} (ei : i ≡ extentsOk s) where
-                pub is-extent : i ≡ false → Refused Extent ≡ checkOf s
+              module _ (tg : g ≡ true) {h : Bool} (eh : h ≡ placingsOk s) where
+                pub is-placing : h ≡ false → Refused Placing ≡ checkOf s
                 unfolding checkOf firstMet
-                is-extent f = rw (← ea, ta, ← eb, tb, ← ec, tc, ← ed, td, ← ee, te, ← eg, tg, ← eh, th, ← ei, f)
+                is-placing f = rw (← ea, ta, ← eb, tb, ← ez, tz, ← ec, tc, ← ed, td, ← ee, te, ← eg, tg, ← eh, f)
 
-                pub is-accepted : i ≡ true → {n : ℕ} → n ≡ length (drawn (s .marks)) → Accepted n ≡ checkOf s
-                unfolding checkOf firstMet
-                is-accepted t q = rw (← ea, ta, ← eb, tb, ← ec, tc, ← ed, td, ← ee, te, ← eg, tg, ← eh, th, ← ei, t, q)
+                module _ (th : h ≡ true) {i : Bool} (ei : i ≡ extentsOk s) where
+                  pub is-extent : i ≡ false → Refused Extent ≡ checkOf s
+                  unfolding checkOf firstMet
+                  is-extent f = rw (← ea, ta, ← eb, tb, ← ez, tz, ← ec, tc, ← ed, td, ← ee, te, ← eg, tg, ← eh, th, ← ei, f)
+
+                  pub is-accepted : i ≡ true → {n : ℕ} → n ≡ length (drawn (s .marks)) → Accepted n ≡ checkOf s
+                  unfolding checkOf firstMet
+                  is-accepted t q = rw (← ea, ta, ← eb, tb, ← ez, tz, ← ec, tc, ← ed, td, ← ee, te, ← eg, tg, ← eh, th, ← ei, t, q)
 
 -- ---- the two verdicts apart
 abbrev isAccepted : Verdict → Bool

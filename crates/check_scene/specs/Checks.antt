@@ -1,4 +1,4 @@
--- The check of a scene: document 01's numbers 2 to 7, each over the whole scene before the next.
+-- The check of a scene: document 01's numbers 2 to 7, and document 02's 14 just after 3, each over the whole scene before the next.
 use Prim.Native.Nat.{ℕ, _*_, _/_}
 use mathlib.Core.Path.{_≡_}
 use mathlib.Core.Bool.{Bool, _&&_, cond}
@@ -14,13 +14,13 @@ use Rattle.rows.specs.Starts.{goodStarts}
 use Rattle.scene.specs.Entries.{marksAt, numbersAt}
 use Rattle.scene.specs.Scenes.{Scene, entriesOf}
 use Rattle.refusals.specs.declared.Refusal.{Refusal}
-use Rattle.refusals.specs.declared.Refusal.the-variants.{Lengths, Values, Parts, Measures, Placing, Extent}
+use Rattle.refusals.specs.declared.Refusal.the-variants.{Lengths, Values, Stripes, Parts, Measures, Placing, Extent}
 use Rattle.limits.specs.Limits.{withinBox}
 use Rattle.check_parts.specs.Parts.{partsOk}
 use Rattle.check_parts.specs.Owners.{ownersOk}
 use Rattle.check_parts.specs.Drawn.{drawn}
 use Rattle.lists.specs.Lists.{allOf, listTo}
-use Rattle.check_measures.specs.Values.{known}
+use Rattle.check_measures.specs.Values.{known, fewStripes}
 use Rattle.check_measures.specs.Measures.{measured}
 use Rattle.check_scene.specs.Placings.{placingOk, inverseAt}
 use Rattle.check_scene.specs.Extents.{ownBox}
@@ -41,6 +41,10 @@ lengthsAgree s =
 -- number 3
 abbrev pub valuesOk : Scene → Bool
 valuesOk s = allOf (λ i. known (marksAt (s .marks) i)) (entriesOf s)
+
+-- number 14
+abbrev pub stripesOk : Scene → Bool
+stripesOk s = allOf (λ i. fewStripes (marksAt (s .marks) i)) (entriesOf s)
 
 -- number 4: of parts, of owners and of path starts
 abbrev pub namesOk : Scene → Bool
@@ -69,12 +73,13 @@ unfoldable pub firstMet : List (Bool × Refusal) → Verdict → Verdict
 firstMet [] v = v
 firstMet ((holds, number) ∷ rest) v = cond holds (firstMet rest v) (Refused number)
 
--- numbers 2 to 7 in checking order, or how many entries are drawn
+-- numbers 2, 3, 14 and 4 to 7 in checking order, or how many entries are drawn
 unfoldable pub checkOf : Scene → Verdict
 checkOf s =
     firstMet
     ((lengthsAgree s, Lengths)
     ∷ (valuesOk s, Values)
+    ∷ (stripesOk s, Stripes)
     ∷ (namesOk s && (linesOwned s && startsOk s), Parts)
     ∷ (measuresOk s, Measures)
     ∷ (placingsOk s, Placing)

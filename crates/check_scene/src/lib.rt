@@ -1,4 +1,4 @@
-// The check of a scene: numbers 2 to 7 of document 01.
+// The check of a scene: numbers 2 to 7 of document 01, and 14 of document 02 just after 3.
 pub mod extents;
 pub mod placings;
 
@@ -62,6 +62,9 @@ fn judge(
     if !check_measures::values::all_known(marks) {
         return Verdict::Refused(Refusal::Values);
     }
+    if !check_measures::values::all_few_stripes(marks) {
+        return Verdict::Refused(Refusal::Stripes);
+    }
     let mut named = [0u32; 1024];
     if !check_parts::well_named(marks, &mut named) {
         return Verdict::Refused(Refusal::Parts);
@@ -84,7 +87,7 @@ fn judge(
     Verdict::Accepted(check_parts::list_unnamed(&named, marks.len() / 4, drawn))
 }
 
-// Judges a scene by numbers 2 to 7. Of an accepted one the slices hold the inverses (zeros for what is
+// Judges a scene by numbers 2, 3, 14 and 4 to 7. Of an accepted one the slices hold the inverses (zeros for what is
 // no placing), the boxes of all entries and the drawn entries, then zeros; else zeros throughout.
 pub fn check(
     numbers: &[f64],

@@ -1,9 +1,9 @@
--- An accepted scene passes each test of numbers 2 to 7: the proof, a test at a time. Assumes nothing.
+-- An accepted scene passes each test of numbers 2 to 7 and 14: the proof, a test at a time. Assumes nothing.
 use Prim.Native.Nat.{ℕ}
 use mathlib.Core.Path.{_≡_, refl}
 use mathlib.Core.Bool.{Bool, true, false, _&&_, cond, and-eq-true-iff}
 use Rattle.refusals.specs.declared.Refusal.{Refusal}
-use Rattle.check_scene.specs.Checks.{lengthsAgree, valuesOk, namesOk, linesOwned, startsOk, measuresOk, placingsOk, extentsOk, checkOf, firstMet}
+use Rattle.check_scene.specs.Checks.{lengthsAgree, valuesOk, stripesOk, namesOk, linesOwned, startsOk, measuresOk, placingsOk, extentsOk, checkOf, firstMet}
 use Rattle.check_scene.specs.declared.Verdict.{Verdict}
 use Rattle.check_scene.specs.declared.Verdict.the-variants.{Accepted, Refused}
 use Rattle.check_scene.proofs.Verdicts.{not-accepted}
@@ -19,10 +19,11 @@ unfolding checkOf firstMet
 accepted-passes s d h =
     let a = passed (lengthsAgree s) _ _ h in
     let b = passed (valuesOk s) _ _ (a .1) in
-    let c = passed (namesOk s && (linesOwned s && startsOk s)) _ _ (b .1) in
+    let z = passed (stripesOk s) _ _ (b .1) in
+    let c = passed (namesOk s && (linesOwned s && startsOk s)) _ _ (z .1) in
     let m = passed (measuresOk s) _ _ (c .1) in
     let p = passed (placingsOk s) _ _ (m .1) in
     let e = passed (extentsOk s) _ _ (p .1) in
     let n = and-eq-true-iff (namesOk s) (linesOwned s && startsOk s) .0 (c .0) in
     let o = and-eq-true-iff (linesOwned s) (startsOk s) .0 (n .1) in
-    record { lengths = a .0; values = b .0; names = n .0; owners = o .0; starts = o .1; measures = m .0; placings = p .0; extents = e .0 }
+    record { lengths = a .0; values = b .0; stripes = z .0; names = n .0; owners = o .0; starts = o .1; measures = m .0; placings = p .0; extents = e .0 }

@@ -1,15 +1,16 @@
--- An accepted scene passes each test of numbers 2 to 7.
+-- An accepted scene passes each test of numbers 2 to 7 and 14.
 use Prim.Native.Nat.{ℕ}
 use mathlib.Core.Path.{_≡_}
 use mathlib.Core.Bool.{true}
-use Rattle.check_scene.specs.Checks.{lengthsAgree, valuesOk, namesOk, linesOwned, startsOk, measuresOk, placingsOk, extentsOk, checkOf}
+use Rattle.check_scene.specs.Checks.{lengthsAgree, valuesOk, stripesOk, namesOk, linesOwned, startsOk, measuresOk, placingsOk, extentsOk, checkOf}
 use Rattle.scene.specs.Scenes.{Scene}
 use Rattle.check_scene.specs.declared.Verdict.the-variants.{Accepted}
 
--- document 01's numbers 2 to 7, by their tests: the condition of none is met
+-- document 01's numbers 2 to 7 and document 02's 14, by their tests: the condition of none is met
 pub record Passing (s : Scene) : Type 0 where
   pub lengths : lengthsAgree s ≡ true
   pub values : valuesOk s ≡ true
+  pub stripes : stripesOk s ≡ true
   pub names : namesOk s ≡ true
   pub owners : linesOwned s ≡ true
   pub starts : startsOk s ≡ true

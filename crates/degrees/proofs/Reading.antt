@@ -1,8 +1,8 @@
--- What an i64 and an f64 make of a number of magnitude at most 2^53, and the loop that converts the table. Assumes nothing.
+-- What an i64 and an f64 make of a number of magnitude at most 2^53, the loop that converts the table, and reads of what it leaves. Assumes nothing.
 use mathlib.Core.Path.{_≡_, refl, sym, ap, subst, _∙_}
 use mathlib.Core.Bool.{Bool, true, false, not}
-use mathlib.Core.List.{List, map}
-use Prim.Native.Nat.{ℕ, _+_, _*_, _/_, _%_, _^_, _<_, _≤_}
+use mathlib.Core.List.{List, [], _∷_, map}
+use Prim.Native.Nat.{ℕ, zero, suc, _+_, _*_, _/_, _%_, _^_, _<_, _≤_}
 use native.Mathlib.Omega.{arith}
 use native.Mathlib.Nat.{le-antisymm}
 use native.Mathlib.Numerals.{add-one}
@@ -18,7 +18,7 @@ use mir.Syntax.{w64}
 use mir.Val.{SFits, toZ, ofZ}
 use mir.ValLaws.{toZ-ofZ}
 use Rattle.degrees.specs.Table.{degreeTable}
-use Rattle.degrees.specs.Degrees.{cosineUnits, sineUnits, fromUnits, floatTable}
+use Rattle.degrees.specs.Degrees.{cosineUnits, sineUnits, fromUnits, cosineOf, sineOf, floatTable}
 use Rattle.degrees.specs.Rule.{ExactUnits}
 use Rattle.degrees.proofs.Rule.{table-rule, exact-entries}
 
@@ -104,3 +104,22 @@ converted-turn all i x h l e = record {
 pub converted-end : (all : List Float) (i : ℕ) → Converted all i → 720 ≤ i → all ≡ floatTable
 converted-end all i h l =
     sym (take-all i all (omega (arith, h .same))) ∙ h .done ∙ take-all i floatTable (omega (arith, float-length))
+
+-- ---- the converted table, read
+at-map : {A B : Type 0} (f : A → B) (l : List A) (i : ℕ) (d : B) (e : A) → i < length l → getD (map f l) i d ≡ f (getD l i e)
+at-map f [] i d e h = absurd (omega arith)
+at-map f (x ∷ l) zero d e h = refl
+at-map f (x ∷ l) (suc i) d e h = at-map f l i d e (omega arith)
+
+module _ (table : List Float) (is : table ≡ floatTable) (a : ℕ) (h : a < 360) (d : Float) where
+  pub cosine-read : getD table (2 * a) d ≡ cosineOf a
+  unfolding floatTable cosineUnits
+  cosine-read =
+      let round : a % 360 ≡ a = omega arith in
+      rw (is, round) (at-map fromUnits degreeTable (2 * a) d (pos 0) (omega (arith, table-rule .places)))
+
+  pub sine-read : getD table (2 * a + 1) d ≡ sineOf a
+  unfolding floatTable sineUnits
+  sine-read =
+      let round : a % 360 ≡ a = omega arith in
+      rw (is, round) (at-map fromUnits degreeTable (2 * a + 1) d (pos 0) (omega (arith, table-rule .places)))

@@ -1,4 +1,4 @@
--- Document 01's draw of a scene: refusals 2 to 8, and then the drawing. Its threshold of simplification is document 02's.
+-- Document 01's draw of a scene: refusals 2 to 8 and 14, and then the drawing. Its threshold of simplification is document 02's.
 use mathlib.Core.Bool.{cond, _&&_}
 use mathlib.Core.List.{List}
 use Prim.Native.Nat.{ℕ, _*_, _/_}

@@ -39,7 +39,7 @@ seenIn s = seenBy (solidIn s) (boxIn s) (drawn (s .marks))
 
 -- Document 01's answered, of a draw with the threshold t: the scene is drawn with the paths q, step by step. Step 2 and step 5 do nothing unless step > 0; then the filter has the room of the lines.
 pub record Drawing (t : Float) (s : Scene) (v : View) (w : Places) (q : Paths) : Type 0 where
-  -- numbers 2 to 8 are not met
+  -- numbers 2 to 8 and 14 are not met
   pub count : ℕ
   pub accepted : checkOf s ≡ Accepted count
   pub fair : viewOk v ≡ true

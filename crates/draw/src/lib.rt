@@ -1,4 +1,4 @@
-// The draw of a scene: refusals 2 to 8 before anything is written, then the drawing.
+// The draw of a scene: refusals 2 to 8 and 14 before anything is written, then the drawing.
 ghost use lib.ListN.{length};
 ghost use Rattle.floats.specs.Arith.{zeroF};
 ghost use Rattle.paths.specs.Ends.{EndsBoth, Finished, Zeroed};

@@ -29,7 +29,8 @@ use Rattle.paths.specs.declared.Counts.{Counts}
 use Rattle.paths.specs.declared.Counts.the-variants.{Both, Refused}
 use Rattle.paths.proofs.Ending.{both-at, both-refused, refuses-both, answers-both}
 use Rattle.paths.proofs.Parts.{length-points}
-use Rattle.draw_lines.specs.Lines.{ownPaths, solidPaths}
+use Rattle.draw_lines.specs.Lines.{ownPaths}
+use Rattle.draw_solids.specs.Lines.{solidPaths}
 use Rattle.draw_lines.specs.Pushing.{addPaths}
 use Rattle.draw_lines.proofs.Adding.{ends-both-as}
 use Rattle.view.specs.declared.RenderArgs.{RenderArgs}

@@ -15,7 +15,8 @@ use Rattle.scene.specs.declared.entry.Entry.the-variants.{Simple, Placed, Cut, 
 use Rattle.scene_shape.specs.Shapes.{Shape, none, simple, placed, cut}
 use Rattle.paths.specs.Paths.{pathsOf}
 use Rattle.paths.specs.Ends.{allPoints}
-use Rattle.draw_lines.specs.Lines.{ownPaths, solidPaths}
+use Rattle.draw_lines.specs.Lines.{ownPaths}
+use Rattle.draw_solids.specs.Lines.{solidPaths}
 
 pub data Lined : Type 0 where
   noLines : Lined
@@ -46,6 +47,6 @@ readLined (suc d) at own i = linedOf (readLined d at own) (own i) (at i)
 unfoldable pub detailAt : List ℕ → ℕ → ℕ
 detailAt marks i = cond (ltb i (length marks / 4)) (marksAt marks i .detail) 0
 
--- the lines of entry i of a scene, if it is a simple solid: a cube's by its detail, a round one's as they were handed in
+-- the lines of entry i of a scene, if it is a simple solid: by its detail, and a round one's as they were handed in
 unfoldable pub ownLines : List ℕ → List Float → List ℕ → List ℕ → ℕ → Solid → List (List Vector)
 ownLines marks points starts owners i s = solidPaths s (detailAt marks i) (ownPaths i (pathsOf (allPoints points) starts) owners)

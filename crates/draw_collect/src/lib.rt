@@ -190,7 +190,7 @@ fn entry_paths(
     let e = scene::entry::entry_at(numbers, inverses, marks, i);
     match e {
         Entry::None => Counts::Both(n, m),
-        Entry::Simple(s) => draw_lines::solid_paths(
+        Entry::Simple(s) => draw_solids::solid_paths(
             s,
             detail_of(marks, i),
             i,

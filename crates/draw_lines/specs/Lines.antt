@@ -1,4 +1,4 @@
--- The lines of a solid of kinds 1 to 5, path by path.
+-- The lines of a triangle, and those that were handed in, path by path.
 use mathlib.Core.Bool.{Bool, cond, _&&_}
 use mathlib.Core.List.{List, [], _∷_}
 use Prim.Native.Nat.{ℕ}
@@ -7,9 +7,6 @@ use lib.Seq.{slice}
 use lib.Dec.{ltb, eqb}
 use Rattle.geometry.specs.declared.vector.Vector.{Vector}
 use Rattle.rows.specs.Starts.{endOf}
-use Rattle.solids.specs.declared.solid.Solid.{Solid}
-use Rattle.solids.specs.declared.solid.Solid.the-variants.{Sphere, Cylinder, Cone, Cube, Triangle}
-use Rattle.draw_lines.specs.Cubes.{pathsStriped}
 
 -- a triangle is one path, back to its first corner (triangle.rs)
 unfoldable pub trianglePaths : Vector → Vector → Vector → List (List Vector)
@@ -28,11 +25,3 @@ unfoldable pub ownPaths : ℕ → List (List Vector) → List ℕ → List (List
 ownPaths i [] owners = []
 ownPaths i (p ∷ ps) [] = []
 ownPaths i (p ∷ ps) (o ∷ os) = cond (eqb o i) (p ∷ ownPaths i ps os) (ownPaths i ps os)
-
--- a round solid has the lines that were handed in for it, a cube as many stripes as its detail says
-unfoldable pub solidPaths : Solid → ℕ → List (List Vector) → List (List Vector)
-solidPaths (Sphere center radius) detail own = own
-solidPaths (Cylinder radius z0 z1) detail own = own
-solidPaths (Cone radius height) detail own = own
-solidPaths (Cube min max) detail own = pathsStriped min max detail
-solidPaths (Triangle v1 v2 v3) detail own = trianglePaths v1 v2 v3

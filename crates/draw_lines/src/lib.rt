@@ -1,4 +1,4 @@
-// The lines of a solid of kinds 1 to 5, added to the paths that two lent slices hold.
+// Lines added to the paths that two lent slices hold: those of cubes and triangles, and handed-in ones.
 ghost use mathlib.Core.Path.{_≡_};
 ghost use mathlib.Core.List.{[], _∷_};
 ghost use Prim.Native.Nat.{_*_, _≤_, _<_};
@@ -9,11 +9,10 @@ ghost use Rattle.paths.specs.Paths.{onePath, pathsOf};
 ghost use Rattle.paths.specs.Ends.{places, allPoints, held, EndsBoth};
 ghost use Rattle.draw_lines.specs.Pushing.{copied, addPaths, Fit, Adds};
 ghost use Rattle.draw_lines.specs.Cubes as Cubes;
-ghost use Rattle.draw_lines.specs.Lines.{trianglePaths, ownedBy, ownPath, ownPaths, solidPaths};
+ghost use Rattle.draw_lines.specs.Lines.{trianglePaths, ownedBy, ownPath, ownPaths};
 use geometry::vector::Vector;
 use paths::Count;
 use paths::Counts;
-use solids::solid::Solid;
 
 // A path of the points from `from` up to `end` is opened, filled and closed.
 fn one_path(
@@ -45,7 +44,7 @@ fn one_path(
 }
 
 // A path of two points, unless there was trouble before.
-fn line(c: Counts, a: Vector, b: Vector, out: &mut [f64], begins: &mut [usize]) -> Counts
+pub fn line(c: Counts, a: Vector, b: Vector, out: &mut [f64], begins: &mut [usize]) -> Counts
     requires { ⌜ Fit c (now out) (now begins) ⌝ }
     ensures { λ r. ⌜ Adds ((a ∷ b ∷ []) ∷ []) c (now (out .entry)) (now (begins .entry)) (now (out .exit)) (now (begins .exit)) r ⌝ }
 {
@@ -179,7 +178,7 @@ fn stripe(
 }
 
 // The lines of a cube with so many stripes, after n points and m starts.
-fn paths_striped(
+pub fn paths_striped(
     min: Vector,
     max: Vector,
     stripes: u32,
@@ -209,7 +208,7 @@ fn paths_striped(
 }
 
 // A triangle is one path, back to its first corner.
-fn triangle_paths(
+pub fn triangle_paths(
     v1: Vector,
     v2: Vector,
     v3: Vector,
@@ -277,7 +276,7 @@ fn own_path(
 }
 
 // The handed-in paths of entry i, in order.
-fn handed_paths(
+pub fn handed_paths(
     points: &[f64],
     starts: &[usize],
     owners: &[u32],
@@ -305,39 +304,4 @@ fn handed_paths(
         j += 1;
     }
     Counts::Both(p, q)
-}
-
-// The lines of entry i, a solid of kinds 1 to 5, after n points and m starts.
-pub fn solid_paths(
-    solid: Solid,
-    detail: u32,
-    i: usize,
-    points: &[f64],
-    starts: &[usize],
-    owners: &[u32],
-    out: &mut [f64],
-    begins: &mut [usize],
-    n: usize,
-    m: usize,
-) -> Counts
-    requires { ⌜ (n * 3 ≤ length (now out)) × (m ≤ length (now begins)) ⌝ }
-    ensures { λ r. ⌜ EndsBoth (addPaths (places (now (out .entry))) (length (now (begins .entry))) (solidPaths solid detail (ownPaths i (pathsOf (allPoints (now (points .entry))) (now (starts .entry))) (now (owners .entry)))) (held n (now (out .entry)) m (now (begins .entry)))) (now (out .exit)) (now (begins .exit)) r ⌝ }
-{
-    match solid {
-        Solid::Sphere {
-            center: _,
-            radius: _,
-        } => handed_paths(points, starts, owners, i, out, begins, n, m),
-        Solid::Cylinder {
-            radius: _,
-            z0: _,
-            z1: _,
-        } => handed_paths(points, starts, owners, i, out, begins, n, m),
-        Solid::Cone {
-            radius: _,
-            height: _,
-        } => handed_paths(points, starts, owners, i, out, begins, n, m),
-        Solid::Cube { min, max } => paths_striped(min, max, detail, out, begins, n, m),
-        Solid::Triangle { v1, v2, v3 } => triangle_paths(v1, v2, v3, out, begins, n, m),
-    }
 }

@@ -244,7 +244,7 @@ pub extern "C" fn larnt_solid_contains(
     }
 }
 
-// The check of a scene: numbers 2 to 7. Of an accepted one `inverses` holds 16 numbers an entry (zeros
+// The check of a scene: numbers 2 to 7 and 14. Of an accepted one `inverses` holds 16 numbers an entry (zeros
 // for what is no placing), `boxes` 6 an entry, `drawn` the drawn entries, `count` of them; then zeros.
 #[no_mangle]
 pub extern "C" fn larnt_check(
@@ -296,7 +296,7 @@ pub extern "C" fn larnt_own_hit(
     query_solid::answers::struck_number(h)
 }
 
-// Whether the solid at an entry of a scene, widened by f, contains a point: numbers 2 to 7.
+// Whether the solid at an entry of a scene, widened by f, contains a point: numbers 2 to 7 and 14.
 #[no_mangle]
 pub extern "C" fn larnt_own_contains(
     numbers: &[f64],

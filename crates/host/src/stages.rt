@@ -111,7 +111,7 @@ pub extern "C" fn larnt_simplify(
     counts_number(c)
 }
 
-// The scene drawn for a view, simplified with 1e-4: numbers 2 to 8, then the first of 9 to 13 that the work
+// The scene drawn for a view, simplified with 1e-4: numbers 2 to 8 and 14, then the first of 9 to 13 that the work
 // meets. What is filled is as above; the work slices are zeros afterwards. `work` and `work_starts` are
 // eight equal vectors.
 #[no_mangle]

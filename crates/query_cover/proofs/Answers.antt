@@ -17,7 +17,7 @@ use Rattle.rows.specs.Points.{pointOf}
 use Rattle.rows.proofs.Rows.{length-view, getD-view, getD-padded}
 use Rattle.refusals.specs.Refusals.{numberOf}
 use Rattle.refusals.specs.declared.Refusal.{Refusal}
-use Rattle.refusals.specs.declared.Refusal.the-variants.{Lengths, Values, Parts, Measures, Placing, Extent, View, Point, Restarts, Waiting, Room}
+use Rattle.refusals.specs.declared.Refusal.the-variants.{Lengths, Values, Parts, Measures, Placing, Extent, View, Point, Restarts, Waiting, Room, Stripes}
 use Rattle.limits.specs.Limits.{withinPoint}
 use Rattle.scene.specs.Scenes.{Scene}
 use Rattle.scene_shape.specs.declared.Struck.{Struck}
@@ -78,6 +78,7 @@ number-fits Point = omega arith
 number-fits Restarts = omega arith
 number-fits Waiting = omega arith
 number-fits Room = omega arith
+number-fits Stripes = omega arith
 
 pub byte-fits : (k : Refusal) (n : ℕ) → n ≡ numberOf k → n < 256
 byte-fits k n e = omega (arith, e, number-fits k)

@@ -30,7 +30,7 @@ use Rattle.query_cover.specs.declared.Batch.the-variants.{Answered, Refu
 unfoldable pub coveredPast : (Float → Ray → Sought) → Vector → Vector → Sight
 coveredPast seek eye point = cond (withinPoint point) (coveredBy seek eye point) (NotSeen Point)
 
--- numbers 2 to 7, then 8 of the eye and 9 of the point, as `visibleOf` has them, then the walk that stops on the rows that are handed in
+-- numbers 2 to 7 and 14, then 8 of the eye and 9 of the point, as `visibleOf` has them, then the walk that stops on the rows that are handed in
 unfoldable pub coveredOf : Scene → List Float → List ℕ → List ℕ → Vector → Vector → Sight
 coveredOf s boxes marks order eye point =
     seenAfter (checkOf s)
@@ -47,7 +47,7 @@ byteOf (NotSeen k) = numberOf k
 unfoldable pub bytesPast : (Float → Ray → Sought) → Vector → ℕ → List Float → List ℕ
 bytesPast seek eye n tested = view 3 (λ (p : List Float). byteOf (coveredPast seek eye (pointOf p))) n tested
 
--- Number 2 of a points' slice of this size, then the scene's verdict, numbers 2 to 7, then 8 of the eye, then 13: there is a byte for each point. No point refuses the others.
+-- Number 2 of a points' slice of this size, then the scene's verdict, numbers 2 to 7 and 14, then 8 of the eye, then 13: there is a byte for each point. No point refuses the others.
 unfoldable pub batchBy : Verdict → Vector → ℕ → ℕ → Batch
 batchBy (Refused k) eye size room = cond (eqb (size / 3 * 3) size) (NoneAnswered k) (NoneAnswered Lengths)
 batchBy (Accepted n) eye size room =

@@ -84,7 +84,7 @@ module _ (s : Scene) (n : ℕ) (is : checkOf s ≡ Accepted n) where
   pub accepted-count : n ≡ length (drawn (s .marks))
   accepted-count =
       let p : Passing s = accepted-passes s n is in
-      sym (accepted-same (is-accepted s refl (p .lengths) refl (p .values) refl (p .names) refl (p .owners) refl (p .starts) refl (p .measures) refl (p .placings) refl (p .extents) refl ∙ is))
+      sym (accepted-same (is-accepted s refl (p .lengths) refl (p .values) refl (p .stripes) refl (p .names) refl (p .owners) refl (p .starts) refl (p .measures) refl (p .placings) refl (p .extents) refl ∙ is))
 
   pub accepted-many : n ≤ 1024
   accepted-many = omega (arith, accepted-count, drawn-few (s .marks), accepted-few s n is)

@@ -59,7 +59,7 @@ unfoldable pub builtAfter : Verdict → Built → Built
 builtAfter (Accepted n) b = b
 builtAfter (Refused k) b = NotBuilt k
 
--- numbers 2 to 7, then 13
+-- numbers 2 to 7 and 14, then 13
 unfoldable pub buildOf : Scene → ℕ → ℕ → Built
 buildOf s places room = builtAfter (checkOf s) (plantedOf (boxAt (boxesLeft s)) (drawn (s .marks)) places room)
 
@@ -92,7 +92,7 @@ unfoldable pub foundAfter : Verdict → Found → Found
 foundAfter (Accepted n) f = f
 foundAfter (Refused k) f = NotFound k
 
--- Numbers 2 to 7, then 8, then the walk of the rows that are handed in. The best names the entry whose t last became the best, FFFFFFFF (hexadecimal) where none did:
+-- Numbers 2 to 7 and 14, then 8, then the walk of the rows that are handed in. The best names the entry whose t last became the best, FFFFFFFF (hexadecimal) where none did:
 -- request (i)'s every hit.
 unfoldable pub intersectOf : Scene → List Float → List ℕ → List ℕ → Ray → Found
 intersectOf s boxes marks order r = foundAfter (checkOf s) (cond (withinRay r) (walkRows (ownHits s r) r boxes marks order) (NotFound View))
@@ -102,7 +102,7 @@ unfoldable pub seenAfter : Verdict → Sight → Sight
 seenAfter (Accepted n) h = h
 seenAfter (Refused k) h = NotSeen k
 
--- numbers 2 to 7, then 8 of the eye and 9 of the point, then document 01's visible
+-- numbers 2 to 7 and 14, then 8 of the eye and 9 of the point, then document 01's visible
 unfoldable pub visibleOf : Scene → List Float → List ℕ → List ℕ → Vector → Vector → Sight
 visibleOf s boxes marks order eye point =
     seenAfter (checkOf s)

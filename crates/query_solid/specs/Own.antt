@@ -16,7 +16,7 @@ use Rattle.check_scene.specs.declared.Verdict.the-variants.{Accepted, Refused}
 use Rattle.query_solid.specs.declared.Contained.{Contained}
 use Rattle.query_solid.specs.declared.Contained.the-variants.{Inside, Refused as NotContained}
 
--- numbers 2 to 8, then document 01's own returned distance of the solid at entry i: the t that its hit gives this ray, a miss's included; 11 where it has none
+-- numbers 2 to 8 and 14, then document 01's own returned distance of the solid at entry i: the t that its hit gives this ray, a miss's included; 11 where it has none
 unfoldable pub ownHit : Scene → ℕ → Ray → Struck
 ownHit s i r = struckAfter (checkOf s) (cond (withinRay r) (shapeHit (solidOf (s .numbers) (s .marks) i) r) (NotStruck View))
 
@@ -24,6 +24,6 @@ unfoldable pub containedAfter : Verdict → Bool → Contained
 containedAfter (Accepted n) b = Inside b
 containedAfter (Refused k) b = NotContained k
 
--- numbers 2 to 7, then whether the solid at entry i, widened by f, contains p
+-- numbers 2 to 7 and 14, then whether the solid at entry i, widened by f, contains p
 unfoldable pub ownContains : Scene → ℕ → Vector → Float → Contained
 ownContains s i p f = containedAfter (checkOf s) (shapeContains (solidOf (s .numbers) (s .marks) i) p f)

@@ -1,4 +1,4 @@
-// Why a call is refused: document 01's numbers 2 to 13, by what each says; 10 is unused.
+// Why a call is refused: document 01's numbers 2 to 13 and document 02's 14, by what each says; 10 is unused.
 ghost use mathlib.Core.Path.{_≡_};
 ghost use Rattle.refusals.specs.Refusals.{numberOf};
 
@@ -14,10 +14,11 @@ pub enum Refusal {
     Restarts,
     Waiting,
     Room,
+    Stripes,
 }
 
 impl Refusal {
-    // Document 01's number.
+    // The number in document 01 or 02.
     pub fn number(self) -> u32
         ensures { λ n. ⌜ n ≡ numberOf self ⌝ }
     {
@@ -33,6 +34,7 @@ impl Refusal {
             Refusal::Restarts => 11,
             Refusal::Waiting => 12,
             Refusal::Room => 13,
+            Refusal::Stripes => 14,
         }
     }
 }

@@ -1,6 +1,6 @@
 -- What an entry's kind and its 16 numbers stand for (document 01, "Scene").
 use Prim.Native.Nat.{ℕ, _/_}
-use mathlib.Core.Bool.{cond, _&&_}
+use mathlib.Core.Bool.{Bool, cond, _&&_, _||_}
 use mathlib.Core.List.{List}
 use lib.ListN.{length}
 use lib.Dec.{ltb, leb, eqb}
@@ -30,6 +30,14 @@ simpleOf kind n =
     (cond (eqb kind 4) (Is (Cube (vec (n .x00) (n .x01) (n .x02)) (vec (n .x03) (n .x10) (n .x11))))
     (cond (eqb kind 5) (Is (Triangle (vec (n .x00) (n .x01) (n .x02)) (vec (n .x03) (n .x10) (n .x11)) (vec (n .x12) (n .x13) (n .x20))))
     Other))))
+
+-- the kinds whose detail is a stripe count (document 02, ii): cylinder and cone
+unfoldable pub striped : ℕ → Bool
+striped kind = eqb kind 2 || eqb kind 3
+
+-- the stripe count of an entry, 0 where its kind has none
+unfoldable pub stripeCount : Marks → ℕ
+stripeCount m = cond (striped (m .kind)) (m .detail) 0
 
 -- a matrix by rows, as a placed part has it
 unfoldable pub matrixOf : Numbers → Matrix

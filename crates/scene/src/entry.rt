@@ -1,6 +1,6 @@
 // An entry of a scene: its 16 numbers and 4 marks, read as what they stand for.
 ghost use mathlib.Core.Path.{_≡_};
-ghost use Rattle.scene.specs.Entries.{simpleOf, matrixOf, matrixNumbers, opOf, cutOf, compositeOf, entryOf, entryAt};
+ghost use Rattle.scene.specs.Entries.{simpleOf, matrixOf, matrixNumbers, striped, stripeCount, opOf, cutOf, compositeOf, entryOf, entryAt};
 use geometry::vector::Vector;
 use matrix::Matrix;
 use rows::Marks;
@@ -50,6 +50,26 @@ pub fn simple_of(kind: u32, n: Numbers) -> Simple
         });
     }
     Simple::Other
+}
+
+// Whether the detail of a kind is a stripe count: cylinder and cone.
+pub fn is_striped(kind: u32) -> bool
+    ensures { λ r. ⌜ r ≡ striped kind ⌝ }
+{
+    if kind == 2 {
+        return true;
+    }
+    kind == 3
+}
+
+// The stripe count of an entry, 0 where its kind has none.
+pub fn stripe_count(m: Marks) -> u32
+    ensures { λ r. ⌜ r ≡ stripeCount m ⌝ }
+{
+    if is_striped(m.kind) {
+        return m.detail;
+    }
+    0
 }
 
 // A matrix by rows.

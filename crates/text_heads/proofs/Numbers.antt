@@ -22,7 +22,7 @@ use Rattle.text_tokens.specs.declared.Step.the-variants.{To as Goes, Off}
 use Rattle.text_tokens.specs.declared.Step.{Step}
 use Rattle.text_tokens.specs.declared.Counted.{Counted}
 use Rattle.text_tokens.specs.declared.Counted.the-variants.{Count, Uncounted}
-use Rattle.text_heads.specs.Heads.{numbersIn, kindIn, detailIn, measures, openingIn, namedIn, viewWord, viewOf, viewIn}
+use Rattle.text_heads.specs.Heads.{numbersIn, kindIn, detailIn, measures, stripesIn, openingIn, namedIn, viewWord, viewOf, viewIn}
 use Rattle.text_heads.specs.Cursors.{numbersAs, openedAs, viewedAs}
 use Rattle.text_heads.specs.declared.Opening.the-variants.{Of, NoOpening}
 use Rattle.text_heads.specs.declared.Viewed.the-variants.{Seen, Unseen}
@@ -77,7 +77,7 @@ rest-row xs e =
     let l : length (drop 6 xs) ≡ 16 = length-drop 6 xs ∙ n in
     rw n (ap (take 16) (take-all 16 (drop 6 xs) (omega (arith, l))) ∙ take-all 16 (drop 6 xs) (omega (arith, l)))
 
--- a form's beginning: its kind, its detail and its numbers
+-- a form's beginning: its kind, its detail, its numbers and its stripes
 module _ (s : List ℕ) (at : ℕ) {h : Counted} (head : countedAs s h ≡ kindIn (left s at)) {k i : ℕ} (kind : h ≡ Count k i) {d : Counted} (detail : countedAs s d ≡ detailIn k (left s i)) where
   pub opening-undetailed : d ≡ Uncounted → openedAs s NoOpening ≡ openingIn (left s at)
   unfolding openedAs openingIn andThen countedAs
@@ -88,10 +88,15 @@ module _ (s : List ℕ) (at : ℕ) {h : Counted} (head : countedAs s h ≡ kindI
     unfolding openedAs openingIn andThen countedAs numbersAs
     opening-short q = rw (← head, kind, ← detail, p, ← count, ← numbers, q)
 
-    pub opening-of : n ≤ 16 → length xs ≡ 16 → drop n xs ≡ drop n (replicate 16 zeroF) → {e : ℕ} → b ≡ Goes e → {r : Numbers} → r ≡ numbersOf (row 16 0 xs)
-        → openedAs s (Of (record { kind = k; detail = v; row = r }) e) ≡ openingIn (left s at)
-    unfolding openedAs openingIn andThen countedAs numbersAs
-    opening-of l long rest q w = rw (← head, kind, ← detail, p, ← count, ← numbers, q, w, padded-row n xs l long rest)
+    module _ {e : ℕ} (q : b ≡ Goes e) {t : Counted} (stripes : countedAs s t ≡ stripesIn k v (left s e)) where
+      pub opening-miscounted : t ≡ Uncounted → openedAs s NoOpening ≡ openingIn (left s at)
+      unfolding openedAs openingIn andThen countedAs numbersAs
+      opening-miscounted u = rw (← head, kind, ← detail, p, ← count, ← numbers, q, ← stripes, u)
+
+      pub opening-of : n ≤ 16 → length xs ≡ 16 → drop n xs ≡ drop n (replicate 16 zeroF) → {w m : ℕ} → t ≡ Count w m → {r : Numbers} → r ≡ numbersOf (row 16 0 xs)
+          → openedAs s (Of (record { kind = k; detail = w; row = r }) m) ≡ openingIn (left s at)
+      unfolding openedAs openingIn andThen countedAs numbersAs
+      opening-of l long rest u is = rw (← head, kind, ← detail, p, ← count, ← numbers, q, ← stripes, u, is, padded-row n xs l long rest)
 
 -- the view
 module _ (s : List ℕ) (at : ℕ) {h : Step} (head : stepAs s h ≡ namedIn viewWord (left s at)) {i : ℕ} (goes : h ≡ Goes i) (xs : List Float) {b : Step} (numbers : numbersAs s 22 xs b ≡ numbersIn [] 22 (left s i)) where

@@ -1,4 +1,4 @@
--- The beginnings of forms (document 01, "The program `yard` reads forms"): a bracket, a head, a detail and numbers.
+-- The beginnings of forms (document 01, "The program `yard` reads forms"): a bracket, a head, a detail and numbers, and stripes.
 use Prim.Native.Nat.{ℕ, zero, suc}
 use mathlib.Core.Bool.{Bool, true, false, cond, _&&_, _||_}
 use mathlib.Core.List.{List, [], _∷_, _++_}
@@ -10,9 +10,9 @@ use Rattle.geometry.specs.Vectors.{vec}
 use Rattle.geometry.specs.declared.vector.Vector.{Vector}
 use Rattle.rows.specs.Rows.{padded}
 use Rattle.rows.specs.Entries.{numbersOf}
-use Rattle.scene.specs.Entries.{matrixOf}
+use Rattle.scene.specs.Entries.{matrixOf, striped}
 use Rattle.view.specs.declared.View.{View}
-use Rattle.text_tokens.specs.Tokens.{Token, Got, no, got, Mark, mark, andThen, wordIn, openIn, closeIn, numberIn, countIn}
+use Rattle.text_tokens.specs.Tokens.{Token, Got, no, got, Mark, mark, andThen, wordIn, openIn, closeIn, numberIn, countIn, countOr}
 use Rattle.text_heads.specs.declared.Head.{Head}
 
 -- ---- words
@@ -78,17 +78,22 @@ numbersIn xs (suc n) ts = andThen (numberIn ts) (λ x us. numbersIn (xs ++ (x �
 unfoldable pub measures : ℕ → ℕ
 measures k = cond (eqb k 1) 4 (cond (eqb k 2) 3 (cond (eqb k 3) 2 (cond (eqb k 4) 6 (cond (eqb k 5) 9 (cond (eqb k 6) 16 0)))))
 
--- a cube's stripes and a cut's operation; other kinds have no detail, and 0 stands for it
+-- a cube's stripes and a cut's operation; other kinds have no detail here, and 0 stands for it
 unfoldable pub detailIn : ℕ → List Token → Got ℕ
 detailIn k ts = cond (eqb k 4 || eqb k 7) (countIn ts) (got 0 ts)
 
--- a bracket, a head, its detail and its numbers, then zeros
+-- after the numbers: the stripe count of a striped kind (document 02, ii), if a word stands there; v is the detail so far
+unfoldable pub stripesIn : ℕ → ℕ → List Token → Got ℕ
+stripesIn k v ts = cond (striped k) (countOr v ts) (got v ts)
+
+-- a bracket, a head, its detail and its numbers, then zeros, and its stripes
 unfoldable pub openingIn : List Token → Got Head
 openingIn ts =
     andThen (kindIn ts) (λ k us.
     andThen (detailIn k us) (λ v vs.
     andThen (numbersIn [] (measures k) vs) (λ xs ws.
-    got (record { kind = k; detail = v; row = numbersOf (padded zeroF 16 xs) }) ws)))
+    andThen (stripesIn k v ws) (λ d ys.
+    got (record { kind = k; detail = d; row = numbersOf (padded zeroF 16 xs) }) ys))))
 
 -- three numbers
 unfoldable pub pointIn : List Token → Got Vector

@@ -170,7 +170,7 @@ fn measures(kind: u32) -> usize
     0
 }
 
-// A cube's stripes and a cut's operation; 0 stands for the detail of other kinds.
+// A cube's stripes and a cut's operation; 0 stands for the detail of other kinds so far.
 fn detail_at(text: &[u8], at: usize, kind: u32) -> Counted
     ensures { λ r. ⌜ countedAs (now (text .entry)) r ≡ Heads.detailIn kind (left (now (text .entry)) at) ⌝ }
 {
@@ -203,7 +203,17 @@ fn numbers_at(text: &[u8], at: usize, n: usize, row: &mut [f64]) -> Step
     Step::To(a)
 }
 
-// A form's bracket, head, detail and numbers.
+// What follows the numbers: the stripes of a cylinder or a cone, if a word stands there.
+fn stripes_at(text: &[u8], at: usize, kind: u32, detail: u32) -> Counted
+    ensures { λ r. ⌜ countedAs (now (text .entry)) r ≡ Heads.stripesIn kind detail (left (now (text .entry)) at) ⌝ }
+{
+    if scene::entry::is_striped(kind) {
+        return text_tokens::count_or(text, at, detail);
+    }
+    Counted::Count(detail, at)
+}
+
+// A form's bracket, head, detail, numbers and stripes.
 pub fn opening_at(text: &[u8], at: usize) -> Opening
     ensures { λ r. ⌜ openedAs (now (text .entry)) r ≡ Heads.openingIn (left (now (text .entry)) at) ⌝ }
 {
@@ -220,8 +230,19 @@ pub fn opening_at(text: &[u8], at: usize) -> Opening
     let Step::To(k) = s else {
         return Opening::NoOpening;
     };
+    let t = stripes_at(text, k, kind, detail);
+    let Counted::Count(stripes, m) = t else {
+        return Opening::NoOpening;
+    };
     let row = rows::read_numbers(&xs, 0);
-    Opening::Of(Head { kind, detail, row }, k)
+    Opening::Of(
+        Head {
+            kind,
+            detail: stripes,
+            row,
+        },
+        m,
+    )
 }
 
 pub fn point_at(text: &[u8], at: usize) -> PointRead

@@ -8,7 +8,7 @@ use lib.ListN.{length, take}
 use Rattle.floats.specs.Arith.{millionth}
 use Rattle.refusals.specs.Refusals.{numberOf}
 use Rattle.refusals.specs.declared.Refusal.{Refusal}
-use Rattle.refusals.specs.declared.Refusal.the-variants.{Lengths, Values, Parts, Measures, Placing, Extent, View as BadView, Point, Restarts, Waiting, Room}
+use Rattle.refusals.specs.declared.Refusal.the-variants.{Lengths, Values, Parts, Measures, Placing, Extent, View as BadView, Point, Restarts, Waiting, Room, Stripes}
 use Rattle.scene.specs.Scenes.{Scene}
 use Rattle.view.specs.declared.View.{View}
 use Rattle.paths.specs.Answers.{Answer, answered, refused}
@@ -34,6 +34,7 @@ number-small Point = omega arith
 number-small Restarts = omega arith
 number-small Waiting = omega arith
 number-small Room = omega arith
+number-small Stripes = omega arith
 
 drawn-fits : (s : Scene) (v : View) → length (drawnText s v) ≤ enough
 unfolding answerText

@@ -91,3 +91,10 @@ wholeOf Bad ts = no
 -- a decimal without sign
 unfoldable pub countIn : List Token → Got ℕ
 countIn ts = andThen (wordIn ts) (λ w us. wholeOf (decimalOf w) us)
+
+-- a decimal without sign where a word stands, else n and what is there
+unfoldable pub countOr : ℕ → List Token → Got ℕ
+countOr n [] = got n []
+countOr n (opens ∷ ts) = got n (opens ∷ ts)
+countOr n (closes ∷ ts) = got n (closes ∷ ts)
+countOr n (word w ∷ ts) = countIn (word w ∷ ts)

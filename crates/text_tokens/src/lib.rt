@@ -2,7 +2,7 @@
 ghost use mathlib.Core.Path.{_≡_};
 ghost use Prim.Native.Nat.{_+_, _≤_, _<_};
 ghost use lib.ListN.{length, getD};
-ghost use Rattle.text_tokens.specs.Tokens.{left, part, wordByte, word, wordIn, openIn, closeIn, isOver, numberIn, countIn};
+ghost use Rattle.text_tokens.specs.Tokens.{left, part, wordByte, word, wordIn, openIn, closeIn, isOver, numberIn, countIn, countOr};
 ghost use Rattle.text_tokens.specs.Seen.{seen, TokenWithin, spanAs, WordWithin, foundAs, stepAs, countedAs};
 ghost use mathlib.Core.Bool.{true};
 ghost use mathlib.Core.List.{_∷_};
@@ -179,5 +179,18 @@ pub fn count_at(text: &[u8], at: usize) -> Counted
     match x {
         text_numbers::Whole::Value(v) => Counted::Count(v, e),
         text_numbers::Whole::Bad => Counted::Uncounted,
+    }
+}
+
+// The same where a word stands; where none does, n, and the place as it is.
+pub fn count_or(text: &[u8], at: usize, n: u32) -> Counted
+    ensures { λ r. ⌜ countedAs (now (text .entry)) r ≡ countOr n (left (now (text .entry)) at) ⌝ }
+{
+    let t = token(text, at);
+    match t {
+        Tok::Word(_, _) => count_at(text, at),
+        Tok::Opens(_) => Counted::Count(n, at),
+        Tok::Closes(_) => Counted::Count(n, at),
+        Tok::Over => Counted::Count(n, at),
     }
 }

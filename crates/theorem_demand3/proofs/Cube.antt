@@ -16,11 +16,11 @@ use Rattle.lists.specs.Lists.{allOf, listTo}
 use Rattle.limits.specs.Limits.{withinBox, withinPoint}
 use Rattle.solids.specs.Cubes.{cubeHit}
 use Rattle.solids.specs.Solids.{solidBox, hitOf}
-use Rattle.scene.specs.Entries.{simpleOf, simpleOr, entryOf, ownEntry}
+use Rattle.scene.specs.Entries.{striped, stripeCount, simpleOf, simpleOr, entryOf, ownEntry}
 use Rattle.scene_shape.specs.Shapes.{shapeOf, read, shapeBox, shapeHit}
 use Rattle.scene_shape.specs.declared.Struck.the-variants.{At}
 use Rattle.check_measures.specs.Measures.{measured, simpleMeasured, solidMeasured, cubeMeasured, exceeds}
-use Rattle.check_measures.specs.Values.{known, isKind, isStripes}
+use Rattle.check_measures.specs.Values.{known, isKind, isStripes, fewStripes}
 use Rattle.check_parts.specs.Drawn.{unnamed}
 use Rattle.check_parts.specs.Owners.{ownersOk}
 use Rattle.check_parts.specs.Parts.{names, namedBefore, deepest, depthsTo, partsFree, entryOk, partsOk}
@@ -67,15 +67,15 @@ near-uncovered c =
     miss-is-long (subst (λ (h : Hit). T (lt (h .t) (distanceOf overhead nearSide))) e (c .falls .short))
 
 built : buildOf cubeYard 1 1 ≡ Nodes 1
-unfolding buildOf builtAfter plantedOf checkOf firstMet lengthsAgree allOf known isKind isStripes names namedBefore deepest depthsTo partsFree entryOk partsOk ownersOk goodStarts measured simpleMeasured solidMeasured cubeMeasured exceeds placingOk withinBox withinPoint within simpleOf simpleOr entryOf ownEntry shapeOf read shapeBox solidBox unnamed nodesFor orderFor layout rootOf belowOf leaves belowRoot treeOf planOf planAxis arranged splitBy hullOf hull lt le eq neg ofBits
+unfolding buildOf builtAfter plantedOf checkOf firstMet lengthsAgree allOf known isKind isStripes fewStripes stripeCount striped names namedBefore deepest depthsTo partsFree entryOk partsOk ownersOk goodStarts measured simpleMeasured solidMeasured cubeMeasured exceeds placingOk withinBox withinPoint within simpleOf simpleOr entryOf ownEntry shapeOf read shapeBox solidBox unnamed nodesFor orderFor layout rootOf belowOf leaves belowRoot treeOf planOf planAxis arranged splitBy hullOf hull lt le eq neg ofBits
 built = refl
 
 far-hidden : seenOnRows cubeYard overhead farSide ≡ Hidden
-unfolding visibleOf seenAfter sees byDistance walkRows walkOn scan tried nearer backward placesOf padded flat listTo checkOf firstMet lengthsAgree allOf known isKind isStripes names namedBefore deepest depthsTo partsFree entryOk partsOk ownersOk goodStarts measured simpleMeasured solidMeasured cubeMeasured exceeds placingOk withinBox withinPoint within simpleOf simpleOr entryOf ownEntry shapeOf read shapeBox solidBox shapeHit hitOf cubeHit unnamed nodesFor orderFor layout rootOf belowOf leaves belowRoot treeOf planOf planAxis arranged splitBy hullOf hull extendBox boxTest overlap slab ordered eyeRay sqrtOf distanceOf lengthOf lengthSquared subV divV divScalar dot minV maxV minComponent maxComponent minOf maxOf add sub mul div lt le eq neg isNan ofBits
+unfolding visibleOf seenAfter sees byDistance walkRows walkOn scan tried nearer backward placesOf padded flat listTo checkOf firstMet lengthsAgree allOf known isKind isStripes fewStripes stripeCount striped names namedBefore deepest depthsTo partsFree entryOk partsOk ownersOk goodStarts measured simpleMeasured solidMeasured cubeMeasured exceeds placingOk withinBox withinPoint within simpleOf simpleOr entryOf ownEntry shapeOf read shapeBox solidBox shapeHit hitOf cubeHit unnamed nodesFor orderFor layout rootOf belowOf leaves belowRoot treeOf planOf planAxis arranged splitBy hullOf hull extendBox boxTest overlap slab ordered eyeRay sqrtOf distanceOf lengthOf lengthSquared subV divV divScalar dot minV maxV minComponent maxComponent minOf maxOf add sub mul div lt le eq neg isNan ofBits
 far-hidden = refl
 
 near-visible : seenOnRows cubeYard overhead nearSide ≡ Visible
-unfolding visibleOf seenAfter sees byDistance walkRows walkOn scan tried nearer backward placesOf padded flat listTo checkOf firstMet lengthsAgree allOf known isKind isStripes names namedBefore deepest depthsTo partsFree entryOk partsOk ownersOk goodStarts measured simpleMeasured solidMeasured cubeMeasured exceeds placingOk withinBox withinPoint within simpleOf simpleOr entryOf ownEntry shapeOf read shapeBox solidBox shapeHit hitOf cubeHit unnamed nodesFor orderFor layout rootOf belowOf leaves belowRoot treeOf planOf planAxis arranged splitBy hullOf hull extendBox boxTest overlap slab ordered eyeRay sqrtOf distanceOf lengthOf lengthSquared subV divV divScalar dot minV maxV minComponent maxComponent minOf maxOf add sub mul div lt le eq neg isNan ofBits
+unfolding visibleOf seenAfter sees byDistance walkRows walkOn scan tried nearer backward placesOf padded flat listTo checkOf firstMet lengthsAgree allOf known isKind isStripes fewStripes stripeCount striped names namedBefore deepest depthsTo partsFree entryOk partsOk ownersOk goodStarts measured simpleMeasured solidMeasured cubeMeasured exceeds placingOk withinBox withinPoint within simpleOf simpleOr entryOf ownEntry shapeOf read shapeBox solidBox shapeHit hitOf cubeHit unnamed nodesFor orderFor layout rootOf belowOf leaves belowRoot treeOf planOf planAxis arranged splitBy hullOf hull extendBox boxTest overlap slab ordered eyeRay sqrtOf distanceOf lengthOf lengthSquared subV divV divScalar dot minV maxV minComponent maxComponent minOf maxOf add sub mul div lt le eq neg isNan ofBits
 near-visible = refl
 
 pub cube-covers : CubeCovers

@@ -18,10 +18,10 @@ use Rattle.lists.specs.Lists.{Member, allOf, listTo}
 use Rattle.limits.specs.Limits.{withinBox, withinPoint}
 use Rattle.solids.specs.Cubes.{cubeHit}
 use Rattle.solids.specs.Solids.{solidBox, hitOf}
-use Rattle.scene.specs.Entries.{simpleOf, simpleOr, entryOf, ownEntry}
+use Rattle.scene.specs.Entries.{striped, stripeCount, simpleOf, simpleOr, entryOf, ownEntry}
 use Rattle.scene_shape.specs.Shapes.{shapeOf, read, shapeBox, shapeHit}
 use Rattle.check_measures.specs.Measures.{measured, simpleMeasured, solidMeasured, cubeMeasured, exceeds}
-use Rattle.check_measures.specs.Values.{known, isKind, isStripes}
+use Rattle.check_measures.specs.Values.{known, isKind, isStripes, fewStripes}
 use Rattle.check_parts.specs.Drawn.{drawn, unnamed}
 use Rattle.check_parts.specs.Owners.{ownersOk}
 use Rattle.check_parts.specs.Parts.{namedBefore, names, deepest, depthsTo, partsFree, entryOk, partsOk}
@@ -62,19 +62,19 @@ unfolding eyeRay sqrtOf distanceOf lengthOf lengthSquared subV divScalar dot add
 eye-apart = tt
 
 built-alone : buildOf flatAlone 1 1 ≡ Nodes 1
-unfolding buildOf builtAfter plantedOf checkOf firstMet lengthsAgree allOf known isKind isStripes names namedBefore deepest depthsTo partsFree entryOk partsOk ownersOk goodStarts measured simpleMeasured solidMeasured cubeMeasured exceeds placingOk withinBox withinPoint within simpleOf simpleOr entryOf ownEntry shapeOf read shapeBox solidBox unnamed nodesFor orderFor layout rootOf belowOf leaves belowRoot treeOf planOf planAxis arranged splitBy hullOf hull lt le eq neg ofBits
+unfolding buildOf builtAfter plantedOf checkOf firstMet lengthsAgree allOf known isKind isStripes fewStripes stripeCount striped names namedBefore deepest depthsTo partsFree entryOk partsOk ownersOk goodStarts measured simpleMeasured solidMeasured cubeMeasured exceeds placingOk withinBox withinPoint within simpleOf simpleOr entryOf ownEntry shapeOf read shapeBox solidBox unnamed nodesFor orderFor layout rootOf belowOf leaves belowRoot treeOf planOf planAxis arranged splitBy hullOf hull lt le eq neg ofBits
 built-alone = refl
 
 built-beside : buildOf flatBeside 1 2 ≡ Nodes 1
-unfolding buildOf builtAfter plantedOf checkOf firstMet lengthsAgree allOf known isKind isStripes names namedBefore deepest depthsTo partsFree entryOk partsOk ownersOk goodStarts measured simpleMeasured solidMeasured cubeMeasured exceeds placingOk withinBox withinPoint within simpleOf simpleOr entryOf ownEntry shapeOf read shapeBox solidBox unnamed nodesFor orderFor layout rootOf belowOf leaves belowRoot treeOf planOf planAxis arranged splitBy hullOf hull lt le eq neg ofBits
+unfolding buildOf builtAfter plantedOf checkOf firstMet lengthsAgree allOf known isKind isStripes fewStripes stripeCount striped names namedBefore deepest depthsTo partsFree entryOk partsOk ownersOk goodStarts measured simpleMeasured solidMeasured cubeMeasured exceeds placingOk withinBox withinPoint within simpleOf simpleOr entryOf ownEntry shapeOf read shapeBox solidBox unnamed nodesFor orderFor layout rootOf belowOf leaves belowRoot treeOf planOf planAxis arranged splitBy hullOf hull lt le eq neg ofBits
 built-beside = refl
 
 seen-alone : seenOnRows flatAlone minusEye atOrigin ≡ Hidden
-unfolding visibleOf seenAfter sees byDistance walkRows walkOn scan tried nearer backward placesOf padded flat listTo checkOf firstMet lengthsAgree allOf known isKind isStripes names namedBefore deepest depthsTo partsFree entryOk partsOk ownersOk goodStarts measured simpleMeasured solidMeasured cubeMeasured exceeds placingOk withinBox withinPoint within simpleOf simpleOr entryOf ownEntry shapeOf read shapeBox solidBox shapeHit hitOf cubeHit unnamed nodesFor orderFor layout rootOf belowOf leaves belowRoot treeOf planOf planAxis arranged splitBy hullOf hull extendBox boxTest overlap slab ordered eyeRay sqrtOf distanceOf lengthOf lengthSquared subV divV divScalar dot minV maxV minComponent maxComponent minOf maxOf add sub mul div lt le eq neg isNan ofBits
+unfolding visibleOf seenAfter sees byDistance walkRows walkOn scan tried nearer backward placesOf padded flat listTo checkOf firstMet lengthsAgree allOf known isKind isStripes fewStripes stripeCount striped names namedBefore deepest depthsTo partsFree entryOk partsOk ownersOk goodStarts measured simpleMeasured solidMeasured cubeMeasured exceeds placingOk withinBox withinPoint within simpleOf simpleOr entryOf ownEntry shapeOf read shapeBox solidBox shapeHit hitOf cubeHit unnamed nodesFor orderFor layout rootOf belowOf leaves belowRoot treeOf planOf planAxis arranged splitBy hullOf hull extendBox boxTest overlap slab ordered eyeRay sqrtOf distanceOf lengthOf lengthSquared subV divV divScalar dot minV maxV minComponent maxComponent minOf maxOf add sub mul div lt le eq neg isNan ofBits
 seen-alone = refl
 
 seen-beside : seenOnRows flatBeside minusEye atOrigin ≡ Visible
-unfolding visibleOf seenAfter sees byDistance walkRows walkOn scan tried nearer backward placesOf padded flat listTo checkOf firstMet lengthsAgree allOf known isKind isStripes names namedBefore deepest depthsTo partsFree entryOk partsOk ownersOk goodStarts measured simpleMeasured solidMeasured cubeMeasured exceeds placingOk withinBox withinPoint within simpleOf simpleOr entryOf ownEntry shapeOf read shapeBox solidBox shapeHit hitOf cubeHit unnamed nodesFor orderFor layout rootOf belowOf leaves belowRoot treeOf planOf planAxis arranged splitBy hullOf hull extendBox boxTest overlap slab ordered eyeRay sqrtOf distanceOf lengthOf lengthSquared subV divV divScalar dot minV maxV minComponent maxComponent minOf maxOf add sub mul div lt le eq neg isNan ofBits
+unfolding visibleOf seenAfter sees byDistance walkRows walkOn scan tried nearer backward placesOf padded flat listTo checkOf firstMet lengthsAgree allOf known isKind isStripes fewStripes stripeCount striped names namedBefore deepest depthsTo partsFree entryOk partsOk ownersOk goodStarts measured simpleMeasured solidMeasured cubeMeasured exceeds placingOk withinBox withinPoint within simpleOf simpleOr entryOf ownEntry shapeOf read shapeBox solidBox shapeHit hitOf cubeHit unnamed nodesFor orderFor layout rootOf belowOf leaves belowRoot treeOf planOf planAxis arranged splitBy hullOf hull extendBox boxTest overlap slab ordered eyeRay sqrtOf distanceOf lengthOf lengthSquared subV divV divScalar dot minV maxV minComponent maxComponent minOf maxOf add sub mul div lt le eq neg isNan ofBits
 seen-beside = refl
 
 hidden-alone : EyeTest flatAlone minusEye atOrigin Hidden

@@ -18,10 +18,10 @@ use Rattle.limits.specs.Limits.{withinBox, withinPoint, finiteFour, finiteMatri
 use Rattle.solids.specs.Cubes.{cubeHit}
 use Rattle.solids.specs.Solids.{hitOf, solidBox}
 use Rattle.solids.specs.Triangles.{triangleHit, triangleBox}
-use Rattle.scene.specs.Entries.{simpleOf, simpleOr, entryOf, ownEntry}
+use Rattle.scene.specs.Entries.{striped, stripeCount, simpleOf, simpleOr, entryOf, ownEntry}
 use Rattle.scene_shape.specs.Shapes.{shapeOf, read, shapeBox, shapeHit}
 use Rattle.check_measures.specs.Measures.{measured, simpleMeasured, solidMeasured, triangleMeasured, exceeds, cubeMeasured}
-use Rattle.check_measures.specs.Values.{known, isKind, isStripes}
+use Rattle.check_measures.specs.Values.{known, isKind, isStripes, fewStripes}
 use Rattle.check_parts.specs.Drawn.{drawn, unnamed}
 use Rattle.check_parts.specs.Owners.{ownersOk}
 use Rattle.check_parts.specs.Parts.{names, namedBefore, deepest, depthsTo, partsFree, entryOk, partsOk}
@@ -41,7 +41,8 @@ use Rattle.path_filter.specs.Filter.{filteredFrom, pathFilter, stepped}
 use Rattle.path_rdp.specs.Rdp.{thresholdOk}
 use Rattle.view.specs.Views.{viewOk, extentOk, stepOk, viewport, argsOf}
 use Rattle.draw_lines.specs.Cubes.{pathsStriped, faces, stripe, stripesFrom, stripeAt, sides, across}
-use Rattle.draw_lines.specs.Lines.{solidPaths, ownPaths, trianglePaths}
+use Rattle.draw_lines.specs.Lines.{ownPaths, trianglePaths}
+use Rattle.draw_solids.specs.Lines.{solidPaths}
 use Rattle.draw_lines.specs.Pushing.{addPaths}
 use Rattle.draw_clip.specs.Clip.{clipFilter, bySight}
 use Rattle.draw_collect.specs.Collect.{collectedAll, collected}
@@ -58,7 +59,7 @@ use Rattle.theorem_demand3.specs.Witnesses.{atOrigin, sampleYard, sample
 drawn-there : drawWith millionth sampleYard sampleView samplePlaces ≡ answered sampleDrawing
 unfolding drawWith thresholdOk drawnAfter render rendered staged seenLines onTree nearestOf stepping mapped collectedAll collected readLined linedOf bare detailAt ownLines solidPaths ownPaths
     trianglePaths addPaths clipFilter bySight filteredFrom pathFilter stepped push pushAll front pathsOf opened closedStarts closed onePath each stage viewOk extentOk stepOk viewport argsOf
-    plantedOf sees byDistance visit scan tried nearer backward padded flat checkOf firstMet lengthsAgree allOf known isKind isStripes names namedBefore deepest depthsTo partsFree entryOk
+    plantedOf sees byDistance visit scan tried nearer backward padded flat checkOf firstMet lengthsAgree allOf known isKind isStripes fewStripes stripeCount striped names namedBefore deepest depthsTo partsFree entryOk
     partsOk ownersOk goodStarts measured simpleMeasured solidMeasured triangleMeasured exceeds placingOk withinBox withinPoint within listTo finiteFour finiteMatrix simpleOf simpleOr entryOf
     ownEntry shapeOf read shapeBox shapeHit hitOf triangleHit triangleBox solidBox unnamed nodesFor orderFor layout rootOf belowOf leaves belowRoot treeOf planOf planAxis arranged splitBy
     hullOf hull boxTest overlap slab ordered contains inRange extendBox identityM scaleM translateM rowMul mulM mulPosition mulPositionW eyeRay sqrtOf distanceOf lengthOf lengthSquared subV
@@ -68,7 +69,7 @@ drawn-there = refl
 nothing-there : drawWith millionth sampleBehind sampleView widerPlaces ≡ answered noPaths
 unfolding drawWith thresholdOk drawnAfter render rendered staged seenLines onTree nearestOf stepping mapped collectedAll collected readLined linedOf bare detailAt ownLines solidPaths ownPaths
     trianglePaths addPaths clipFilter bySight filteredFrom pathFilter stepped push pushAll front pathsOf opened closedStarts closed onePath each stage viewOk extentOk stepOk viewport argsOf
-    plantedOf sees byDistance visit scan tried nearer backward padded flat checkOf firstMet lengthsAgree allOf known isKind isStripes names namedBefore deepest depthsTo partsFree entryOk
+    plantedOf sees byDistance visit scan tried nearer backward padded flat checkOf firstMet lengthsAgree allOf known isKind isStripes fewStripes stripeCount striped names namedBefore deepest depthsTo partsFree entryOk
     partsOk ownersOk goodStarts measured simpleMeasured solidMeasured triangleMeasured exceeds placingOk withinBox withinPoint within listTo finiteFour finiteMatrix simpleOf simpleOr entryOf
     ownEntry shapeOf read shapeBox shapeHit hitOf triangleHit triangleBox solidBox unnamed nodesFor orderFor layout rootOf belowOf leaves belowRoot treeOf planOf planAxis arranged splitBy
     hullOf hull boxTest overlap slab ordered contains inRange extendBox identityM scaleM translateM rowMul mulM mulPosition mulPositionW eyeRay sqrtOf distanceOf lengthOf lengthSquared subV
@@ -84,7 +85,7 @@ abbrev round : List Vector
 round = atOrigin ∷ vec halfF zeroF zeroF ∷ vec zeroF halfF zeroF ∷ atOrigin ∷ []
 
 collected-lines : (p : Paths) × (collectedAll (argsOf sampleView) (widerPlaces .lines) (linedIn sampleBehind) (drawn (sampleBehind .marks)) noPaths ≡ answered p) × Member round (pathsOf (p .vertices) (p .starts))
-unfolding collectedAll collected readLined linedOf bare detailAt ownLines solidPaths ownPaths trianglePaths addPaths push pushAll front pathsOf opened closedStarts closed onePath each stage argsOf allOf known isKind isStripes names namedBefore deepest depthsTo partsFree entryOk partsOk ownersOk goodStarts measured simpleMeasured solidMeasured cubeMeasured simpleOf simpleOr entryOf ownEntry shapeOf read unnamed padded flat listTo identityM addV subV mulScalar pathsStriped faces stripe stripesFrom stripeAt sides across ofInt add sub mul div lt le eq neg isNan ofBits
+unfolding collectedAll collected readLined linedOf bare detailAt ownLines solidPaths ownPaths trianglePaths addPaths push pushAll front pathsOf opened closedStarts closed onePath each stage argsOf allOf known isKind isStripes fewStripes stripeCount striped names namedBefore deepest depthsTo partsFree entryOk partsOk ownersOk goodStarts measured simpleMeasured solidMeasured cubeMeasured simpleOf simpleOr entryOf ownEntry shapeOf read unnamed padded flat listTo identityM addV subV mulScalar pathsStriped faces stripe stripesFrom stripeAt sides across ofInt add sub mul div lt le eq neg isNan ofBits
 collected-lines = (_, refl, inl refl)
 
 corner-put : Put empty-sheet atOrigin

@@ -9,7 +9,7 @@ use lib.Dec.{eqb}
 use lib.Ieee.{Float}
 use Rattle.rows.specs.Rows.{row}
 use Rattle.rows.specs.declared.Marks.{Marks}
-use Rattle.scene.specs.Entries.{marksAt}
+use Rattle.scene.specs.Entries.{marksAt, striped}
 use Rattle.scene_shape.specs.Shapes.{solidOf}
 use Rattle.scene.specs.Scenes.{entries}
 
@@ -23,9 +23,9 @@ usedNumbers kind =
     (cond (eqb kind 5) 9
     (cond (eqb kind 6) 16 0)))))
 
--- whether it uses its detail: a cube's stripes, a cut's operation
+-- whether it uses its detail: a cube's stripes, a cut's operation, a stripe count (document 02, ii)
 unfoldable pub usesDetail : ℕ → Bool
-usesDetail kind = eqb kind 4 || eqb kind 7
+usesDetail kind = eqb kind 4 || (eqb kind 7 || striped kind)
 
 -- two entries alike, where R says it of their parts
 pub record Alike (R : ℕ → ℕ → Type 0) (m m′ : Marks) (r r′ : List Float) : Type 0 where

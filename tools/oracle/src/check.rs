@@ -1,5 +1,6 @@
-//! Refusals 2 to 5 and 8 of document 01, which need no geometry.
+//! Refusals 2 to 5 and 8 of document 01 and 14 of document 02, which need no geometry.
 
+use crate::stripes::{MOST_STRIPES, striped};
 use crate::{Answer, Lines, Scene, Trouble, View};
 
 pub const MOST_ENTRIES: usize = 1024;
@@ -18,10 +19,11 @@ fn finite(xs: &[f64]) -> bool {
     xs.iter().all(|x| x.is_finite())
 }
 
-/// 2 to 5, each number over the whole scene before the next.
+/// 2, 3, 14, 4 and 5, each number over the whole scene before the next.
 pub fn scene(s: &Scene) -> Answer<()> {
     pass_if(lengths_agree(s), 2)?;
     pass_if((0..s.entries()).all(|i| marks_known(s.marks_of(i))), 3)?;
+    pass_if((0..s.entries()).all(|i| stripes_few(s.marks_of(i))), 14)?;
     pass_if(parts_sound(s) && owners_sound(s) && starts_sound(&s.starts, s.points.len() / 3), 4)?;
     pass_if((0..s.entries()).all(|i| numbers_sound(s.marks_of(i)[0], s.numbers_of(i))), 5)
 }
@@ -41,6 +43,11 @@ fn marks_known(marks: &[u32]) -> bool {
         7 => marks[1] <= 3,
         kind => (1..=7).contains(&kind),
     }
+}
+
+/// A count of stripes is at most 360.
+fn stripes_few(marks: &[u32]) -> bool {
+    !striped(marks[0]) || marks[1] <= MOST_STRIPES
 }
 
 /// The parts that an entry names; other places of its marks are ignored.

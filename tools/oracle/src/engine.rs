@@ -1,6 +1,7 @@
 // Scenes as larnt's own shapes, and larnt's calls on them. Included twice: `larnt` names the
 // plain build in one module and the limited one in the other.
 
+use crate::stripes::stripes;
 use crate::{Lines, Rows, Scene, View};
 use larnt::axis::Axis;
 use larnt::bounding_box::BBox;
@@ -18,7 +19,7 @@ use larnt::tree::Tree;
 use larnt::triangle::Triangle;
 use larnt::vector::Vector;
 
-/// Lines handed in for a round solid.
+/// Lines handed in for a round solid, and before them its stripes.
 pub type Handed = Vec<Vec<Vector>>;
 
 /// An entry as larnt's own shape. Only kinds 1 to 3 need a wrapper, for their lines.
@@ -181,7 +182,7 @@ fn rows_of(m: &mut Matrix) -> [&mut f64; 16] {
     ]
 }
 
-/// Kinds 1 to 5 from their numbers; `stripes` is the detail of a cube.
+/// Kinds 1 to 5 from their numbers; `stripes` is the detail of a cube. Stripes of the others are in `lines`.
 pub fn simple(kind: u32, stripes: u32, n: &[f64], lines: Handed) -> Solid {
     let corner = |i: usize| Vector::new(n[i], n[i + 1], n[i + 2]);
     match kind {
@@ -266,7 +267,11 @@ pub fn solid_of(scene: &Scene, i: usize) -> Solid {
     }
 }
 
+/// The lines of a round solid: its stripes, then those that are handed in.
 fn handed(scene: &Scene, owner: usize) -> Handed {
+    let marks = scene.marks_of(owner);
+    let stripes = stripes(marks[0], marks[1], scene.numbers_of(owner)).into_iter();
+    let stripes = stripes.map(|stripe| stripe.map(vector).to_vec());
     let mut lines = Vec::new();
     for (k, o) in scene.owners.iter().enumerate() {
         if *o as usize == owner {
@@ -274,7 +279,7 @@ fn handed(scene: &Scene, owner: usize) -> Handed {
             lines.push((scene.starts[k]..end).map(|i| point(&scene.points, i)).collect());
         }
     }
-    lines
+    stripes.chain(lines).collect()
 }
 
 fn point(points: &[f64], i: usize) -> Vector {

@@ -1,9 +1,10 @@
 //! Seeded cases for comparisons: a scene with a view and room, rays, points and paths.
-//! Most scenes are accepted and drawn; each refusal 2 to 9 and 11 to 13 occurs (10 is unused).
+//! Most scenes are accepted and drawn; each refusal 2 to 9 and 11 to 14 occurs (10 is unused).
 //! Only sums, products, quotients and square roots are formed, so that a seed gives the same case
 //! everywhere.
 
 use crate::check::{LARGEST, used_numbers};
+use crate::stripes::striped;
 use crate::{FINE, Lines, Places, Room, Scene, View, draw_measured};
 
 /// splitmix64.
@@ -265,6 +266,7 @@ impl Maker {
                 4 => &[1],
                 6 => &[2],
                 7 => &[1, 2, 3],
+                kind if striped(kind) => &[1],
                 _ => &[],
             };
             for k in 1..4 {
@@ -323,14 +325,16 @@ impl Maker {
             20..35 => {
                 let (r, z0) = (self.size(), self.place());
                 let z1 = z0 + self.size();
-                let i = self.scene.push([2, 0, 0, 0], &[r, z0, z1]);
+                let count = self.stripes();
+                let i = self.scene.push([2, count, 0, 0], &[r, z0, z1]);
                 self.round_lines(i, [0.0, 0.0, z0], r, r, z1);
                 i
             }
             35..47 => {
                 let (r, h) = (self.size(), self.size());
                 let h = if h > 0.0 { h } else { 1.0 };
-                let i = self.scene.push([3, 0, 0, 0], &[r, h]);
+                let count = self.stripes();
+                let i = self.scene.push([3, count, 0, 0], &[r, h]);
                 self.round_lines(i, [0.0; 3], r, 0.0, h);
                 i
             }
@@ -354,6 +358,16 @@ impl Maker {
                 };
                 self.scene.push([5, 0, 0, 0], &corners)
             }
+        }
+    }
+
+    /// A count of stripes: mostly none or few.
+    fn stripes(&mut self) -> u32 {
+        match self.rng.below(100) {
+            0..60 => 0,
+            60..90 => 1 + self.rng.below(12) as u32,
+            90..98 => self.rng.pick(&[36, 45, 59, 60, 61]),
+            _ => self.rng.pick(&[180, 181, 359, 360]),
         }
     }
 
@@ -655,10 +669,10 @@ impl Maker {
         ])
     }
 
-    /// Does damage that should meet one of 2 to 9, and now and then a second one.
+    /// Does damage that should meet one of 2 to 9 or 14, and now and then a second one.
     fn damage(&mut self, view: &mut View) {
         for _ in 0..self.rng.pick(&[1, 1, 1, 2]) {
-            match 2 + self.rng.below(8) {
+            match self.rng.pick(&[2, 3, 4, 5, 6, 7, 8, 9, 14]) {
                 2 => self.damage_lengths(),
                 3 => self.damage_marks(),
                 4 => self.damage_parts(),
@@ -666,7 +680,8 @@ impl Maker {
                 6 => self.damage_placing(),
                 7 => self.damage_box(),
                 8 => self.damage_view(view),
-                _ => self.damage_points(view),
+                9 => self.damage_points(view),
+                _ => self.damage_stripes(),
             }
         }
     }
@@ -702,6 +717,20 @@ impl Maker {
                 self.scene.push([7, operation, a, b], &[])
             }
         };
+    }
+
+    /// A count beyond 360, in an entry that is there or in one more.
+    fn damage_stripes(&mut self) {
+        let kind = self.rng.pick(&[2, 3]);
+        let count = self.rng.pick(&[361, 362, 1000, 1_000_000, 1 << 16, 1 << 31, u32::MAX]);
+        let n = self.scene.entries().min(self.scene.numbers.len() / 16);
+        let found: Vec<usize> = (0..n).filter(|i| striped(self.scene.marks[4 * i])).collect();
+        if found.is_empty() || self.rng.chance(30) {
+            self.scene.push([kind, count, 0, 0], &[1.0, 0.5, 2.0]);
+        } else {
+            let i = self.rng.pick(&found);
+            self.scene.marks[4 * i + 1] = count;
+        }
     }
 
     fn damage_parts(&mut self) {

@@ -8,6 +8,7 @@
 pub mod check;
 pub mod generate;
 pub mod requests;
+pub mod stripes;
 pub mod yard;
 
 pub use larnt_limited;
@@ -146,7 +147,7 @@ fn within<T>(room: Room, work: impl FnOnce() -> T) -> Answer<T> {
     caught(work)
 }
 
-/// 2 to 7: the entries of an accepted scene.
+/// 2 to 7, and 14 after 3: the entries of an accepted scene.
 pub fn accepted(scene: &Scene) -> Answer<limited::Entries> {
     check::scene(scene)?;
     caught(|| {

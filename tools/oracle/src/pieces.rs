@@ -13,6 +13,7 @@ const DOWN: [f64; 3] = [0.0, 0.0, -1.0];
 pub fn check_all() -> Pieces {
     let mut pieces = Pieces::default();
     worked(&mut pieces);
+    stripes(&mut pieces);
     boundaries(&mut pieces);
     text(&mut pieces);
     requests(&mut pieces);
@@ -223,6 +224,50 @@ fn worked(p: &mut Pieces) {
     p.equal("sample", oracle::yard::run(SAMPLE.as_bytes()), SAMPLE_DRAWN.to_string());
 }
 
+/// Stripes: how many there are, where they stand, and that lines follow them.
+fn stripes(p: &mut Pieces) {
+    use oracle::stripes::stripes;
+    for (count, lines) in [
+        (0, 0),
+        (1, 1),
+        (2, 2),
+        (4, 4),
+        (7, 8),
+        (8, 8),
+        (11, 12),
+        (180, 180),
+        (181, 360),
+        (360, 360),
+    ] {
+        for kind in [2, 3] {
+            let found = stripes(kind, count, &[1.0, 2.0, 3.0]);
+            p.equal(&format!("{count} stripes of kind {kind}"), found.len(), lines);
+        }
+    }
+    p.equal("stripes of a sphere", stripes(1, 4, &[1.0; 4]), vec![]);
+    let tube = stripes(2, 4, &[2.0, -1.0, 3.0]);
+    let corners = [(2.0, 0.0), (0.0, 2.0), (-2.0, 0.0), (0.0, -2.0)];
+    let upright = corners.map(|(x, y)| [[x, y, -1.0], [x, y, 3.0]]).to_vec();
+    p.equal("four stripes of a tube", tube, upright);
+    let cone = stripes(3, 4, &[2.0, 3.0]);
+    let slopes = corners.map(|(x, y)| [[x, y, 0.0], [0.0, 0.0, 3.0]]).to_vec();
+    p.equal("four stripes of a cone", cone, slopes);
+    // the root of 3/4, and exactly a half
+    let [foot, _] = stripes(2, 12, &[1.0, 0.0, 1.0])[1];
+    p.equal("30 degrees", foot, [f64::sqrt(0.75), 0.5, 0.0]);
+
+    // a flat tube hides nothing, and x stands where z is drawn
+    let mut scene = one([2, 4, 0, 0], &[0.5, 0.0, 0.0]);
+    scene.push_line(0, &[[0.25, 0.0, 0.0], [-0.25, 0.0, 0.0]]);
+    let mut matrix = [0.0; 16];
+    (matrix[8], matrix[15]) = (1.0, 1.0);
+    let view = View { matrix, eye: [0., 0., 5.], width: 2.0, height: 2.0, step: 0.0 };
+    let drawn = oracle::draw(&scene, &view, FINE, Room::of(100))
+        .map(|l| l.points.chunks(3).map(|p| p[2]).collect::<Vec<f64>>());
+    let expected = vec![0.5, 0.5, 0.0, 0.0, -0.5, -0.5, 0.0, 0.0, 0.25, -0.25];
+    p.equal("lines follow the stripes", drawn, Ok(expected));
+}
+
 /// Both sides of each refusal's condition.
 fn boundaries(p: &mut Pieces) {
     let above = f64::from_bits(1e6f64.to_bits() + 1);
@@ -269,6 +314,28 @@ fn boundaries(p: &mut Pieces) {
     s.push([6, 0, 1, 0], &IDENTITY);
     s.push([9, 0, 0, 0], &[]);
     p.number("3 in the last entry precedes 4 in an earlier one", oracle::check(&s), 3);
+
+    // 14
+    for (marks, number) in [
+        ([2, 0, 0, 0], 0),
+        ([2, 360, 9, 9], 0),
+        ([2, 361, 0, 0], 14),
+        ([3, 360, 9, 9], 0),
+        ([3, 361, 0, 0], 14),
+        ([3, u32::MAX, 0, 0], 14),
+        ([1, 361, 0, 0], 0),
+    ] {
+        let scene = one(marks, &[1.0, 1.0, 1.0]);
+        p.number(&format!("stripes {marks:?}"), oracle::check(&scene), number);
+    }
+    let mut s = one([2, 361, 0, 0], &[1.0, 0.0, 1.0]);
+    s.push([6, 0, 1, 0], &IDENTITY);
+    p.number("14 precedes 4", oracle::check(&s), 14);
+    s.push([4, 0, 0, 0], &[]);
+    p.number("3 in a later entry precedes 14", oracle::check(&s), 3);
+    let mut s = one([6, 0, 0, 0], &IDENTITY);
+    s.push([3, 361, 0, 0], &[1.0, -1.0]);
+    p.number("14 in a later entry precedes 4 and 5", oracle::check(&s), 14);
 
     // 4
     let mut s = many(2);
@@ -723,6 +790,30 @@ fn text(p: &mut Pieces) {
         ("stripes 1000001", format!("{view}(cube 1000001 0 0 0 1 1 1)"), "(refused 1)\n"),
         ("stripes -1", format!("{view}(cube -1 0 0 0 1 1 1)"), "(refused 1)\n"),
         ("stripes as bits", format!("{view}(cube #3FF0000000000000 0 0 0 1 1 1)"), "(refused 1)\n"),
+        ("a tube with 0 stripes", format!("{view}(cylinder 9 0 1 0)"), "(drawing 0)\n"),
+        ("360 stripes", format!("{view}(cone 9 9 360)"), "(drawing 0)\n"),
+        ("361 stripes", format!("{view}(cone 9 1 361)"), "(refused 14)\n"),
+        ("1000000 stripes", format!("{view}(cylinder 9 0 1 1000000)"), "(refused 14)\n"),
+        ("1000001 stripes", format!("{view}(cylinder 9 0 1 1000001)"), "(refused 1)\n"),
+        ("stripes with zeros before", format!("{view}(cylinder 9 0 1 000361)"), "(refused 14)\n"),
+        ("-0 stripes", format!("{view}(cylinder 9 0 1 -0)"), "(refused 1)\n"),
+        ("+4 stripes", format!("{view}(cylinder 9 0 1 +4)"), "(refused 1)\n"),
+        (
+            "stripes of a tube as bits",
+            format!("{view}(cone 9 1 #4010000000000000)"),
+            "(refused 1)\n",
+        ),
+        ("two counts", format!("{view}(cylinder 9 0 1 4 4)"), "(refused 1)\n"),
+        ("stripes of a sphere", format!("{view}(sphere 9 0 0 1 4)"), "(refused 1)\n"),
+        ("stripes, then lines", format!("{view}(cone 9 9 4(line 9 9 9)(line))"), "(drawing 0)\n"),
+        ("a count after a line", format!("{view}(cone 9 1 (line 9 9 9) 4)"), "(refused 1)\n"),
+        ("a tube without z1", format!("{view}(cylinder 9 0)"), "(refused 1)\n"),
+        (
+            "3 before 14",
+            format!("{view}(cone 9 1 361)\n(cut 4(cone 9 1)(cone 9 1))"),
+            "(refused 3)\n",
+        ),
+        ("14 before 5", format!("{view}(cone -9 1)\n(cone 9 1 361)"), "(refused 14)\n"),
         ("operation 4", format!("{view}(cut 4(sphere 0 0 0 1)(cone 1 1))"), "(refused 3)\n"),
         (
             "no space at brackets",

@@ -1,4 +1,4 @@
-//! Checks the oracle: document 01's worked pieces, the boundaries of each refusal, and that the
+//! Checks the oracle: document 01's worked pieces, stripes, the boundaries of each refusal, and that the
 //! limited build gives bit for bit what the plain one does wherever it answers.
 //!
 //!     selfcheck [SCENES] [SEED]
@@ -9,6 +9,7 @@ mod pieces;
 
 use oracle::generate::{Case, case, places_of};
 use oracle::requests::plain_checked;
+use oracle::stripes::striped;
 use oracle::{Answer, COARSE, Checked, FINE, Lines, Scene, Trouble, caught, plain, same_bits};
 use pieces::number_of;
 use std::collections::BTreeMap;
@@ -58,6 +59,12 @@ fn inside(scene: &Scene, kind: u32, outer: u32) -> bool {
     false
 }
 
+/// Whether some solid has stripes and handed-in lines too.
+fn both(scene: &Scene) -> bool {
+    let marks = scene.owners.iter().map(|owner| scene.marks_of(*owner as usize));
+    marks.into_iter().any(|m| striped(m[0]) && m[1] > 0)
+}
+
 impl Tally {
     fn differs(&mut self, case: &Case, what: &str) {
         self.differences += 1;
@@ -101,7 +108,7 @@ impl Tally {
 
     /// Refusals that never occurred in a draw; 10 is unused.
     fn missing(&self) -> Vec<u32> {
-        (2..=13).filter(|n| *n != 10 && self.count("draw", *n) == 0).collect()
+        (2..=14).filter(|n| *n != 10 && self.count("draw", *n) == 0).collect()
     }
 
     fn good(&self) -> bool {
@@ -230,6 +237,8 @@ fn compare_draw(tally: &mut Tally, case: &Case, exactly: bool) {
         ("any path", !lines.starts.is_empty()),
         ("step 0", view.step == 0.0),
         ("handed-in lines", !scene.starts.is_empty()),
+        ("stripes", scene.marks.chunks(4).any(|m| striped(m[0]) && m[1] > 0)),
+        ("stripes and lines of one solid", both(scene)),
         ("a cut", kinds(7)),
         ("a cut at step 0", kinds(7) && view.step == 0.0),
         ("a cut in a cut", inside(scene, 7, 7)),

@@ -1,5 +1,6 @@
-//! The text that the program `yard` reads and prints, as document 01 has it.
+//! The text that the program `yard` reads and prints, as documents 01 and 02 have it.
 
+use crate::stripes::striped;
 use crate::{Answer, FINE, Lines, Room, Scene, Trouble, View};
 
 pub const MOST_BYTES: usize = 65_536;
@@ -153,9 +154,17 @@ impl<'a> Form<'a> {
         Some(entry)
     }
 
+    /// A round solid: its measures, a count of stripes if one stands there, its lines.
     fn round(&mut self, kind: u32, count: usize) -> Option<u32> {
         let n = self.numbers(count)?;
-        let entry = self.scene.push([kind, 0, 0, 0], &n);
+        let stripes = match self.tokens {
+            [Token::Word(word), rest @ ..] if striped(kind) => {
+                self.tokens = rest;
+                decimal(word)?
+            }
+            _ => 0,
+        };
+        let entry = self.scene.push([kind, stripes, 0, 0], &n);
         while let [Token::Open, ..] = self.tokens {
             self.line(entry)?;
         }

@@ -17,7 +17,7 @@ use Rattle.draw_collect.proofs.detail_of.Reads as detail-of-reads
 use Rattle.draw_collect.proofs.join.Reads as join-reads
 use Rattle.draw_collect.proofs.move_points.Reads as move-points-reads
 use Rattle.draw_collect.proofs.placed_args.Reads as placed-args-reads
-use Rattle.draw_lines.proofs.solid_paths.Reads as solid-paths-reads
+use Rattle.draw_solids.proofs.solid_paths.Reads as solid-paths-reads
 use Rattle.scene.proofs.entry.entry_at.Reads as entry-at-reads
 use Rattle.draw_collect.proofs.+entry_paths+part_paths.{statement}
 use Rattle.draw_collect.proofs.+entry_paths+part_paths.Tie.{close}

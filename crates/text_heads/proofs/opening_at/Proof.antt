@@ -1,4 +1,4 @@
-use Rattle.text_heads.proofs.Numbers.{opening-undetailed, opening-short, opening-of}
+use Rattle.text_heads.proofs.Numbers.{opening-undetailed, opening-short, opening-miscounted, opening-of}
 use Rattle.text_heads.specs.Cursors.{openedAs}
 use Rattle.text_heads.specs.Heads.{openingIn}
 use Rattle.text_tokens.specs.Seen.{countedAs}
@@ -33,19 +33,33 @@ returns-3 c =
 
 returns-4 : tie.Need-returns-4
 returns-4 c =
-    let at3 = c .before .before .before in let s = at3 .s in
-    let at6 = at3 .before .before .before in let numbers-at = at6 .numbers-at in
-    let at8 = at6 .before .before in let measures = at8 .measures in
-    let at10 = at8 .before .before in let d = at10 .d in
-    let at12 = at10 .before .before in let detail-at = at12 .detail-at in
-    let at14 = at12 .before .before in let h = at14 .h in
-    let at16 = at14 .before .before in let kind-at = at16 .kind-at in
-    opening-of _ _ (kind-at .ensures) (h .given .1) (detail-at .ensures) (d .given .1) (measures .ensures .0) _ (numbers-at .ensures .0) (measures .ensures .1) (numbers-at .kept .1 .1 .1 .0) (numbers-at .ensures .1) (s .given .1) (c .read-numbers .ensures)
+    let at2 = c .before .before in let stripes-at = at2 .stripes-at in
+    let at4 = at2 .before .before in let s = at4 .s in
+    let at7 = at4 .before .before .before in let numbers-at = at7 .numbers-at in
+    let at9 = at7 .before .before in let measures = at9 .measures in
+    let at11 = at9 .before .before in let d = at11 .d in
+    let at13 = at11 .before .before in let detail-at = at13 .detail-at in
+    let at15 = at13 .before .before in let h = at15 .h in
+    let at17 = at15 .before .before in let kind-at = at17 .kind-at in
+    opening-miscounted _ _ (kind-at .ensures) (h .given .1) (detail-at .ensures) (d .given .1) (measures .ensures .0) _ (numbers-at .ensures .0) (s .given .1) (stripes-at .ensures) (c .enum-told4 .given .1)
+
+returns-5 : tie.Need-returns-5
+returns-5 c =
+    let at3 = c .before .before .before in let t′ = at3 .t in
+    let at5 = at3 .before .before in let stripes-at = at5 .stripes-at in
+    let at7 = at5 .before .before in let s = at7 .s in
+    let at10 = at7 .before .before .before in let numbers-at = at10 .numbers-at in
+    let at12 = at10 .before .before in let measures = at12 .measures in
+    let at14 = at12 .before .before in let d = at14 .d in
+    let at16 = at14 .before .before in let detail-at = at16 .detail-at in
+    let at18 = at16 .before .before in let h = at18 .h in
+    let at20 = at18 .before .before in let kind-at = at20 .kind-at in
+    opening-of _ _ (kind-at .ensures) (h .given .1) (detail-at .ensures) (d .given .1) (measures .ensures .0) _ (numbers-at .ensures .0) (s .given .1) (stripes-at .ensures) (measures .ensures .1) (numbers-at .kept .1 .1 .1 .0) (numbers-at .ensures .1) (t′ .given .1) (c .read-numbers .ensures)
 
 pub opening-at-spec : {M : Type 1} → statement M
 opening-at-spec =
     tie.close
     (tie.spec
     (λ c κs. search needs) (λ c. search needs) (λ c. search needs) returns (λ c κs. search needs) (λ c. search needs) (λ c. search needs) returns-2
-    (λ c κs. search needs) (λ c. search needs) numbers-at-requires (λ c. search needs) (λ c. search needs) returns-3 (λ c. search needs)
-    (λ c κs. search needs) returns-4)
+    (λ c κs. search needs) (λ c. search needs) numbers-at-requires (λ c. search needs) (λ c. search needs) returns-3
+    (λ c κs. search needs) (λ c. search needs) (λ c. search needs) returns-4 (λ c. search needs) (λ c κs. search needs) returns-5)

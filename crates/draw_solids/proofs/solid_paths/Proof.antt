@@ -1,7 +1,7 @@
-use Rattle.draw_lines.specs.Lines.{solidPaths}
+use Rattle.draw_solids.specs.Lines.{solidPaths}
 use borrow.Author.Needs.{needs}
-use Rattle.draw_lines.proofs.solid_paths.Statement.{statement}
-use Rattle.draw_lines.proofs.solid_paths.Tie as tie
+use Rattle.draw_solids.proofs.solid_paths.Statement.{statement}
+use Rattle.draw_solids.proofs.solid_paths.Tie as tie
 
 returns : tie.Need-returns
 unfolding solidPaths
@@ -13,30 +13,30 @@ returns c =
 returns-2 : tie.Need-returns-2
 unfolding solidPaths
 returns-2 c =
-    let at4 = c .before .before .before .before in let handed-paths2 = at4 .handed-paths2 in
-    let at7 = at4 .before .before .before in let enum-told2 = at7 .enum-told2 in
-    rw (enum-told2 .given .1) (handed-paths2 .ensures)
+    let at4 = c .before .before .before .before in let round-paths = at4 .round-paths in
+    let at8 = at4 .before .before .before .before in let solid = at8 .solid in
+    rw (solid .given .1) (round-paths .ensures)
 
 returns-3 : tie.Need-returns-3
 unfolding solidPaths
 returns-3 c =
-    let at4 = c .before .before .before .before in let handed-paths3 = at4 .handed-paths3 in
-    let at7 = at4 .before .before .before in let enum-told3 = at7 .enum-told3 in
-    rw (enum-told3 .given .1) (handed-paths3 .ensures)
+    let at4 = c .before .before .before .before in let round-paths2 = at4 .round-paths2 in
+    let at8 = at4 .before .before .before .before in let solid2 = at8 .solid2 in
+    rw (solid2 .given .1) (round-paths2 .ensures)
 
 returns-4 : tie.Need-returns-4
 unfolding solidPaths
 returns-4 c =
     let at4 = c .before .before .before .before in let paths-striped = at4 .paths-striped in
-    let at8 = at4 .before .before .before .before in let solid = at8 .solid in
-    rw (solid .given .1) (paths-striped .ensures)
+    let at8 = at4 .before .before .before .before in let solid3 = at8 .solid3 in
+    rw (solid3 .given .1) (paths-striped .ensures)
 
 returns-5 : tie.Need-returns-5
 unfolding solidPaths
 returns-5 c =
     let at4 = c .before .before .before .before in let triangle-paths = at4 .triangle-paths in
-    let at8 = at4 .before .before .before .before in let solid2 = at8 .solid2 in
-    rw (solid2 .given .1) (triangle-paths .ensures)
+    let at8 = at4 .before .before .before .before in let solid4 = at8 .solid4 in
+    rw (solid4 .given .1) (triangle-paths .ensures)
 
 pub solid-paths-spec : {M : Type 1} → statement M
 solid-paths-spec =

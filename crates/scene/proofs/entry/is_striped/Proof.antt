@@ -1,0 +1,15 @@
+use borrow.Author.Tests.{eq-eqb, ne-eqb}
+use Rattle.scene.specs.Entries.{striped}
+use Rattle.scene.proofs.entry.is_striped.Statement.{statement}
+use Rattle.scene.proofs.entry.is_striped.Tie as tie
+
+returns : tie.Need-returns
+unfolding striped
+returns c = rw (eq-eqb _ _ (c .if1 .taken))
+
+returns-2 : tie.Need-returns-2
+unfolding striped
+returns-2 c = rw (ne-eqb _ _ (c .if1 .left))
+
+pub is-striped-spec : {M : Type 1} → statement M
+is-striped-spec = tie.close (tie.spec returns returns-2)
