@@ -39,20 +39,22 @@ void larnt_project(const double matrix[16], const double point[3], double projec
 /* The inverse of a matrix; answers the determinant that it was divided by. */
 double larnt_inverse(const double matrix[16], double inverse[16]);
 
-/* A solid of kinds 1 to 5 with its measures first among 16 numbers: 1 sphere (centre, radius),
-   2 cylinder (radius, z0, z1), 3 cone (radius, height), 4 cube (min, max), 5 triangle (three corners).
+/* A solid of kinds 1 to 5, 8 or 9 with its measures first among 16 numbers: 1 sphere (centre, radius),
+   2 cylinder (radius, z0, z1), 3 cone (radius, height), 4 cube (min, max), 5 triangle (three corners),
+   8 closed cylinder and 9 closed cone with the measures of 2 and 3: a disc closes either end of the cylinder
+   and the base of the cone.
    Each answers 0, or 3 for any other kind; what is filled is then 0 and false. */
 uint32_t larnt_solid_hit(uint32_t kind, const double numbers[16], const double ray[6], double *t, bool *ok);
 uint32_t larnt_solid_box(uint32_t kind, const double numbers[16], double box[6]);
 uint32_t larnt_solid_contains(uint32_t kind, const double numbers[16], const double point[3], double f, bool *inside);
 
 /* A scene: five slices, each a pointer and a count of elements. An entry has 16 numbers and 4 marks
-   (kind, detail, first part, second part); kinds 1 to 5 as above, 6 a placed part (matrix by rows), 7 a cut
+   (kind, detail, first part, second part); kinds 1 to 5, 8 and 9 as above, 6 a placed part (matrix by rows), 7 a cut
    (detail 0 intersection, 1 difference, which answer the t of the last ray as the Rust does; 2 and 3 the same
    with the true distance, from a ray's first origin). The detail of kind 4 is its stripes, 1 to 1,000; that of
-   kinds 2 and 3 is the stripe count, 0 to 360: a line at each (360 / count, rounded down) degrees, before the
+   kinds 2, 3, 8 and 9 is the stripe count, 0 to 360: a line at each (360 / count, rounded down) degrees, before the
    handed-in ones, 0 for these only. Three numbers a point; a path has a start, in points, and an owner, an
-   entry of kinds 1 to 3. */
+   entry of kinds 1 to 3, 8 or 9. */
 #define LARNT_SCENE \
     const double *numbers, size_t numbers_count, const uint32_t *marks, size_t marks_count, \
     const double *points, size_t points_count, const size_t *starts, size_t starts_count, \

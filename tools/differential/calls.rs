@@ -4,6 +4,7 @@
 //! README.md's table of records; what is left of them is 0.
 
 use oracle::larnt_plain as larnt;
+use oracle::plain::{self, Solid};
 
 use larnt::bounding_box::BBox;
 use larnt::cone::{Cone, ConeTexture};
@@ -137,7 +138,8 @@ fn filled(number: u32) -> fn(f64) -> u64 {
     if number == 0 { alike } else { f64::to_bits }
 }
 
-/// larnt, behind the same boundary as the compiled core. Only the refusal and the remainders are not larnt's.
+/// larnt, behind the same boundary as the compiled core. Only the refusal, the remainders and kinds 8 and 9 are not
+/// larnt's.
 pub const RUST: Calls = Calls {
     sqrt: rust_sqrt,
     length: rust_length,
@@ -237,6 +239,7 @@ extern "C" fn rust_solid_hit(
         3 => (0, cone(n).intersect(r)),
         4 => (0, cube(n).intersect(r)),
         5 => (0, triangle(n).intersect(r)),
+        8 | 9 => (0, closed(kind, n).intersect(r)),
         _ => (NO_SUCH_KIND, Hit { t: 0.0, ok: false }),
     };
     *t = hit.t;
@@ -252,6 +255,7 @@ extern "C" fn rust_solid_box(kind: u32, n: &[f64; 16], b: &mut [f64; 6]) -> u32 
         3 => (0, cone(n).bounding_box()),
         4 => (0, cube(n).bounding_box()),
         5 => (0, triangle(n).bounding_box()),
+        8 | 9 => (0, closed(kind, n).bounding_box()),
         _ => (NO_SUCH_KIND, BBox::default()),
     };
     let (min, max) = (bounds.min, bounds.max);
@@ -274,6 +278,7 @@ extern "C" fn rust_solid_contains(
         3 => (0, cone(n).contains(p, f)),
         4 => (0, cube(n).contains(p, f)),
         5 => (0, triangle(n).contains(p, f)),
+        8 | 9 => (0, closed(kind, n).contains(p, f)),
         _ => (NO_SUCH_KIND, false),
     };
     *inside = contained;
@@ -307,6 +312,11 @@ fn cone(n: &[f64; 16]) -> Cone {
 
 fn cube(n: &[f64; 16]) -> Cube {
     Cube { min: vector(n, 0), max: vector(n, 3), texture: CubeTexture::default() }
+}
+
+/// Kinds 8 and 9, which larnt does not have: the oracle's own.
+fn closed(kind: u32, n: &[f64; 16]) -> Solid {
+    plain::simple(kind, 0, n, Vec::new())
 }
 
 fn triangle(n: &[f64; 16]) -> Triangle {

@@ -453,7 +453,7 @@ fn moved(mut m: Numbers, to: Point) -> Numbers {
 
 /// Silos, hoppers, tanks, walls, roofs, augers and bins that are cut open; `scale` is a metre.
 pub fn yard(rng: &mut Rng, scale: f64, pieces: usize) -> Scene {
-    let mut yard = Yard { rng, scale, scene: Scene::default(), striped: true };
+    let mut yard = Yard { rng, scale, scene: Scene::default(), ours: true };
     for _ in 0..pieces {
         yard.piece();
     }
@@ -464,8 +464,8 @@ struct Yard<'a> {
     rng: &'a mut Rng,
     scale: f64,
     scene: Scene,
-    /// Whether its tubes and cones may have stripes.
-    striped: bool,
+    /// Whether its tubes and cones may be closed, and may have stripes, as larnt's are not.
+    ours: bool,
 }
 
 impl Yard<'_> {
@@ -535,7 +535,7 @@ impl Yard<'_> {
 
     /// A count of stripes: none, as few as a yard's, or at the boundaries of what they are.
     fn stripes(&mut self) -> u32 {
-        if !self.striped {
+        if !self.ours {
             return 0;
         }
         match self.rng.below(100) {
@@ -548,10 +548,15 @@ impl Yard<'_> {
         }
     }
 
+    /// Whether a tube or a cone is closed.
+    fn closed(&mut self) -> bool {
+        self.ours && self.rng.chance(40)
+    }
+
     fn tube(&mut self, r: f64, h: f64) -> u32 {
         let (r, h) = (self.scale * r, self.scale * h);
-        let count = self.stripes();
-        let tube = self.scene.push([2, count, 0, 0], &[r, 0.0, h]);
+        let (count, closed) = (self.stripes(), self.closed());
+        let tube = self.scene.push([if closed { 8 } else { 2 }, count, 0, 0], &[r, 0.0, h]);
         if count > 0 && self.rng.chance(30) {
             return tube;
         }
@@ -567,8 +572,8 @@ impl Yard<'_> {
 
     fn cone(&mut self, r: f64, h: f64) -> u32 {
         let (r, h) = (self.scale * r, self.scale * h);
-        let count = self.stripes();
-        let cone = self.scene.push([3, count, 0, 0], &[r, h]);
+        let (count, closed) = (self.stripes(), self.closed());
+        let cone = self.scene.push([if closed { 9 } else { 3 }, count, 0, 0], &[r, h]);
         if count > 0 && self.rng.chance(30) {
             return cone;
         }
@@ -643,8 +648,9 @@ impl Yard<'_> {
 
     /// Something cut open, about the origin; seldom cut twice.
     fn opened(&mut self) -> u32 {
-        let a = match self.rng.below(4) {
+        let a = match self.rng.below(5) {
             0 => self.tube(2.0, 4.0),
+            4 => self.cone(2.0, 3.0),
             1 => {
                 let r = self.measure(1.0, 2.0);
                 let ball = self.scene.push([1, 0, 0, 0], &[0.0, 0.0, 0.0, r]);
@@ -691,7 +697,7 @@ pub fn ordinary(rng: &mut Rng, n: usize, step: f64) -> (Scene, View) {
 }
 
 fn full_yard(rng: &mut Rng, n: usize, placed: usize) -> Scene {
-    let mut yard = Yard { rng, scale: 1.0, scene: Scene::default(), striped: false };
+    let mut yard = Yard { rng, scale: 1.0, scene: Scene::default(), ours: false };
     for k in 0..n {
         let at = inputs::place(yard.rng, Grain::Any);
         let at = [at[0], at[1], at[2].abs() / 5.0];

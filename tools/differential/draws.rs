@@ -6,6 +6,7 @@ use crate::draw_inputs::{self, Draw, Lengths, Rooms, Threshold};
 use crate::harness::{Part, Run, Share, time_rounds};
 use crate::host::{self, raw};
 use crate::scene_calls::{Words, copy, number, put, put_floats};
+use crate::scene_inputs::has_lids;
 use crate::stage_inputs::view_numbers;
 use oracle::generate::Rng;
 use oracle::stripes::striped;
@@ -242,6 +243,10 @@ pub fn compare(run: &mut Run) {
         ("with stripes", &|case, a| a.0[0] == 0 && has_stripes(&case.scene, false)),
         ("with stripes and lines of one solid", &|case, a| {
             a.0[0] == 0 && has_stripes(&case.scene, true)
+        }),
+        ("with closed solids", &|case, a| a.0[0] == 0 && has_lids(&case.scene)),
+        ("with closed solids in a cut", &|case, a| {
+            a.0[0] == 0 && has(&case.scene, 7) && has_lids(&case.scene)
         }),
         ("out exactly full", &|case, a| {
             a.0[0] == 0 && a.0[1] > 0 && case.lengths[0] / 3 == a.0[1] as usize

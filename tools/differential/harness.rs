@@ -25,7 +25,9 @@ pub type Part<'a, I, A> = (&'a str, &'a dyn Fn(&I, usize, &A) -> bool);
 
 impl Run {
     pub fn new(seed: u64, count: u64) -> Run {
-        println!("function            cases   differ  share           smallest differing input");
+        println!(
+            "function                     cases   differ  share           smallest differing input"
+        );
         Run { seed, count, differences: 0 }
     }
 
@@ -118,7 +120,7 @@ impl Run {
         let named = counted.iter().zip(shares);
         let shares: Vec<String> =
             named.map(|(n, share)| format!("{share} {}", percent(*n, count))).collect();
-        println!("{name:<18} {count:>8} {differ:>8}  {:<15} {text}", shares.join(", "));
+        println!("{name:<25} {count:>8} {differ:>8}  {:<15} {text}", shares.join(", "));
     }
 }
 
@@ -155,7 +157,7 @@ pub fn name_hash(name: &str) -> u64 {
 const ROUNDS: usize = 1000;
 
 pub fn times_header() {
-    println!("function            ns Rust  ns Rattle  ratio");
+    println!("function                   ns Rust  ns Rattle  ratio");
 }
 
 /// Times rounds of `calls` calls, the two sides in turn, and prints the best round of each.
@@ -173,5 +175,5 @@ pub fn time_rounds(name: &str, calls: usize, rounds: usize, rust: impl Fn(), cor
         }
     }
     let [r, c] = best;
-    println!("{name:<18} {r:>8.2} {c:>10.2} {:>6.2}", c / r);
+    println!("{name:<25} {r:>8.2} {c:>10.2} {:>6.2}", c / r);
 }

@@ -118,12 +118,15 @@ pub fn contains(rng: &mut Rng, kind: u32) -> Input {
     spoilt_solid(rng, kind, &n, &[p[0], p[1], p[2], f])
 }
 
-/// A kind outside 1 to 5, with the inputs of a good one.
+/// The simple kinds: those without parts.
+pub const SIMPLE: [u32; 7] = [1, 2, 3, 4, 5, 8, 9];
+
+/// A kind that is not simple, with the inputs of one that is.
 pub fn other(rng: &mut Rng, case: impl Fn(&mut Rng, u32) -> Input) -> Input {
-    let kind = 1 + rng.below(5) as u32;
+    let kind = rng.pick(&SIMPLE);
     let mut input = case(rng, kind);
-    let any = (rng.next() as u32).max(6);
-    let near = [0, 6, 7, 8, 256 + kind, 1 << 16 | kind, 1 << 31 | kind, u32::MAX];
+    let any = (rng.next() as u32).max(10);
+    let near = [0, 6, 7, 10, 11, 256 + kind, 1 << 16 | kind, 1 << 31 | kind, u32::MAX];
     input[0] = u64::from(if rng.chance(70) { rng.pick(&near) } else { any });
     input
 }
@@ -146,6 +149,10 @@ pub fn solid_and_ray(rng: &mut Rng, kind: u32) -> (Numbers, Ray) {
     let grain = grain(rng);
     if rng.chance(5) {
         return at_threshold(rng, grain, kind);
+    }
+    if has_lids(kind) && rng.chance(35) {
+        let n = solid(rng, grain, kind);
+        return (n, ray_to_lid(rng, grain, kind, &n));
     }
     let n = solid(rng, grain, kind);
     (n, ray(rng, grain, kind, &n))
@@ -258,12 +265,12 @@ pub fn solid(rng: &mut Rng, grain: Grain, kind: u32) -> Numbers {
             n[..3].copy_from_slice(&place(rng, grain));
             n[3] = measure(rng, grain, 12);
         }
-        2 => {
+        2 | 8 => {
             n[0] = measure(rng, grain, 6);
             n[1] = if rng.chance(50) { 0.0 } else { metres(rng, grain) / 4.0 };
             n[2] = n[1] + measure(rng, grain, 20);
         }
-        3 => {
+        3 | 9 => {
             n[0] = measure(rng, grain, 6);
             n[1] = measure(rng, grain, 8);
         }
@@ -303,12 +310,19 @@ pub fn spot(rng: &mut Rng, grain: Grain, kind: u32, n: &Numbers) -> Spot {
             let normal = direction(rng, grain);
             Spot { point: along([n[0], n[1], n[2]], normal, n[3]), normal }
         }
-        2 => {
+        8 | 9 if rng.chance(50) => {
+            // a disc: its middle, its rim, or between
+            let ((x, y), r) = (circle(rng, grain), n[0] * part(rng, grain));
+            let up = if kind == 8 && rng.chance(50) { 1.0 } else { -1.0 };
+            let z = lid(kind, n, up > 0.0);
+            Spot { point: [r * x, r * y, z], normal: [0.0, 0.0, up] }
+        }
+        2 | 8 => {
             let ((x, y), f) = (circle(rng, grain), part(rng, grain));
             let point = [n[0] * x, n[0] * y, n[1] + (n[2] - n[1]) * f];
             Spot { point, normal: [x, y, 0.0] }
         }
-        3 => {
+        3 | 9 => {
             let ((x, y), f) = (circle(rng, grain), part(rng, grain));
             let r = n[0] * (1.0 - f);
             Spot { point: [r * x, r * y, n[1] * f], normal: unit([n[1] * x, n[1] * y, n[0]]) }
@@ -333,6 +347,81 @@ pub fn spot(rng: &mut Rng, grain: Grain, kind: u32, n: &Numbers) -> Spot {
             Spot { point: along(along(a, e1, u), e2, v), normal: unit(cross(e1, e2)) }
         }
     }
+}
+
+/// Whether a kind has discs.
+pub fn has_lids(kind: u32) -> bool {
+    matches!(kind, 8 | 9)
+}
+
+/// The height of a disc: a cone has the one at 0 alone.
+fn lid(kind: u32, n: &Numbers, upper: bool) -> f64 {
+    match (kind, upper) {
+        (8, true) => n[2],
+        (8, false) => n[1],
+        _ => 0.0,
+    }
+}
+
+/// A ray at a disc: at its rim, down its axis, in its plane, from within, at 1e-6, and about INF, which a direction
+/// that isn't normalised reaches.
+pub fn ray_to_lid(rng: &mut Rng, grain: Grain, kind: u32, n: &Numbers) -> Ray {
+    let upper = rng.chance(50);
+    let z = lid(kind, n, upper);
+    let (x, y) = circle(rng, grain);
+    let rim = [n[0] * x, n[0] * y, z];
+    let far = measure(rng, grain, 30);
+    let side = rng.pick(&[1.0, -1.0]);
+    let inner = along([0.0, 0.0, z], minus(rim, [0.0, 0.0, z]), part(rng, grain));
+    let (origin, direction) = match rng.below(16) {
+        // upright at the rim, or a little within or without
+        0..3 => {
+            let near = [nudged(rng, rim[0]), nudged(rng, rim[1]), z + side * far];
+            (near, [0.0, -0.0, -side])
+        }
+        // askew at the rim
+        3..5 => {
+            let d = direction(rng, grain);
+            (along(rim, d, -far), d)
+        }
+        5..7 => ([0.0, rng.pick(&[0.0, -0.0]), z + side * far], [0.0, 0.0, -side]),
+        // in its plane, or nearly
+        7..9 => {
+            let d = direction(rng, Grain::Any);
+            let level = rng.pick(&[0.0, -0.0, 5e-324, -1e-300, 1e-17]);
+            let beside = nudged(rng, z);
+            let height = rng.pick(&[z, z, beside]);
+            (along([inner[0], inner[1], height], [d[0], d[1], 0.0], -far), [d[0], d[1], level])
+        }
+        // from within, or from the disc itself
+        9..11 => {
+            let d = if rng.chance(50) { [0.0, 0.0, side] } else { direction(rng, grain) };
+            let start = along(inner, [0.0, 0.0, if upper { -1.0 } else { 1.0 }], part(rng, grain));
+            (rng.pick(&[start, inner]), d)
+        }
+        // as near as is compared with
+        11..13 => {
+            let d = if rng.chance(50) { [0.0, 0.0, side] } else { direction(rng, grain) };
+            let t = rng.pick(&[1e-6, 1e-6, 2e-6]);
+            let t = nudged(rng, t);
+            (along(inner, d, -t), d)
+        }
+        // about INF: upright, or so slow aside that it stays within the rim
+        13..15 => {
+            let beside = nudged(rng, 1e9);
+            let t = rng.pick(&[1e9, 1e9, beside, 1.5e9, 0.5e9, 1e12]);
+            let aside = rng.pick(&[0.0, 0.0, 1e-10, -3e-10]);
+            let over = rng.pick(&[side * far, side * 1953125.0 / 2097152.0]);
+            ([inner[0], inner[1], z + over], [aside, 0.0, -over / t])
+        }
+        // onto it from anywhere, not normalised
+        _ => {
+            let eye = place(rng, grain);
+            let by = rng.pick(&[1.0, 1e-3, 1e-9, 100.0]);
+            (eye, minus(inner, eye).map(|x| x * by))
+        }
+    };
+    [origin[0], origin[1], origin[2], direction[0], direction[1], direction[2]]
 }
 
 /// A ray that mostly meets the solid.
@@ -391,11 +480,11 @@ fn at_threshold(rng: &mut Rng, grain: Grain, kind: u32) -> (Numbers, Ray) {
             n[..4].copy_from_slice(&[0.0, 0.0, 0.0, t]);
             origin = before;
         }
-        2 => {
+        2 | 8 => {
             n[..3].copy_from_slice(&[t, -1.0, 1.0]);
             origin = before;
         }
-        3 => {
+        3 | 9 => {
             n[..2].copy_from_slice(&[2.0 * t, 2.0]);
             origin = along(before, [0.0, 0.0, 1.0], 1.0);
         }

@@ -1,4 +1,4 @@
-//! The leaves: box test, projection, inverse, and hit, box and contains of the five kinds.
+//! The leaves: box test, projection, inverse, and hit, box and contains of the simple kinds.
 
 use crate::calls::{Answer, Call, Calls, Input, RUST, TIMED, answer};
 use crate::core::{CORE, HOST};
@@ -7,14 +7,22 @@ use crate::inputs;
 use oracle::generate::Rng;
 use std::hint::black_box;
 
-/// The kinds, numbered from 1.
-const KINDS: [&str; 5] = ["sphere", "cylinder", "cone", "cube", "triangle"];
+/// The simple kinds.
+const KINDS: [(u32, &str); 7] = [
+    (1, "sphere"),
+    (2, "cylinder"),
+    (3, "cone"),
+    (4, "cube"),
+    (5, "triangle"),
+    (8, "closed_cylinder"),
+    (9, "closed_cone"),
+];
 
 pub fn compare(run: &mut Run) {
     line(run, "box_test", Call::BoxTest, inputs::box_test, "met", met);
     line(run, "project", Call::Project, inputs::project, "finite", finite);
     line(run, "inverse", Call::Inverse, inputs::inverse, "regular", |a| a[0] != 0 && finite(a));
-    for (kind, name) in (1..).zip(KINDS) {
+    for (kind, name) in KINDS {
         let hit = |rng: &mut Rng| inputs::hit(rng, kind);
         line(run, &format!("{name}.hit"), Call::Hit, hit, "hit", |a| a[2] == 1);
         let solid_box = |rng: &mut Rng| inputs::solid_box(rng, kind);
@@ -87,7 +95,7 @@ pub fn speed() {
             black_box((calls.inverse)(m, &mut inverse));
         }
     });
-    for (kind, name) in (1..).zip(KINDS) {
+    for (kind, name) in KINDS {
         let seen = |rng: &mut Rng| inputs::solid_and_ray(rng, kind);
         timed(&format!("{name}.hit"), seen, |calls, all| {
             let (mut t, mut ok) = (0.0, false);

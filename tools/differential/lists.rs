@@ -156,11 +156,11 @@ fn boxes(list: &mut List) {
     list.box_test([-1e308, -1.0, -1.0, 1e308, 1.0, 1.0], [1e308, 0.0, 0.0, -1.0, 0.0, 0.0]);
     list.box_test(unit, [0.0, 0.0, 5.0, 0.0, 0.0, -5e-324]);
     for (count, wanted) in [
-        (7, met as fn(&Input, &Answer) -> bool),
-        (5, |i, a| sound(i) && !met(i, a)),
-        (3, |_, a| a[0] == NAN || a[1] == NAN),
-        (4, |i, a| !sound(i) && met(i, a)),
-        (4, |i, a| !sound(i) && !met(i, a)),
+        (5, met as fn(&Input, &Answer) -> bool),
+        (3, |i, a| sound(i) && !met(i, a)),
+        (2, |_, a| a[0] == NAN || a[1] == NAN),
+        (3, |i, a| !sound(i) && met(i, a)),
+        (2, |i, a| !sound(i) && !met(i, a)),
     ] {
         list.pick(count, Call::BoxTest, inputs::box_test, wanted);
     }
@@ -207,11 +207,11 @@ fn matrices(list: &mut List) {
     list.inverse(with(&[(6, FAR)]));
     let finite = |_: &Input, a: &Answer| a.iter().all(|w| f64::from_bits(*w).is_finite());
     let not_finite = |_: &Input, a: &Answer| !a.iter().all(|w| f64::from_bits(*w).is_finite());
-    list.pick(8, Call::Project, inputs::project, finite);
-    list.pick(6, Call::Project, inputs::project, not_finite);
-    list.pick(10, Call::Inverse, inputs::inverse, |i, a| a[0] != 0 && finite(i, a));
-    list.pick(5, Call::Inverse, inputs::inverse, |i, a| a[0] == 0 && sound(i));
-    list.pick(5, Call::Inverse, inputs::inverse, |i, a| a[0] != 0 && not_finite(i, a));
+    list.pick(6, Call::Project, inputs::project, finite);
+    list.pick(5, Call::Project, inputs::project, not_finite);
+    list.pick(8, Call::Inverse, inputs::inverse, |i, a| a[0] != 0 && finite(i, a));
+    list.pick(4, Call::Inverse, inputs::inverse, |i, a| a[0] == 0 && sound(i));
+    list.pick(4, Call::Inverse, inputs::inverse, |i, a| a[0] != 0 && not_finite(i, a));
 }
 
 fn hits(list: &mut List) {
@@ -273,6 +273,29 @@ fn hits(list: &mut List) {
     }
     list.hit(3, &[1.0, 0.0], across(5.0, 0.0, 1.0));
     list.hit(3, &[0.0, 2.0], across(5.0, 0.0, 1.0));
+    // closed: discs from either side, from within, at the rim, in their planes, next to 1e-6 and at INF
+    let rims = around(1.0).map(|x| down([x, 0.0, 5.0]));
+    let over = 1953125.0 / 2097152.0;
+    let slow = |over: f64| [0.0, 0.0, 1.0 + over, 0.0, 0.0, -1.0 / 1073741824.0];
+    let mixed = [
+        down([0.0, 0.0, 5.0]),
+        down([0.0, 0.0, 0.5]),
+        [0.6, 0.8, -5.0, 0.0, 0.0, 1.0],
+        [5.0, 0.0, 0.0, -1.0, 0.0, -0.0],
+        [-2.0, 0.0, 2.0, 0.8, 0.0, -0.6],
+        [0.0, 0.0, 5.0, NOT, 0.0, -1.0],
+    ];
+    for ray in mixed {
+        list.hit(8, &tube, ray);
+        list.hit(9, &cone, ray);
+    }
+    for ray in rims.into_iter().chain([slow(over - 1.0 / 2097152.0), slow(over)]) {
+        list.hit(8, &tube, ray);
+    }
+    for t in around(1e-6) {
+        list.hit(8, &[1.0, -1.0, t], [0.0, 0.0, 0.0, 0.0, 0.0, 1.0]);
+        list.hit(9, &cone, down([0.25, 0.0, t]));
+    }
     // cube: t0 and t1 next to 1e-3, flat, in the plane of a side
     let block = [-1.0, -1.0, -1.0, 1.0, 1.0, 1.0];
     for z in [5.0, 0.0, -5.0, 1.0] {
@@ -309,15 +332,15 @@ fn hits(list: &mut List) {
     list.hit(5, &flat, [0.25, NOT, 1.0, 0.0, 0.0, -1.0]);
     list.hit(5, &flat, [0.0, FAR, 1.0, 0.0, 0.0, -1.0]);
     list.hit(5, &flat, [0.25, 0.25, 1.0, 0.0, 0.0, -FAR]);
-    for kind in 1..=5 {
+    for kind in inputs::SIMPLE {
         let make = |rng: &mut Rng| inputs::hit(rng, kind);
         let hit = |a: &Answer| a[2] == 1;
         let far = |a: &Answer| f64::from_bits(a[1]).abs() > 1e9;
         let used = |i: &Input| sound_solid(kind, i);
-        list.pick(6, Call::Hit, make, |i, a| hit(a) && used(i));
-        list.pick(3, Call::Hit, make, |i, a| !hit(a) && used(i));
-        list.pick(2, Call::Hit, make, |i, a| hit(a) && !used(i));
-        list.pick(2, Call::Hit, make, |i, a| !hit(a) && !used(i));
+        list.pick(4, Call::Hit, make, |i, a| hit(a) && used(i));
+        list.pick(2, Call::Hit, make, |i, a| !hit(a) && used(i));
+        list.pick(1, Call::Hit, make, |i, a| hit(a) && !used(i));
+        list.pick(1, Call::Hit, make, |i, a| !hit(a) && !used(i));
         list.pick(1, Call::Hit, make, |_, a| hit(a) && far(a));
     }
     list.pick(4, Call::Hit, |rng| inputs::hit(rng, 5), |_, a| a[2] == 1 && a[1] == NAN);
@@ -333,10 +356,12 @@ fn bounds(list: &mut List) {
     // a triangle's box passes over one NaN
     list.solid_box(5, &[NOT, 0.0, 0.0, 1.0, NOT, 0.0, 0.0, 1.0, NOT]);
     list.solid_box(5, &[NOT, 0.0, 0.0, NOT, NOT, 0.0, NOT, 1.0, NOT]);
-    for kind in 1..=5 {
+    list.solid_box(8, &[2.0, -1.0, 4.0]);
+    list.solid_box(9, &[2.0, 4.0]);
+    for kind in inputs::SIMPLE {
         let make = |rng: &mut Rng| inputs::solid_box(rng, kind);
-        list.pick(2, Call::Box, make, |i, _| sound_solid(kind, i));
-        list.pick(2, Call::Box, make, |i, _| !sound_solid(kind, i));
+        list.pick(1, Call::Box, make, |i, _| sound_solid(kind, i));
+        list.pick(1, Call::Box, make, |i, _| !sound_solid(kind, i));
     }
 }
 
@@ -353,12 +378,20 @@ fn insides(list: &mut List) {
     list.contains(1, &[0.0, 0.0, 0.0, 1.0], [0.0, 0.0, 0.0], NOT);
     list.contains(2, &[1.0, -1.0, 1.0], [NOT, 0.0, 0.0], 0.0);
     list.contains(4, &[-1.0, -1.0, -1.0, 1.0, 1.0, 1.0], [NOT, 0.0, 0.0], 0.0);
-    for kind in [1, 2, 4] {
+    // a closed cone: its base, its slope, its apex, and a widening
+    for x in around(1.0) {
+        list.contains(9, &[1.0, 2.0], [x, 0.0, 0.0], 0.0);
+        list.contains(9, &[1.0, 2.0], [0.0, 0.5 * x, 1.0], 0.0);
+        list.contains(9, &[1.0, 2.0], [0.0, 0.0, -0.25 * x], 0.25);
+    }
+    list.contains(9, &[1.0, 2.0], [0.0, 0.0, 2.0], 0.0);
+    list.contains(9, &[1.0, 2.0], [0.0, NOT, 1.0], 0.0);
+    for kind in [1, 2, 4, 8, 9] {
         let make = |rng: &mut Rng| inputs::contains(rng, kind);
-        list.pick(3, Call::Contains, make, |i, a| sound_solid(kind, i) && a[1] == 1);
-        list.pick(3, Call::Contains, make, |i, a| sound_solid(kind, i) && a[1] == 0);
-        list.pick(2, Call::Contains, make, |i, a| !sound_solid(kind, i) && a[1] == 1);
-        list.pick(2, Call::Contains, make, |i, a| !sound_solid(kind, i) && a[1] == 0);
+        list.pick(2, Call::Contains, make, |i, a| sound_solid(kind, i) && a[1] == 1);
+        list.pick(2, Call::Contains, make, |i, a| sound_solid(kind, i) && a[1] == 0);
+        list.pick(1, Call::Contains, make, |i, a| !sound_solid(kind, i) && a[1] == 1);
+        list.pick(1, Call::Contains, make, |i, a| !sound_solid(kind, i) && a[1] == 0);
     }
     // a cone and a triangle contain nothing
     list.contains(3, &[1.0, 2.0], [0.0, 0.0, 0.5], 1.0);
@@ -366,7 +399,7 @@ fn insides(list: &mut List) {
 }
 
 fn other_kinds(list: &mut List) {
-    for kind in [0, 6, 7] {
+    for kind in [0, 6, 7, 10] {
         list.hit(kind, &[0.0, 0.0, 0.0, 1.0], down([0.0, 0.0, 5.0]));
         list.solid_box(kind, &[0.0, 0.0, 0.0, 1.0]);
         list.contains(kind, &[0.0, 0.0, 0.0, 1.0], [0.0, 0.0, 0.0], 0.0);
@@ -398,10 +431,10 @@ fn lengths(list: &mut List) {
         (Call::Length, inputs::length as fn(&mut Rng) -> Input),
         (Call::Distance, inputs::distance),
     ] {
-        list.pick(4, call, make, |_, a| (a[1] as i64) > 0);
-        list.pick(4, call, make, |_, a| (a[1] as i64) < 0);
-        list.pick(2, call, make, |i, a| a[1] == 0 && i[0] != 0 && sound(i));
-        list.pick(2, call, make, |i, _| !sound(i));
+        list.pick(2, call, make, |_, a| (a[1] as i64) > 0);
+        list.pick(2, call, make, |_, a| (a[1] as i64) < 0);
+        list.pick(1, call, make, |i, a| a[1] == 0 && i[0] != 0 && sound(i));
+        list.pick(1, call, make, |i, _| !sound(i));
     }
 }
 

@@ -4,7 +4,7 @@
 use crate::harness::Shown;
 use crate::inputs::{self, Grain, Numbers, Point, Spot};
 use oracle::Scene;
-use oracle::check::{parts, used_numbers};
+use oracle::check::{parts, round, used_numbers};
 use oracle::generate::Rng;
 use oracle::stripes::striped;
 use std::fmt::Write;
@@ -71,7 +71,12 @@ pub fn hit(rng: &mut Rng) -> Case {
         return many_restarts(rng);
     }
     let (mut case, grain) = aimed_at(rng);
-    let ray = inputs::ray_to(rng, grain, &|rng| spot(rng, grain, &case.scene, case.i));
+    let (kind, n) = (case.scene.marks_of(case.i)[0], case.scene.numbers_of(case.i));
+    let ray = if inputs::has_lids(kind) && rng.chance(50) {
+        inputs::ray_to_lid(rng, grain, kind, n.try_into().unwrap())
+    } else {
+        inputs::ray_to(rng, grain, &|rng| spot(rng, grain, &case.scene, case.i))
+    };
     case.asked = ray.to_vec();
     spoil(rng, &mut case);
     case
@@ -120,6 +125,11 @@ pub fn has_true_cut(scene: &Scene) -> bool {
     scene.marks.chunks_exact(4).any(|marks| marks[0] == 7 && marks[1] > 1)
 }
 
+/// Whether a solid of the scene is closed, which none of the Rust's is.
+pub fn has_lids(scene: &Scene) -> bool {
+    scene.marks.chunks_exact(4).any(|marks| inputs::has_lids(marks[0]))
+}
+
 // For timing: accepted scenes that the Rust has too.
 
 /// An entry of a scene of a few solids, and a ray aimed at it.
@@ -127,7 +137,7 @@ pub fn ordinary(rng: &mut Rng) -> Case {
     loop {
         let (mut case, grain) = aimed_at(rng);
         without_stripes(&mut case.scene);
-        if has_true_cut(&case.scene) {
+        if has_true_cut(&case.scene) || has_lids(&case.scene) {
             continue;
         }
         let ray = inputs::ray_to(rng, grain, &|rng| spot(rng, grain, &case.scene, case.i));
@@ -147,7 +157,7 @@ fn without_stripes(scene: &mut Scene) {
 pub fn full(rng: &mut Rng) -> Case {
     loop {
         let mut yard = Yard::new(rng);
-        yard.operations = RUST_OWN;
+        (yard.operations, yard.kinds) = (RUST_OWN, RUST_KINDS);
         while yard.scene.entries() < 1000 {
             let about = inputs::place(yard.rng, yard.grain);
             yard.cut_of_leaves(about);
@@ -275,6 +285,8 @@ struct Plan {
 
 const RUST_OWN: &[u32] = &[0, 1];
 const ALL: &[u32] = &[0, 1, 2, 3];
+const RUST_KINDS: &[u32] = &[1, 1, 1, 2, 2, 3, 4, 4, 4, 5];
+const ALL_KINDS: &[u32] = &[1, 1, 2, 3, 4, 4, 4, 5, 8, 8, 8, 9, 9];
 
 struct Yard<'a> {
     rng: &'a mut Rng,
@@ -282,12 +294,15 @@ struct Yard<'a> {
     scene: Scene,
     /// What its cuts are picked from: the Rust's own operations, or all.
     operations: &'static [u32],
+    /// What its simple solids are picked from: the Rust's own kinds, or all.
+    kinds: &'static [u32],
 }
 
 impl Yard<'_> {
     fn new(rng: &mut Rng) -> Yard<'_> {
         let (grain, operations) = (inputs::grain(rng), rng.pick(&[RUST_OWN, ALL]));
-        Yard { rng, grain, scene: Scene::default(), operations }
+        let kinds = rng.pick(&[RUST_KINDS, ALL_KINDS]);
+        Yard { rng, grain, scene: Scene::default(), operations, kinds }
     }
 
     // Making.
@@ -388,9 +403,9 @@ impl Yard<'_> {
 
     /// A simple solid, near that point if its kind has a place of its own.
     fn leaf(&mut self, about: Point) -> u32 {
-        let kind = self.rng.pick(&[1, 1, 1, 2, 2, 3, 4, 4, 4, 5]);
+        let kind = self.rng.pick(self.kinds);
         let mut n = inputs::solid(self.rng, self.grain, kind);
-        if kind == 3 && n[1] == 0.0 {
+        if matches!(kind, 3 | 9) && n[1] == 0.0 {
             n[1] = 1.0;
         }
         if matches!(kind, 1 | 4 | 5) {
@@ -463,7 +478,7 @@ impl Yard<'_> {
     /// Lines of some round solids.
     fn lines(&mut self) {
         for i in 0..self.scene.entries() {
-            if self.scene.marks_of(i)[0] > 3 || self.scene.starts.len() > 20 {
+            if !round(self.scene.marks_of(i)[0]) || self.scene.starts.len() > 20 {
                 continue;
             }
             for _ in 0..self.rng.pick(&[0, 0, 1, 2]) {
@@ -557,7 +572,7 @@ impl Yard<'_> {
         let (k, mark) = match (kind, self.rng.below(3)) {
             (4, 1..) => (1, self.rng.pick(&[0, 1, 1000, 1001, wrong])),
             (7, 1..) => (1, self.rng.pick(&[0, 1, 2, 3, 4, wrong])),
-            _ => (0, self.rng.pick(&[0, 8, 9, 1 << 16 | kind, 1 << 31 | kind, wrong])),
+            _ => (0, self.rng.pick(&[0, 8, 9, 10, 11, 1 << 16 | kind, 1 << 31 | kind, wrong])),
         };
         self.scene.marks[4 * i + k] = mark;
     }
@@ -566,7 +581,10 @@ impl Yard<'_> {
     fn damage_stripes(&mut self) {
         let i = match self.some(striped) {
             Some(i) => i,
-            None => self.scene.push([2, 0, 0, 0], &[1.0, 0.0, 2.0]) as usize,
+            None => {
+                let kind = self.rng.pick(&[2, 3, 8, 9]);
+                self.scene.push([kind, 0, 0, 0], &[1.0, 1.0, 2.0]) as usize
+            }
         };
         let any = self.any_mark();
         let count = self.rng.pick(&[0, 1, 7, 181, 360, 361, 361, 362, 1000, u32::MAX, any]);
@@ -579,7 +597,7 @@ impl Yard<'_> {
         match self.rng.below(6) {
             // another part: a later one, a shared one, or a good one
             0..3 => {
-                let Some(i) = self.some(|kind| kind >= 6) else { return };
+                let Some(i) = self.some(|kind| matches!(kind, 6 | 7)) else { return };
                 let (k, n) = (2 + self.rng.below(2), self.scene.entries() as u32);
                 let any = self.rng.below(i + 1) as u32;
                 let at = i as u32;
@@ -618,7 +636,7 @@ impl Yard<'_> {
         }
         let n = self.scene.owners.len();
         let (k, j) = (self.rng.below(n), self.rng.below(n));
-        let other = self.some(|kind| kind > 3).unwrap_or(0) as u32;
+        let other = self.some(|kind| !round(kind)).unwrap_or(0) as u32;
         let any = self.rng.below(self.scene.entries() + 2) as u32;
         match self.rng.below(3) {
             0 => self.scene.owners.swap(k, j),
@@ -632,7 +650,7 @@ impl Yard<'_> {
 
     fn damage_starts(&mut self) {
         if self.scene.starts.is_empty() {
-            let Some(i) = self.some(|kind| kind <= 3) else { return };
+            let Some(i) = self.some(round) else { return };
             let owner = i as u32;
             self.scene.push_line(owner, &[[0.0; 3], [1.0; 3]]);
             self.scene.push_line(owner, &[]);
@@ -650,7 +668,7 @@ impl Yard<'_> {
     }
 
     fn damage_numbers(&mut self) {
-        let Some(i) = self.some(|kind| (1..=6).contains(&kind)) else { return };
+        let Some(i) = self.some(|kind| used_numbers(kind) > 0) else { return };
         let kind = self.scene.marks[4 * i];
         let used = used_numbers(kind);
         let extreme = inputs::extreme(self.rng);
@@ -664,9 +682,9 @@ impl Yard<'_> {
         let small = self.rng.pick(&[-1.0, -5e-324, -0.0, 0.0, 5e-324]);
         match kind {
             1 => n[3] = small,
-            2 if self.rng.chance(50) => n[0] = small,
-            2 => n[2] = inputs::nudged(self.rng, n[1]),
-            3 => n[self.rng.below(2)] = small,
+            2 | 8 if self.rng.chance(50) => n[0] = small,
+            2 | 8 => n[2] = inputs::nudged(self.rng, n[1]),
+            3 | 9 => n[self.rng.below(2)] = small,
             4 => {
                 let k = self.rng.below(3);
                 n[k] = inputs::nudged(self.rng, n[k + 3]);
@@ -702,7 +720,8 @@ impl Yard<'_> {
                 self.scene.push([6, 0, part, 0], &moved_to(IDENTITY, to));
             }
             2 => {
-                let part = self.scene.push([2, 0, 0, 0], &[2.0, -2.0, 2.0]);
+                let kind = self.rng.pick(&[2, 8]);
+                let part = self.scene.push([kind, 0, 0, 0], &[2.0, -2.0, 2.0]);
                 let by = self.rng.pick(&[499_999.5, 500_000.0, 500_000.5, 1e6]);
                 let m = self.scene.push([6, 0, part, 0], &stretched([1.0, by, 1.0]));
                 // beyond by the second placing alone
@@ -710,7 +729,8 @@ impl Yard<'_> {
             }
             _ => {
                 let a = self.leaf([0.0; 3]);
-                let b = self.scene.push([3, 0, 0, 0], &[1.0, self.rng.pick(&[1e6, 999_999.0])]);
+                let (kind, high) = (self.rng.pick(&[3, 9]), self.rng.pick(&[1e6, 999_999.0]));
+                let b = self.scene.push([kind, 0, 0, 0], &[1.0, high]);
                 self.cut(a, b);
             }
         }

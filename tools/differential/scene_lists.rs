@@ -256,6 +256,9 @@ fn named(list: &mut List) {
     list.hit("a miss through a shrunk placing alone", &alone, past, |n, t, ok| {
         (n, t, ok) == (0, 0.5e9, false)
     });
+    list.hit("down on a lid", &one([8, 0, 0, 0], &[1.0, -1.0, 1.0]), down, |n, t, ok| {
+        (n, t, ok) == (0, 4.0, true)
+    });
     // z and w exchanged: the inverse takes a ray along z to 0
     let mut swapped = IDENTITY;
     (swapped[10], swapped[11], swapped[14], swapped[15]) = (0.0, 1.0, 1.0, 0.0);
@@ -308,9 +311,13 @@ fn boundaries(list: &mut List) {
     let mut s = cube();
     s.push_line(0, &[[0.0; 3]]);
     list.number("a cube as owner", &s, 4);
+    let mut s = one([9, 360, 0, 0], &[1.0, 2.0]);
+    s.push_line(0, &[[0.0; 3]]);
+    list.number("a closed cone as owner", &s, 0);
+    list.number("361 stripes of a closed tube", &one([8, 361, 0, 0], &[1.0, 0.0, 1.0]), 14);
     list.number("stripes 0", &one([4, 0, 0, 0], &[0.0; 6]), 3);
     list.number("stripes 1,000", &one([4, 1000, 0, 0], &[0.0; 6]), 0);
-    list.number("kind 8", &one([8, 0, 0, 0], &[]), 3);
+    list.number("kind 10", &one([10, 0, 0, 0], &[]), 3);
     list.number("360 stripes", &one([2, 360, 0, 0], &[1.0, 0.0, 1.0]), 0);
     list.number("361 stripes", &one([3, 361, 0, 0], &[1.0, 1.0]), 14);
     let mut s = one([2, u32::MAX, 0, 0], &[1.0, 0.0, 1.0]);
@@ -354,10 +361,13 @@ fn main() -> std::io::Result<()> {
     restarts(&mut list);
     boundaries(&mut list);
     let deep = |s: &Scene| s.entries() > 4;
-    list.pick(5, scene_inputs::hit, |s, a| deep(s) && a.hit.0 == 0 && a.hit.2);
-    list.pick(4, scene_inputs::hit, |s, a| deep(s) && a.hit.0 == 0 && !a.hit.2 && a.hit.1 != 1e9);
+    let closed = scene_inputs::has_lids;
+    list.pick(2, scene_inputs::hit, |s, a| deep(s) && !closed(s) && a.hit.0 == 0 && a.hit.2);
+    list.pick(2, scene_inputs::hit, |s, a| deep(s) && closed(s) && a.hit.0 == 0 && a.hit.2);
+    list.pick(3, scene_inputs::hit, |s, a| deep(s) && a.hit.0 == 0 && !a.hit.2 && a.hit.1 != 1e9);
     list.pick(2, scene_inputs::hit, |s, a| deep(s) && a.hit.0 == 11);
-    list.pick(5, scene_inputs::contains, |s, a| deep(s) && a.contains.1);
+    list.pick(2, scene_inputs::contains, |s, a| deep(s) && !closed(s) && a.contains.1);
+    list.pick(2, scene_inputs::contains, |s, a| deep(s) && closed(s) && a.contains.1);
     list.write(std::path::Path::new(&folder))?;
     println!("lists: {} scenes", list.records.len());
     Ok(())

@@ -3,7 +3,7 @@
 use crate::core::{CORE_SCENES, HOST_SCENES};
 use crate::harness::{Run, Share, time};
 use crate::scene_calls::{self, Found, RUST, SceneCalls, Words};
-use crate::scene_inputs::{self, Case, has_true_cut};
+use crate::scene_inputs::{self, Case, has_lids, has_true_cut};
 use oracle::check::parts;
 use oracle::generate::Rng;
 use std::cell::RefCell;
@@ -42,6 +42,8 @@ pub fn compare(run: &mut Run) {
         ("cut", &|case, _| kind(case) == 7),
         ("of parts with parts", &|case, _| nested(case)),
         ("operations 0 and 1 alone", &|case, _| !has_true_cut(&case.scene)),
+        ("closed", &|case, _| matches!(kind(case), 8 | 9)),
+        ("with closed solids", &|case, _| has_lids(&case.scene)),
     ];
     line(run, "own_hit", run.count, scene_inputs::hit, hit, shares);
     let shares: &Sharing = &[
@@ -64,6 +66,8 @@ pub fn compare(run: &mut Run) {
         ("placed", &|case, _| kind(case) == 6),
         ("cut", &|case, _| kind(case) == 7),
         ("of parts with parts", &|case, _| nested(case)),
+        ("closed", &|case, _| matches!(kind(case), 8 | 9)),
+        ("with closed solids", &|case, _| has_lids(&case.scene)),
     ];
     line(run, "own_contains", run.count, scene_inputs::contains, contains, shares);
 }
@@ -99,7 +103,7 @@ fn kind(case: &Case) -> u32 {
 }
 
 fn nested(case: &Case) -> bool {
-    parts(marks(case, case.i)).iter().any(|part| marks(case, *part as usize)[0] >= 6)
+    parts(marks(case, case.i)).iter().any(|part| !parts(marks(case, *part as usize)).is_empty())
 }
 
 /// The same with 0 for operation 2, and 1 for 3.

@@ -12,7 +12,8 @@ use oracle::{Places, Room, Scene, View};
 
 type Stripe = [[f64; 3]; 2];
 
-/// A solid with stripes. It hides nothing: its tube is flat, or its cone lower than any number between.
+/// A solid with stripes. It hides nothing: its tube is flat, or its cone lower than any number between, and its ends
+/// lie in the planes of its discs or above them.
 struct Case {
     kind: u32,
     count: u32,
@@ -30,9 +31,10 @@ fn case(rng: &mut Rng) -> Case {
         3..6 => rng.pick(&[179, 180, 181, 182, 359, 360]),
         _ => any,
     };
-    let (kind, z) = (rng.pick(&[2, 3]), rng.between(-1e6, 1e6));
+    let (kind, z) = (rng.pick(&[2, 3, 8, 9]), rng.between(-1e6, 1e6));
     let z = rng.pick(&[0.0, z, -1e6, 1e6, 0.25]);
-    let numbers = if kind == 2 { [radius(rng), z, z] } else { [radius(rng), LOW, 0.0] };
+    let tube = matches!(kind, 2 | 8);
+    let numbers = if tube { [radius(rng), z, z] } else { [radius(rng), LOW, 0.0] };
     Case { kind, count, numbers }
 }
 
@@ -59,7 +61,7 @@ impl Case {
     fn rust(&self) -> Vec<Stripe> {
         let ([radius, z0, z1], num) = (self.numbers, u64::from(self.count));
         let paths = match self.kind {
-            2 => {
+            2 | 8 => {
                 let texture = CylinderTexture::Striped(num);
                 Cylinder { radius, z0, z1, texture }.paths_striped(num)
             }
@@ -143,7 +145,8 @@ pub fn compare(run: &mut Run) {
         done += rust.len() as u64;
         flat += if radius == 0.0 { rust.len() as u64 } else { 0 };
         small += if radius != 0.0 && radius < 1e-6 { rust.len() as u64 } else { 0 };
-        let mut wrong = rust.len().abs_diff(core.len()) as u64;
+        let lacking = rust.len().abs_diff(core.len()).max(rust.len().abs_diff(table.len()));
+        let mut wrong = lacking as u64;
         for ((r, c), t) in rust.iter().zip(&core).zip(&table) {
             wrong += u64::from(!(apart(r, c) <= bound && c == t));
             if radius != 0.0 {

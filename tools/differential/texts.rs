@@ -189,6 +189,29 @@ fn small(rng: &mut Rng) -> Vec<u8> {
             b"(cone 1 2 360)",
             b"(cone 1 2 000361)",
             b"(cone 1 2 x)",
+            b"(closed-cylinder 1 -1 1)",
+            b"(closed-cylinder 1 -1 1(line 1 0 0 1 0 1))",
+            b"(closed-cylinder 1 -1 1 12(line 1 0 0 1 0 1) (line))",
+            b"(closed-cylinder 1 -1 1 361)",
+            b"(closed-cylinder 1 -1)",
+            b"(closed-cylinder 1 1 -1 5)",
+            b"(closed-cylinder -1 0 1 361)",
+            b"(closed-cone 1 2)",
+            b"(closed-cone 1 2 8 (line 0 0 2))",
+            b"(closed-cone 1 2 00361)",
+            b"(closed-cone 1 0)",
+            b"(closed-cone 1 2 3 4)",
+            b"(closed-cone 1)",
+            b"(closedcone 1 2)",
+            b"(closed- 1 2)",
+            b"(closed-sphere 0 0 0 1)",
+            b"(closed-cube 1 0 0 0 1 1 1)",
+            b"(closed-cylinde 1 -1 1)",
+            b"(closed-cylinders 1 -1 1)",
+            b"(closed-Cone 1 2)",
+            b"(cut 1 (closed-cylinder 1 -1 1 6) (closed-cone 1 2))",
+            b"(cut 0 (closed-cone 1 2 6) (sphere 0 0 0 1))",
+            b"(cut 3 (closed-cylinder 2 -1 1) (cube 1 0 0 0 2 2 2))",
             b"(sphere 0 0 0 1 4)",
             b"(sphere 0 0 0 1 4 (line 1 0 0))",
             b"(cut 1 (cube 1 -1 -1 -1 1 1 1) (cylinder 1 -2 2 5))",
@@ -333,7 +356,17 @@ impl Writer<'_> {
 
     fn form(&mut self, scene: &Scene, i: usize) {
         let (marks, numbers) = (scene.marks_of(i), scene.numbers_of(i));
-        let heads = ["sphere", "cylinder", "cone", "cube", "triangle", "place", "cut"];
+        let heads = [
+            "sphere",
+            "cylinder",
+            "cone",
+            "cube",
+            "triangle",
+            "place",
+            "cut",
+            "closed-cylinder",
+            "closed-cone",
+        ];
         self.word("(");
         self.word(heads[marks[0] as usize - 1]);
         if marks[0] == 4 || marks[0] == 7 {
@@ -407,6 +440,8 @@ fn spoil(rng: &mut Rng, text: &mut Vec<u8>) {
                 b" 1e3 ",
                 b" () ",
                 b" (line 1 2) ",
+                b"closed-",
+                b"(closed-cone 1 2)",
                 b" (line 0 0 0) ",
                 b" (sphere 0 0 0 1) ",
             ]);

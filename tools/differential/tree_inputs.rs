@@ -485,14 +485,14 @@ fn any_kind(rng: &mut Rng, scene: &mut Scene, (at, half): Stand) {
     match rng.below(20) {
         0..14 => simple(rng, scene, (at, half)),
         14 => {
-            let count = rng.pick(&[0, 1, 7]);
-            let part = scene.push([2, count, 0, 0], &[half[0], -half[2], half[2]]);
+            let (kind, count) = (rng.pick(&[2, 2, 8]), rng.pick(&[0, 1, 7]));
+            let part = scene.push([kind, count, 0, 0], &[half[0], -half[2], half[2]]);
             placed(rng, scene, part, at);
         }
         15 => {
             let height = if half[2] > 0.0 { half[2] } else { 1.0 };
-            let count = rng.pick(&[0, 1, 7]);
-            let part = scene.push([3, count, 0, 0], &[half[0], height]);
+            let (kind, count) = (rng.pick(&[3, 3, 9]), rng.pick(&[0, 1, 7]));
+            let part = scene.push([kind, count, 0, 0], &[half[0], height]);
             placed(rng, scene, part, at);
         }
         16..18 => {

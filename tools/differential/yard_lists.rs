@@ -68,7 +68,7 @@ impl List {
     }
 }
 
-const FORMS: [&str; 28] = [
+const FORMS: [&str; 30] = [
     "(triangle 0 0 0 #3FE0000000000000 0 0 0 #3fe0000000000000 0)",
     "(sphere 0 0 0 1)",
     "(sphere 0 0 0 1 (line 1 0 0 0 1 0 -1 0 0) (line))",
@@ -76,6 +76,8 @@ const FORMS: [&str; 28] = [
     "(cone 1 2 (line 1 0 0 0 0 2))",
     "(cylinder 1 -1 1 7 (line 1 0 -1 1 0 1))",
     "(cone 1 2 012)",
+    "(closed-cylinder 1 -1 1 5 (line 1 0 -1 1 0 1))",
+    "(closed-cone 1 2 (line 1 0 0 0 0 2))",
     "(cube 1 -1 -1 -1 1 1 1)",
     "(cube 7 0 0 0 1 1 1)",
     "(place 1 0 0 1 0 1 0 0 0 0 -1 0 0 0 0 1 (cube 1 0 0 0 1 1 1))",
@@ -136,6 +138,16 @@ fn bounds(list: &mut List) {
     }
     for stripes in ["0", "1", "360", "361", "1000000", "1000001", "-0", "+4"] {
         list.form(&format!("(cylinder 9 0 1 {stripes})"));
+    }
+    for form in ["closed-cylinder 9 0 1", "closed-cone 9 9"] {
+        for stripes in ["", " 360", " 361"] {
+            list.form(&format!("({form}{stripes})"));
+        }
+    }
+    for form in
+        ["(closed-cone 9)", "(closed-cylinder 9 1 0)", "(closed-sphere 0 0 0 1)", "(closed 9 9)"]
+    {
+        list.form(form);
     }
     list.form("(sphere 0 0 0 1 4)");
     list.form("(cone 1 2 361)\n(cut 4 (cone 1 1) (cone 1 1))");

@@ -8,7 +8,7 @@ use Rattle.geometry.specs.declared.vector.Vector.{Vector}
 use Rattle.rows.specs.declared.Marks.{Marks}
 use Rattle.rows.specs.declared.Numbers.{Numbers}
 use Rattle.solids.specs.declared.solid.Solid.{Solid}
-use Rattle.solids.specs.declared.solid.Solid.the-variants.{Sphere, Cylinder, Cone, Cube, Triangle}
+use Rattle.solids.specs.declared.solid.Solid.the-variants.{Sphere, Cylinder, Cone, Cube, Triangle, ClosedCylinder, ClosedCone}
 use Rattle.scene.specs.Entries.{simpleOf, matrixOf}
 use Rattle.scene.specs.declared.entry.Simple.{Simple}
 use Rattle.scene.specs.declared.entry.Simple.the-variants.{Is, Other}
@@ -41,6 +41,8 @@ solidMeasured (Cylinder r z0 z1) = cylinderMeasured r z0 z1
 solidMeasured (Cone r h) = coneMeasured r h
 solidMeasured (Cube a b) = cubeMeasured a b
 solidMeasured (Triangle a b c) = triangleMeasured a b c
+solidMeasured (ClosedCylinder r z0 z1) = cylinderMeasured r z0 z1
+solidMeasured (ClosedCone r h) = coneMeasured r h
 
 unfoldable pub simpleMeasured : Simple → Bool
 simpleMeasured (Is s) = solidMeasured s

@@ -1,4 +1,4 @@
--- Document 01's number 3: kind, operation and a cube's stripe count are among their values; and document 02's 14.
+-- Document 01's number 3: kind, operation and a cube's stripe count are among their values (document 02, iii, lets kinds 8 and 9 pass); and document 02's 14.
 use Prim.Native.Nat.{ℕ}
 use mathlib.Core.Bool.{Bool, _&&_, cond}
 use lib.Dec.{leb, eqb}
@@ -6,7 +6,7 @@ use Rattle.rows.specs.declared.Marks.{Marks}
 use Rattle.scene.specs.Entries.{stripeCount}
 
 unfoldable pub isKind : ℕ → Bool
-isKind kind = leb 1 kind && leb kind 7
+isKind kind = leb 1 kind && leb kind 9
 
 -- 1 to 1,000 stripes
 unfoldable pub isStripes : ℕ → Bool
@@ -16,6 +16,6 @@ isStripes count = leb 1 count && leb count 1000
 unfoldable pub known : Marks → Bool
 known m = cond (eqb (m .kind) 4) (isStripes (m .detail)) (cond (eqb (m .kind) 7) (leb (m .detail) 3) (isKind (m .kind)))
 
--- document 02's number 14 refuses a stripe count of a cylinder or a cone above 360
+-- document 02's number 14 refuses a stripe count of a cylinder or a cone, open or closed, above 360
 unfoldable pub fewStripes : Marks → Bool
 fewStripes m = leb (stripeCount m) 360

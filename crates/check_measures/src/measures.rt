@@ -100,6 +100,8 @@ pub fn solid_measured(s: Solid) -> bool
         Solid::Cone { radius, height } => cone_measured(radius, height),
         Solid::Cube { min, max } => cube_measured(min, max),
         Solid::Triangle { v1, v2, v3 } => triangle_measured(v1, v2, v3),
+        Solid::ClosedCylinder { radius, z0, z1 } => cylinder_measured(radius, z0, z1),
+        Solid::ClosedCone { radius, height } => cone_measured(radius, height),
     }
 }
 

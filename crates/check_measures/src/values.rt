@@ -13,7 +13,7 @@ pub fn is_kind(kind: u32) -> bool
     if kind < 1 {
         return false;
     }
-    kind <= 7
+    kind <= 9
 }
 
 fn is_stripes(count: u32) -> bool

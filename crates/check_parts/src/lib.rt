@@ -101,10 +101,16 @@ pub fn well_named(marks: &[u32], named: &mut [u32]) -> bool
     enter_all(marks, &mut depths, named)
 }
 
-// The kinds whose lines are handed in.
+// The kinds whose lines are handed in: sphere, cylinder and cone, and the closed ones.
 pub fn is_round(kind: u32) -> bool
     ensures { λ r. ⌜ r ≡ Owners.isRound kind ⌝ }
 {
+    if kind == 8 {
+        return true;
+    }
+    if kind == 9 {
+        return true;
+    }
     if kind < 1 {
         return false;
     }

@@ -25,8 +25,8 @@ use Rattle.solids.specs.Cones.{coneBox}
 use Rattle.solids.specs.Triangles.{triangleBox}
 use Rattle.solids.specs.Solids.{solidBox}
 use Rattle.solids.specs.declared.solid.Solid.{Solid}
-use Rattle.solids.specs.declared.solid.Solid.the-variants.{Sphere, Cylinder, Cone, Cube, Triangle}
-use Rattle.scene.specs.Entries.{simpleOf, matrixOf, opOf, cutOf, compositeOf, simpleOr, entryOf}
+use Rattle.solids.specs.declared.solid.Solid.the-variants.{Sphere, Cylinder, Cone, Cube, Triangle, ClosedCylinder, ClosedCone}
+use Rattle.scene.specs.Entries.{closedOf, simpleOf, matrixOf, opOf, cutOf, compositeOf, simpleOr, entryOf}
 use Rattle.scene.specs.declared.entry.Simple.{Simple}
 use Rattle.scene.specs.declared.entry.Simple.the-variants.{Is, Other}
 use Rattle.scene.specs.declared.entry.Entry.{Entry}
@@ -45,7 +45,7 @@ Fair b = Under (b .min) (b .max)
 both : (a : Bool) {b : Bool} → (a && b) ≡ true → (a ≡ true) × (b ≡ true)
 both a {b} e = and-eq-true-iff a b .0 e
 
--- ---- kinds 1 to 5
+-- ---- kinds 1 to 5, 8 and 9
 record Radius (r : Float) : Type 0 where
   pub bounded : T (within r)
   pub nonneg : T (le zeroF r)
@@ -61,24 +61,32 @@ not-exceeds a b A B h =
     let q = or-no (lt (b .y) (a .y)) (lt (b .z) (a .z)) (p .1) in
     record { x = within-le (a .x) (b .x) (A .x) (B .x) (p .0); y = within-le (a .y) (b .y) (A .y) (B .y) (q .0); z = within-le (a .z) (b .z) (A .z) (B .z) (q .1) }
 
-pub solid-fair : (s : Solid) → solidMeasured s ≡ true → Fair (solidBox s)
-unfolding solidMeasured solidBox sphereBox cylinderBox coneBox triangleBox cylinderMeasured coneMeasured cubeMeasured triangleMeasured subScalar addScalar minV maxV
-solid-fair (Sphere c r) h =
-    let p = both (withinPoint c) h in
-    let C = within-point c (p .0) in
-    let R = radius-of r (p .1) in
-    record { x = about (c .x) r (C .x) (R .bounded) (R .nonneg); y = about (c .y) r (C .y) (R .bounded) (R .nonneg); z = about (c .z) r (C .z) (R .bounded) (R .nonneg) }
-solid-fair (Cylinder r z0 z1) h =
+cylinder-fair : (r z0 z1 : Float) → cylinderMeasured r z0 z1 ≡ true → Fair (cylinderBox r z0 z1)
+unfolding cylinderBox cylinderMeasured
+cylinder-fair r z0 z1 h =
     let p = both (isRadius r) h in
     let q = both (within z0) (p .1) in
     let w = both (within z1) (q .1) in
     let n = neg-under r (radius-of r (p .0) .nonneg) in
     record { x = n; y = n; z = within-le z0 z1 (passes _ (q .0)) (passes _ (w .0)) (passes _ (w .1)) }
-solid-fair (Cone r k) h =
+
+cone-fair : (r k : Float) → coneMeasured r k ≡ true → Fair (coneBox r k)
+unfolding coneBox coneMeasured
+cone-fair r k h =
     let p = both (isRadius r) h in
     let q = both (within k) (p .1) in
     let n = neg-under r (radius-of r (p .0) .nonneg) in
     record { x = n; y = n; z = lt→le zeroF k (passes _ (q .1)) }
+
+pub solid-fair : (s : Solid) → solidMeasured s ≡ true → Fair (solidBox s)
+unfolding solidMeasured solidBox sphereBox triangleBox cubeMeasured triangleMeasured subScalar addScalar minV maxV
+solid-fair (Sphere c r) h =
+    let p = both (withinPoint c) h in
+    let C = within-point c (p .0) in
+    let R = radius-of r (p .1) in
+    record { x = about (c .x) r (C .x) (R .bounded) (R .nonneg); y = about (c .y) r (C .y) (R .bounded) (R .nonneg); z = about (c .z) r (C .z) (R .bounded) (R .nonneg) }
+solid-fair (Cylinder r z0 z1) h = cylinder-fair r z0 z1 h
+solid-fair (Cone r k) h = cone-fair r k h
 solid-fair (Cube a b) h =
     let p = both (withinPoint a) h in
     let q = both (withinPoint b) (p .1) in
@@ -94,6 +102,8 @@ solid-fair (Triangle a b c) h =
       y = min-max-three (a .y) (b .y) (c .y) (A .y) (B .y) (C .y);
       z = min-max-three (a .z) (b .z) (c .z) (A .z) (B .z) (C .z);
     }
+solid-fair (ClosedCylinder r z0 z1) h = cylinder-fair r z0 z1 h
+solid-fair (ClosedCone r k) h = cone-fair r k h
 
 -- ---- kind 6
 -- a row of a matrix
@@ -175,7 +185,7 @@ module _ (m : Marks) (n v : Numbers) where
   or-measured Other h = other-measured (eqb (m .kind) 7)
 
   placing : m .kind ≡ 6 → simpleOf (m .kind) n ≡ Other
-  unfolding simpleOf
+  unfolding simpleOf closedOf
   placing e = rw e
 
   by-kind : (t : Bool) → eqb (m .kind) 6 ≡ t → cond t (withinMatrix (matrixOf n)) (simpleMeasured (simpleOf (m .kind) n)) ≡ true

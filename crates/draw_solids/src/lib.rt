@@ -1,4 +1,4 @@
-// The lines of a solid of kinds 1 to 5, added to the paths that two lent slices hold.
+// The lines of a solid of kinds 1 to 5, 8 or 9, added to the paths that two lent slices hold.
 ghost use mathlib.Core.Path.{_≡_};
 ghost use mathlib.Core.List.{[], _∷_, _++_, map};
 ghost use Prim.Native.Nat.{_*_, _≤_};
@@ -129,7 +129,7 @@ fn round_paths(
     }
 }
 
-// The lines of entry i, a solid of kinds 1 to 5, after n points and m starts.
+// The lines of entry i, a solid of kinds 1 to 5, 8 or 9, after n points and m starts.
 pub fn solid_paths(
     solid: Solid,
     detail: u32,
@@ -178,5 +178,29 @@ pub fn solid_paths(
         Solid::Triangle { v1, v2, v3 } => {
             draw_lines::triangle_paths(v1, v2, v3, out, begins, n, m)
         }
+        Solid::ClosedCylinder { radius, z0, z1 } => round_paths(
+            Flank::Upright { radius, z0, z1 },
+            detail,
+            i,
+            points,
+            starts,
+            owners,
+            out,
+            begins,
+            n,
+            m,
+        ),
+        Solid::ClosedCone { radius, height } => round_paths(
+            Flank::Slanted { radius, height },
+            detail,
+            i,
+            points,
+            starts,
+            owners,
+            out,
+            begins,
+            n,
+            m,
+        ),
     }
 }

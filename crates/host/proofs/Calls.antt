@@ -30,7 +30,7 @@ inverted-is m m' i e h =
     let k : i ≡ inverted m' = h ∙ ap inverted e in
     (ap (λ (j : Inverted). j .determinant) k, ap (λ (j : Inverted). matrixRow (j .inverse)) k)
 
--- the kind is one of 1 to 5
+-- the kind is one of 1 to 5, 8 and 9
 module _ (x y : Simple) (s : Solid) (read : y ≡ x) (is : y ≡ Is s) where
   pub hit-is : (r r' : Ray) (h : Hit) → r ≡ r' → h ≡ hitOf s r → (0 ≡ simpleNumber x) × ((h .t ≡ distanceTo x r') × (h .ok ≡ strikes x r'))
   unfolding simpleNumber distanceTo strikes

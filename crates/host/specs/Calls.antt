@@ -36,7 +36,7 @@ matrixRow m =
     m .x00 ∷ m .x01 ∷ m .x02 ∷ m .x03 ∷ m .x10 ∷ m .x11 ∷ m .x12 ∷ m .x13
     ∷ m .x20 ∷ m .x21 ∷ m .x22 ∷ m .x23 ∷ m .x30 ∷ m .x31 ∷ m .x32 ∷ m .x33 ∷ []
 
--- 0, or document 01's number 3 where the kind is none of 1 to 5; what is lent is then +0 and false
+-- 0, or document 01's number 3 where the kind is none of 1 to 5, 8 and 9; what is lent is then +0 and false
 unfoldable pub simpleNumber : Simple → ℕ
 simpleNumber (Is s) = 0
 simpleNumber Other = 3

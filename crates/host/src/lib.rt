@@ -173,7 +173,7 @@ pub extern "C" fn larnt_inverse(m: &[f64; 16], inverse: &mut [f64; 16]) -> f64
     i.determinant
 }
 
-// The hit that a solid of kinds 1 to 5 gives a ray. Answers 0, or 3 for any other kind.
+// The hit that a solid of kinds 1 to 5, 8 or 9 gives a ray. Answers 0, or 3 for any other kind.
 #[no_mangle]
 pub extern "C" fn larnt_solid_hit(
     kind: u32,
@@ -201,7 +201,7 @@ pub extern "C" fn larnt_solid_hit(
     }
 }
 
-// The box of a solid of kinds 1 to 5. Answers 0, or 3 for any other kind.
+// The box of a solid of kinds 1 to 5, 8 or 9. Answers 0, or 3 for any other kind.
 #[no_mangle]
 pub extern "C" fn larnt_solid_box(kind: u32, n: &[f64; 16], b: &mut [f64; 6]) -> u32
     ensures answer { λ r. ⌜ r ≡ simpleNumber (simpleOf kind (numbersOf (now (n .entry)))) ⌝ }
@@ -220,7 +220,7 @@ pub extern "C" fn larnt_solid_box(kind: u32, n: &[f64; 16], b: &mut [f64; 6]) ->
     }
 }
 
-// Whether a solid of kinds 1 to 5, widened by f, contains a point. Answers 0, or 3 for any other kind.
+// Whether a solid of kinds 1 to 5, 8 or 9, widened by f, contains a point. Answers 0, or 3 for any other kind.
 #[no_mangle]
 pub extern "C" fn larnt_solid_contains(
     kind: u32,

@@ -1,4 +1,4 @@
--- What an entry's kind and its 16 numbers stand for (document 01, "Scene").
+-- What an entry's kind and its 16 numbers stand for (document 01, "Scene"; document 02, iii).
 use Prim.Native.Nat.{ℕ, _/_}
 use mathlib.Core.Bool.{Bool, cond, _&&_, _||_}
 use mathlib.Core.List.{List}
@@ -13,7 +13,7 @@ use Rattle.rows.specs.Rows.{row}
 use Rattle.rows.specs.Entries.{numbersOf, marksOf}
 use Rattle.rows.specs.declared.Numbers.{Numbers}
 use Rattle.rows.specs.declared.Marks.{Marks}
-use Rattle.solids.specs.declared.solid.Solid.the-variants.{Sphere, Cylinder, Cone, Cube, Triangle}
+use Rattle.solids.specs.declared.solid.Solid.the-variants.{Sphere, Cylinder, Cone, Cube, Triangle, ClosedCylinder, ClosedCone}
 use Rattle.scene.specs.declared.entry.Simple.{Simple}
 use Rattle.scene.specs.declared.entry.Simple.the-variants.{Is, Other}
 use Rattle.scene.specs.declared.entry.Op.{Op}
@@ -21,7 +21,14 @@ use Rattle.scene.specs.declared.entry.Op.the-variants.{Intersection, Dif
 use Rattle.scene.specs.declared.entry.Entry.{Entry}
 use Rattle.scene.specs.declared.entry.Entry.the-variants.{Simple as SimpleEntry, Placed, Cut, None}
 
--- kinds 1 to 5, sphere, cylinder, cone, cube and triangle, with their measures
+-- document 02's kinds 8 and 9, closed cylinder and closed cone, with the measures of 2 and 3
+unfoldable pub closedOf : ℕ → Numbers → Simple
+closedOf kind n =
+    cond (eqb kind 8) (Is (ClosedCylinder (n .x00) (n .x01) (n .x02)))
+    (cond (eqb kind 9) (Is (ClosedCone (n .x00) (n .x01)))
+    Other)
+
+-- kinds 1 to 5, sphere, cylinder, cone, cube and triangle, with their measures; 8 and 9
 unfoldable pub simpleOf : ℕ → Numbers → Simple
 simpleOf kind n =
     cond (eqb kind 1) (Is (Sphere (vec (n .x00) (n .x01) (n .x02)) (n .x03)))
@@ -29,11 +36,11 @@ simpleOf kind n =
     (cond (eqb kind 3) (Is (Cone (n .x00) (n .x01)))
     (cond (eqb kind 4) (Is (Cube (vec (n .x00) (n .x01) (n .x02)) (vec (n .x03) (n .x10) (n .x11))))
     (cond (eqb kind 5) (Is (Triangle (vec (n .x00) (n .x01) (n .x02)) (vec (n .x03) (n .x10) (n .x11)) (vec (n .x12) (n .x13) (n .x20))))
-    Other))))
+    (closedOf kind n)))))
 
--- the kinds whose detail is a stripe count (document 02, ii): cylinder and cone
+-- the kinds whose detail is a stripe count (document 02, ii and iii): cylinder and cone, open or closed
 unfoldable pub striped : ℕ → Bool
-striped kind = eqb kind 2 || eqb kind 3
+striped kind = eqb kind 2 || (eqb kind 3 || (eqb kind 8 || eqb kind 9))
 
 -- the stripe count of an entry, 0 where its kind has none
 unfoldable pub stripeCount : Marks → ℕ

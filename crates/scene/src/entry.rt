@@ -1,16 +1,36 @@
 // An entry of a scene: its 16 numbers and 4 marks, read as what they stand for.
 ghost use mathlib.Core.Path.{_≡_};
-ghost use Rattle.scene.specs.Entries.{simpleOf, matrixOf, matrixNumbers, striped, stripeCount, opOf, cutOf, compositeOf, entryOf, entryAt};
+ghost use Rattle.scene.specs.Entries.{closedOf, simpleOf, matrixOf, matrixNumbers, striped, stripeCount, opOf, cutOf, compositeOf, entryOf, entryAt};
 use geometry::vector::Vector;
 use matrix::Matrix;
 use rows::Marks;
 use rows::Numbers;
 use solids::solid::Solid;
 
-// A solid of kinds 1 to 5, or none of these.
+// A solid of kinds 1 to 5, 8 or 9, or none of these.
 pub enum Simple {
     Is(Solid),
     Other,
+}
+
+// Kind 8 is a closed cylinder (radius, z0, z1) and 9 a closed cone (radius, height).
+fn closed_of(kind: u32, n: Numbers) -> Simple
+    ensures { λ r. ⌜ r ≡ closedOf kind n ⌝ }
+{
+    if kind == 8 {
+        return Simple::Is(Solid::ClosedCylinder {
+            radius: n.x00,
+            z0: n.x01,
+            z1: n.x02,
+        });
+    }
+    if kind == 9 {
+        return Simple::Is(Solid::ClosedCone {
+            radius: n.x00,
+            height: n.x01,
+        });
+    }
+    Simple::Other
 }
 
 // Kind 1 is a sphere (centre, radius), 2 a cylinder (radius, z0, z1), 3 a cone (radius, height),
@@ -49,17 +69,23 @@ pub fn simple_of(kind: u32, n: Numbers) -> Simple
             v3: Vector::new(n.x12, n.x13, n.x20),
         });
     }
-    Simple::Other
+    closed_of(kind, n)
 }
 
-// Whether the detail of a kind is a stripe count: cylinder and cone.
+// Whether the detail of a kind is a stripe count: cylinder and cone, open or closed.
 pub fn is_striped(kind: u32) -> bool
     ensures { λ r. ⌜ r ≡ striped kind ⌝ }
 {
     if kind == 2 {
         return true;
     }
-    kind == 3
+    if kind == 3 {
+        return true;
+    }
+    if kind == 8 {
+        return true;
+    }
+    kind == 9
 }
 
 // The stripe count of an entry, 0 where its kind has none.

@@ -1,4 +1,4 @@
-// The five kinds of solid: where a ray hits one, its box, and whether it contains a point.
+// The seven kinds of solid: where a ray hits one, its box, and whether it contains a point.
 pub mod cone;
 pub mod cube;
 pub mod cylinder;

@@ -1,4 +1,4 @@
-// A solid: one of five kinds, each with its own measures.
+// A solid: one of seven kinds, each with its own measures.
 ghost use mathlib.Core.Path.{_≡_};
 ghost use Rattle.solids.specs.Solids.{hitOf, solidBox, containsOf};
 use crate::cone;
@@ -10,6 +10,8 @@ use geometry::bounding_box::BBox;
 use geometry::hit::Hit;
 use geometry::ray::Ray;
 use geometry::vector::Vector;
+use solids_lids::closed_cone;
+use solids_lids::closed_cylinder;
 
 pub enum Solid {
     Sphere { center: Vector, radius: f64 },
@@ -17,6 +19,8 @@ pub enum Solid {
     Cone { radius: f64, height: f64 },
     Cube { min: Vector, max: Vector },
     Triangle { v1: Vector, v2: Vector, v3: Vector },
+    ClosedCylinder { radius: f64, z0: f64, z1: f64 },
+    ClosedCone { radius: f64, height: f64 },
 }
 
 impl Solid {
@@ -29,6 +33,8 @@ impl Solid {
             Solid::Cone { radius, height } => cone::bounding_box(radius, height),
             Solid::Cube { min, max } => BBox::new(min, max),
             Solid::Triangle { v1, v2, v3 } => triangle::bounding_box(v1, v2, v3),
+            Solid::ClosedCylinder { radius, z0, z1 } => cylinder::bounding_box(radius, z0, z1),
+            Solid::ClosedCone { radius, height } => cone::bounding_box(radius, height),
         }
     }
 
@@ -48,6 +54,8 @@ impl Solid {
                 v2: _,
                 v3: _,
             } => false,
+            Solid::ClosedCylinder { radius, z0, z1 } => cylinder::contains(radius, z0, z1, v, f),
+            Solid::ClosedCone { radius, height } => closed_cone::contains(radius, height, v, f),
         }
     }
 
@@ -60,6 +68,18 @@ impl Solid {
             Solid::Cone { radius, height } => cone::intersect(radius, height, r),
             Solid::Cube { min, max } => cube::intersect(min, max, r),
             Solid::Triangle { v1, v2, v3 } => triangle::intersect_vertices(v1, v2, v3, r),
+            Solid::ClosedCylinder { radius, z0, z1 } => {
+                closed_cylinder::intersect(
+                    cylinder::intersect(radius, z0, z1, r),
+                    radius,
+                    z0,
+                    z1,
+                    r,
+                )
+            }
+            Solid::ClosedCone { radius, height } => {
+                closed_cone::intersect(cone::intersect(radius, height, r), radius, r)
+            }
         }
     }
 }

@@ -1,4 +1,4 @@
--- What the calls on a solid answer: 0, or document 01's number 3 where the kind is none of 1 to 5, and then +0 and false.
+-- What the calls on a solid answer: 0, or document 01's number 3 where the kind is none of 1 to 5, 8 and 9, and then +0 and false.
 use mathlib.Core.Bool.{Bool, false}
 use Prim.Native.Nat.{ℕ}
 use lib.Ieee.{Float}

@@ -36,13 +36,13 @@ fn solid_from(s: &[u8], k: usize) -> Simple
     ensures { λ r. ⌜ r ≡ solidFrom (now (s .entry)) k ⌝ }
 {
     let kind = test_words::word(s, k);
-    if kind > 5 {
+    if kind > 9 {
         return Simple::Other;
     }
     scene::entry::simple_of(kind as u32, numbers_from(s, k + 1))
 }
 
-// What the calls on a solid answer: 0, or 3 for a kind outside 1 to 5, and then zeros.
+// What the calls on a solid answer: 0, or 3 for a kind outside 1 to 5, 8 and 9, and then zeros.
 fn simple_answer(x: Simple) -> u64
     ensures { λ r. ⌜ r ≡ simpleAnswer x ⌝ }
 {

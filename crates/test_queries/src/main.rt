@@ -442,7 +442,7 @@ fn main() {
         0.0,
     ];
     let marks = [4u32, 1, 0, 0];
-    let unknown = [9u32, 1, 0, 0];
+    let unknown = [10u32, 1, 0, 0];
     let eye = Vector::new(0.0, 0.0, 5.0);
     let down = Ray::new(eye, Vector::new(0.0, 0.0, -1.0));
     let near = Vector::new(0.0, 0.0, 1.0);

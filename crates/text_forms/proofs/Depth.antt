@@ -8,6 +8,7 @@ use native.Mathlib.Omega.{arith}
 use lib.Dec.{ltb, leb, eqb}
 use lib.ListN.{length, length-append}
 use borrow.Author.Tests.{ltb-true}
+use Rattle.check_parts.specs.Owners.{isRound}
 use Rattle.scene.specs.Scenes.{Scene, entriesOf}
 use Rattle.text_tokens.specs.Tokens.{Token, Got, no, got, Mark, andThen, closeIn}
 use Rattle.text_heads.specs.Heads.{openingIn, pointIn, namedIn, lineWord}
@@ -100,7 +101,7 @@ unfolding form body Holds
 form-adds zero s ts = tt
 form-adds (suc d) s ts =
     holds-then (Adds (entriesOf s)) (openingIn ts) _ (λ h us.
-    holds-cond (Adds (entriesOf s)) (leb (h .kind) 3) _ _ (round-adds h s us)
+    holds-cond (Adds (entriesOf s)) (isRound (h .kind)) _ _ (round-adds h s us)
     (holds-cond (Adds (entriesOf s)) (leb (h .kind) 5) _ _ (enclosed-adds h 0 0 s us)
     (holds-after (Adds (entriesOf s)) (Adds (entriesOf s)) (form d s us) _ (form-adds d s us) (λ a vs w.
     holds-cond (Adds (entriesOf s)) (eqb (h .kind) 6) _ _ (adds-more (entriesOf s) a (enclosed h (last a) 0 a vs) (omega (arith, w .0)) (enclosed-adds h (last a) 0 a vs))
@@ -151,7 +152,7 @@ cut-adds d h a us p = holds-after (Adds (entriesOf a)) (Adds (entriesOf a)) (for
 body-agree : (d : ℕ) (h : Head) (s : Scene) (us : List Token) → ((a : Scene) (us : List Token) → Agree (entriesOf a + d + 1) (form d a us) (form (suc d) a us)) → Agree (entriesOf s + suc d + 1) (body (form d) h s us) (body (form (suc d)) h s us)
 unfolding body
 body-agree d h s us ih =
-    agree-cond (entriesOf s + suc d + 1) (leb (h .kind) 3) _ _ _ _ (agree-refl (entriesOf s + suc d + 1) (roundIn h s us))
+    agree-cond (entriesOf s + suc d + 1) (isRound (h .kind)) _ _ _ _ (agree-refl (entriesOf s + suc d + 1) (roundIn h s us))
     (agree-cond (entriesOf s + suc d + 1) (leb (h .kind) 5) _ _ _ _ (agree-refl (entriesOf s + suc d + 1) (enclosed h 0 0 s us))
     (agree-then (entriesOf s + d + 1) (entriesOf s + suc d + 1) (entriesOf s + 1) (form d s us) (form (suc d) s us) _ _ (ih s us) (omega arith)
     (holds-more (Adds (entriesOf s)) (λ a. entriesOf s + 1 ≤ entriesOf a) (form (suc d) s us) (λ a v. v .0) (form-adds (suc d) s us))

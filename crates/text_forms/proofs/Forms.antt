@@ -1,12 +1,14 @@
 -- A form, by its beginning and its inner forms. Assumes nothing.
 use Prim.Native.Nat.{ℕ, zero, suc, _-_, _≤_, _<_}
 use mathlib.Core.Path.{_≡_, refl, sym, _∙_}
+use mathlib.Core.Bool.{Bool, true, false}
 use mathlib.Core.List.{List}
 use native.Mathlib.Numerals.{sub-one}
 use native.Mathlib.Omega.{arith}
 use lib.Ieee.{Float}
 use lib.ListN.{length}
 use borrow.Author.Tests.{eq-eqb, ne-eqb, le-leb, lt-leb}
+use Rattle.check_parts.specs.Owners.{isRound}
 use Rattle.scene.specs.Scenes.{Scene}
 use Rattle.text_tokens.specs.Tokens.{Token, left, Got, no, got, andThen}
 use Rattle.text_heads.specs.Heads.{openingIn}
@@ -35,34 +37,34 @@ form-as zero s at a l e f = absurd (l refl)
 form-as (suc d) s at a l e f = rw (sub-one, ← e, f)
 
 -- ---- after its numbers
-module _ (f : Scene → List Token → Got Scene) (h : Head) (s : Scene) (ts : List Token) where
-  pub body-round : h .kind ≤ 3 → roundIn h s ts ≡ body f h s ts
+module _ (f : Scene → List Token → Got Scene) (h : Head) (s : Scene) (ts : List Token) {t : Bool} (r : t ≡ isRound (h .kind)) where
+  pub body-round : t ≡ true → roundIn h s ts ≡ body f h s ts
   unfolding body
-  body-round l = rw (le-leb (h .kind) 3 l)
+  body-round l = rw (← r, l)
 
-  module _ (i : 3 < h .kind) where
+  module _ (i : t ≡ false) where
     pub body-plain : h .kind ≤ 5 → enclosed h 0 0 s ts ≡ body f h s ts
     unfolding body
-    body-plain l = rw (lt-leb (h .kind) 3 i, le-leb (h .kind) 5 l)
+    body-plain l = rw (← r, i, le-leb (h .kind) 5 l)
 
     module _ (j : 5 < h .kind) where
       pub body-bare : f s ts ≡ no → no ≡ body f h s ts
       unfolding body andThen
-      body-bare x = rw (lt-leb (h .kind) 3 i, lt-leb (h .kind) 5 j, x)
+      body-bare x = rw (← r, i, lt-leb (h .kind) 5 j, x)
 
       module _ {a : Scene} {us : List Token} (x : f s ts ≡ got a us) {p : ℕ} (u : p ≡ last a) where
         pub body-place : h .kind ≡ 6 → enclosed h p 0 a us ≡ body f h s ts
         unfolding body andThen
-        body-place k = rw (lt-leb (h .kind) 3 i, lt-leb (h .kind) 5 j, x, eq-eqb (h .kind) 6 k, u)
+        body-place k = rw (← r, i, lt-leb (h .kind) 5 j, x, eq-eqb (h .kind) 6 k, u)
 
         module _ (k : h .kind ≡ 6 → ⊥) where
           pub body-half : f a us ≡ no → no ≡ body f h s ts
           unfolding body andThen
-          body-half y = rw (lt-leb (h .kind) 3 i, lt-leb (h .kind) 5 j, x, ne-eqb (h .kind) 6 k, y)
+          body-half y = rw (← r, i, lt-leb (h .kind) 5 j, x, ne-eqb (h .kind) 6 k, y)
 
           pub body-cut : {b : Scene} {vs : List Token} → f a us ≡ got b vs → {q : ℕ} → q ≡ last b → enclosed h p q b vs ≡ body f h s ts
           unfolding body andThen
-          body-cut y v = rw (lt-leb (h .kind) 3 i, lt-leb (h .kind) 5 j, x, ne-eqb (h .kind) 6 k, y, u, v)
+          body-cut y v = rw (← r, i, lt-leb (h .kind) 5 j, x, ne-eqb (h .kind) 6 k, y, u, v)
 
 -- ---- what the code's answers say
 pub within-next : {r : Next} {c : Cursor} → WithinNext r → r ≡ To c → CursorWithin c

@@ -5,6 +5,7 @@ use mathlib.Core.List.{List, [], _∷_, _++_}
 use lib.Dec.{eqb, ltb, leb}
 use lib.ListN.{length}
 use Rattle.rows.specs.Entries.{numbersRow}
+use Rattle.check_parts.specs.Owners.{isRound}
 use Rattle.scene.specs.Scenes.{Scene, sceneOf, entriesOf}
 use Rattle.text_tokens.specs.Tokens.{Token, Got, no, got, andThen, closeIn}
 use Rattle.text_heads.specs.Heads.{openingIn}
@@ -30,7 +31,7 @@ enter h p q s ts = cond (ltb (entriesOf s) 512) (got (entered h p q s) ts) no
 unfoldable pub enclosed : Head → ℕ → ℕ → Scene → List Token → Got Scene
 enclosed h p q s ts = andThen (closeIn ts) (λ _ us. enter h p q s us)
 
--- a sphere, cylinder or cone: its entry, then its lines up to its closing bracket, where there are places for 2,048 in all
+-- a sphere, cylinder or cone, open or closed: its entry, then its lines up to its closing bracket, where there are places for 2,048 in all
 unfoldable pub roundIn : Head → Scene → List Token → Got Scene
 roundIn h s ts = andThen (enter h 0 0 s ts) (λ r us. linesIn (entriesOf s) (2048 - length (r .starts)) r us)
 
@@ -39,7 +40,7 @@ roundIn h s ts = andThen (enter h 0 0 s ts) (λ r us. linesIn (entriesOf s) (204
 -- A form after its numbers, where f reads an inner form: inner forms become earlier entries.
 unfoldable pub body : (Scene → List Token → Got Scene) → Head → Scene → List Token → Got Scene
 body f h s ts =
-    cond (leb (h .kind) 3) (roundIn h s ts)
+    cond (isRound (h .kind)) (roundIn h s ts)
     (cond (leb (h .kind) 5) (enclosed h 0 0 s ts)
     (andThen (f s ts) (λ a us.
     cond (eqb (h .kind) 6) (enclosed h (last a) 0 a us)

@@ -74,7 +74,7 @@ fn small(n: usize) -> u32
     n as u32
 }
 
-// A sphere, cylinder or cone: its entry, then its lines.
+// A sphere, cylinder or cone, open or closed: its entry, then its lines.
 fn round(
     text: &[u8],
     c: Cursor,
@@ -141,7 +141,7 @@ pub fn form(
         points: c.points,
         lines: c.lines,
     };
-    if h.kind <= 3 {
+    if check_parts::is_round(h.kind) {
         return round(text, d, h, numbers, marks, points, starts, owners);
     }
     if h.kind <= 5 {

@@ -43,17 +43,27 @@ place = 112 ∷ 108 ∷ 97 ∷ 99 ∷ 101 ∷ []
 abbrev pub cut : List ℕ
 cut = 99 ∷ 117 ∷ 116 ∷ []
 
+abbrev pub closedCylinder : List ℕ
+closedCylinder = 99 ∷ 108 ∷ 111 ∷ 115 ∷ 101 ∷ 100 ∷ 45 ∷ 99 ∷ 121 ∷ 108 ∷ 105 ∷ 110 ∷ 100 ∷ 101 ∷ 114 ∷ []
+
+abbrev pub closedCone : List ℕ
+closedCone = 99 ∷ 108 ∷ 111 ∷ 115 ∷ 101 ∷ 100 ∷ 45 ∷ 99 ∷ 111 ∷ 110 ∷ 101 ∷ []
+
 abbrev pub viewWord : List ℕ
 viewWord = 118 ∷ 105 ∷ 101 ∷ 119 ∷ []
 
 abbrev pub lineWord : List ℕ
 lineWord = 108 ∷ 105 ∷ 110 ∷ 101 ∷ []
 
+-- kinds 8 and 9 (document 02, iii)
+unfoldable pub closedKind : List ℕ → ℕ
+closedKind w = cond (sameWord w closedCylinder) 8 (cond (sameWord w closedCone) 9 0)
+
 -- the kind of a head; 0 is none
 unfoldable pub kindOf : List ℕ → ℕ
 kindOf w =
     cond (sameWord w sphere) 1 (cond (sameWord w cylinder) 2 (cond (sameWord w cone) 3 (cond (sameWord w cube) 4
-    (cond (sameWord w triangle) 5 (cond (sameWord w place) 6 (cond (sameWord w cut) 7 0))))))
+    (cond (sameWord w triangle) 5 (cond (sameWord w place) 6 (cond (sameWord w cut) 7 (closedKind w)))))))
 
 -- an opening bracket and a word
 unfoldable pub headIn : List Token → Got (List ℕ)
@@ -74,9 +84,13 @@ unfoldable pub numbersIn : List Float → ℕ → List Token → Got (List Float
 numbersIn xs zero ts = got xs ts
 numbersIn xs (suc n) ts = andThen (numberIn ts) (λ x us. numbersIn (xs ++ (x ∷ [])) n us)
 
+-- a closed cylinder has 3 numbers, a closed cone 2
+unfoldable pub closedMeasures : ℕ → ℕ
+closedMeasures k = cond (eqb k 8) 3 (cond (eqb k 9) 2 0)
+
 -- how many numbers a form of the kind has: a sphere 4, a cylinder 3, a cone 2, a cube 6, a triangle 9, a placed part 16, a cut none
 unfoldable pub measures : ℕ → ℕ
-measures k = cond (eqb k 1) 4 (cond (eqb k 2) 3 (cond (eqb k 3) 2 (cond (eqb k 4) 6 (cond (eqb k 5) 9 (cond (eqb k 6) 16 0)))))
+measures k = cond (eqb k 1) 4 (cond (eqb k 2) 3 (cond (eqb k 3) 2 (cond (eqb k 4) 6 (cond (eqb k 5) 9 (cond (eqb k 6) 16 (closedMeasures k))))))
 
 -- a cube's stripes and a cut's operation; other kinds have no detail here, and 0 stands for it
 unfoldable pub detailIn : ℕ → List Token → Got ℕ

@@ -77,6 +77,19 @@ pub fn same_word(w: &[u8], v: &[u8]) -> bool
     true
 }
 
+// Kinds 8 and 9, 0 where the word is neither.
+fn closed_kind(w: &[u8]) -> u32
+    ensures { λ r. ⌜ r ≡ Heads.closedKind (now (w .entry)) ⌝ }
+{
+    if same_word(w, b"closed-cylinder") {
+        return 8;
+    }
+    if same_word(w, b"closed-cone") {
+        return 9;
+    }
+    0
+}
+
 // The kind of a head, 0 where the word is none.
 fn kind_of(w: &[u8]) -> u32
     ensures { λ r. ⌜ r ≡ Heads.kindOf (now (w .entry)) ⌝ }
@@ -102,7 +115,7 @@ fn kind_of(w: &[u8]) -> u32
     if same_word(w, b"cut") {
         return 7;
     }
-    0
+    closed_kind(w)
 }
 
 // An opening bracket and a word: where the word begins and ends.
@@ -145,6 +158,18 @@ fn kind_at(text: &[u8], at: usize) -> Counted
     Counted::Count(k, e)
 }
 
+fn closed_measures(kind: u32) -> usize
+    ensures { λ r. ⌜ (r ≡ Heads.closedMeasures kind) × (r ≤ 16) ⌝ }
+{
+    if kind == 8 {
+        return 3;
+    }
+    if kind == 9 {
+        return 2;
+    }
+    0
+}
+
 // How many numbers a form has.
 fn measures(kind: u32) -> usize
     ensures { λ r. ⌜ (r ≡ Heads.measures kind) × (r ≤ 16) ⌝ }
@@ -167,7 +192,7 @@ fn measures(kind: u32) -> usize
     if kind == 6 {
         return 16;
     }
-    0
+    closed_measures(kind)
 }
 
 // A cube's stripes and a cut's operation; 0 stands for the detail of other kinds so far.
@@ -203,7 +228,7 @@ fn numbers_at(text: &[u8], at: usize, n: usize, row: &mut [f64]) -> Step
     Step::To(a)
 }
 
-// What follows the numbers: the stripes of a cylinder or a cone, if a word stands there.
+// What follows the numbers: the stripes of a cylinder or a cone, open or closed, if a word stands there.
 fn stripes_at(text: &[u8], at: usize, kind: u32, detail: u32) -> Counted
     ensures { λ r. ⌜ countedAs (now (text .entry)) r ≡ Heads.stripesIn kind detail (left (now (text .entry)) at) ⌝ }
 {

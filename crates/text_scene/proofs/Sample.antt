@@ -2,6 +2,7 @@
 use mathlib.Core.Path.{refl}
 use lib.Ieee.{ofBits, ofInt, neg}
 use Rattle.matrix.specs.Matrices.{identityM}
+use Rattle.check_parts.specs.Owners.{isRound}
 use Rattle.scene.specs.Entries.{matrixOf, striped}
 use Rattle.text_numbers.specs.Numerals.{digitOf, allDigits, value, decimalFrom, decimalOf, hexFrom, hexOf, patterned, asFloat, negated, numeralOf}
 use Rattle.text_tokens.specs.Tokens.{wordByte, marked, flush, tokensFrom, left, andThen, openIn, closeIn, wordIn, realOf, numberIn, wholeOf, countIn}
@@ -12,5 +13,5 @@ use Rattle.text_scene.specs.Texts.{linesFrom, unlessEmpty, filled, lines
 use Rattle.text_scene.specs.Sample.{SampleRead}
 
 pub sample-read : SampleRead
-unfolding ofBits ofInt neg digitOf allDigits value decimalFrom decimalOf hexFrom hexOf patterned asFloat negated numeralOf wordByte marked flush tokensFrom left andThen openIn closeIn wordIn realOf numberIn wholeOf countIn sameWord kindOf headIn namedIn kindIn numbersIn measures detailIn stripesIn openingIn viewOf viewIn padded entered enter enclosed roundIn body form linesFrom unlessEmpty filled linesLeft wholeLine formsIn yardIn yardOf matrixOf striped identityM
+unfolding ofBits ofInt neg digitOf allDigits value decimalFrom decimalOf hexFrom hexOf patterned asFloat negated numeralOf wordByte marked flush tokensFrom left andThen openIn closeIn wordIn realOf numberIn wholeOf countIn sameWord kindOf headIn namedIn kindIn numbersIn measures detailIn stripesIn openingIn viewOf viewIn padded entered enter enclosed roundIn isRound body form linesFrom unlessEmpty filled linesLeft wholeLine formsIn yardIn yardOf matrixOf striped identityM
 sample-read = refl

@@ -18,7 +18,7 @@ use Rattle.lists.specs.Lists.{Member, allOf, listTo}
 use Rattle.limits.specs.Limits.{withinBox, withinPoint}
 use Rattle.solids.specs.Cubes.{cubeHit, cubeContains, outside}
 use Rattle.solids.specs.Solids.{solidBox, hitOf, containsOf}
-use Rattle.scene.specs.Entries.{striped, stripeCount, simpleOf, simpleOr, entryOf, ownEntry, opOf, cutOf, compositeOf}
+use Rattle.scene.specs.Entries.{closedOf, striped, stripeCount, simpleOf, simpleOr, entryOf, ownEntry, opOf, cutOf, compositeOf}
 use Rattle.scene_shape.specs.Cuts.{step, both, fromFirst, tellOf, acceptedOr, restarted, takesAway, cutContains}
 use Rattle.scene_shape.specs.Shapes.{Shape, shapeOf, read, shapeBox, shapeHit, shapeContains, cutFrom}
 use Rattle.scene_shape.specs.declared.Struck.{Struck}
@@ -46,11 +46,11 @@ use Rattle.theorem_demand3.specs.Witnesses.{overhead, openBin, trueBin, 
 use Rattle.theorem_demand3.proofs.Answers.{seenOnRows, eye-test}
 
 built-bin : buildOf openBin 1 1 ≡ Nodes 1
-unfolding buildOf builtAfter plantedOf checkOf firstMet lengthsAgree allOf known isKind isStripes fewStripes stripeCount striped names namedBefore deepest depthsTo partsFree entryOk partsOk ownersOk goodStarts measured simpleMeasured solidMeasured cubeMeasured exceeds placingOk withinBox withinPoint within larger simpleOf simpleOr entryOf ownEntry shapeOf read opOf cutOf compositeOf shapeBox solidBox unnamed nodesFor orderFor layout rootOf belowOf leaves belowRoot treeOf planOf planAxis arranged splitBy hullOf hull extendBox minV maxV minOf maxOf isNan lt le eq neg ofBits
+unfolding buildOf builtAfter plantedOf checkOf firstMet lengthsAgree allOf known isKind isStripes fewStripes stripeCount striped names namedBefore deepest depthsTo partsFree entryOk partsOk ownersOk goodStarts measured simpleMeasured solidMeasured cubeMeasured exceeds placingOk withinBox withinPoint within larger closedOf simpleOf simpleOr entryOf ownEntry shapeOf read opOf cutOf compositeOf shapeBox solidBox unnamed nodesFor orderFor layout rootOf belowOf leaves belowRoot treeOf planOf planAxis arranged splitBy hullOf hull extendBox minV maxV minOf maxOf isNan lt le eq neg ofBits
 built-bin = refl
 
 seen-bin : seenOnRows openBin binEye overhead ≡ Hidden
-unfolding visibleOf seenAfter sees byDistance walkRows walkOn scan tried nearer backward placesOf padded flat listTo checkOf firstMet lengthsAgree allOf known isKind isStripes fewStripes stripeCount striped names namedBefore deepest depthsTo partsFree entryOk partsOk ownersOk goodStarts measured simpleMeasured solidMeasured cubeMeasured exceeds placingOk withinBox withinPoint within larger simpleOf simpleOr entryOf ownEntry shapeOf read opOf cutOf compositeOf shapeBox solidBox extendBox shapeHit hitOf cubeHit shapeContains cutFrom step both tellOf acceptedOr restarted takesAway cutContains position isOk minHit containsOf cubeContains outside unnamed nodesFor orderFor layout rootOf belowOf leaves belowRoot treeOf planOf planAxis arranged splitBy hullOf hull boxTest overlap slab ordered eyeRay sqrtOf distanceOf lengthOf lengthSquared subV divV divScalar dot minV maxV minComponent maxComponent minOf maxOf addV mulScalar add sub mul div lt le eq neg isNan ofBits
+unfolding visibleOf seenAfter sees byDistance walkRows walkOn scan tried nearer backward placesOf padded flat listTo checkOf firstMet lengthsAgree allOf known isKind isStripes fewStripes stripeCount striped names namedBefore deepest depthsTo partsFree entryOk partsOk ownersOk goodStarts measured simpleMeasured solidMeasured cubeMeasured exceeds placingOk withinBox withinPoint within larger closedOf simpleOf simpleOr entryOf ownEntry shapeOf read opOf cutOf compositeOf shapeBox solidBox extendBox shapeHit hitOf cubeHit shapeContains cutFrom step both tellOf acceptedOr restarted takesAway cutContains position isOk minHit containsOf cubeContains outside unnamed nodesFor orderFor layout rootOf belowOf leaves belowRoot treeOf planOf planAxis arranged splitBy hullOf hull boxTest overlap slab ordered eyeRay sqrtOf distanceOf lengthOf lengthSquared subV divV divScalar dot minV maxV minComponent maxComponent minOf maxOf addV mulScalar add sub mul div lt le eq neg isNan ofBits
 seen-bin = refl
 
 cut-drawn : drawn (openBin .marks) ≡ 2 ∷ []
@@ -63,7 +63,7 @@ distance (At h) = h .t
 distance (NotStruck k) = zeroF
 
 too-late : T (le (boxTest (shapeBox (solidIn openBin 2)) (eyeRay binEye overhead) .tmin) (distance (shapeHit (solidIn openBin 2) (eyeRay binEye overhead)))) → ⊥
-unfolding simpleOf simpleOr entryOf ownEntry shapeOf read opOf cutOf compositeOf shapeBox solidBox extendBox shapeHit hitOf cubeHit shapeContains cutFrom step both tellOf acceptedOr restarted takesAway cutContains position isOk minHit containsOf cubeContains outside boxTest overlap slab ordered eyeRay sqrtOf distanceOf lengthOf lengthSquared subV divV divScalar dot minV maxV minComponent maxComponent minOf maxOf addV mulScalar add sub mul div lt le eq neg isNan ofBits
+unfolding closedOf simpleOf simpleOr entryOf ownEntry shapeOf read opOf cutOf compositeOf shapeBox solidBox extendBox shapeHit hitOf cubeHit shapeContains cutFrom step both tellOf acceptedOr restarted takesAway cutContains position isOk minHit containsOf cubeContains outside boxTest overlap slab ordered eyeRay sqrtOf distanceOf lengthOf lengthSquared subV divV divScalar dot minV maxV minComponent maxComponent minOf maxOf addV mulScalar add sub mul div lt le eq neg isNan ofBits
 too-late h = h
 
 cut-uncovered : CoversPoint (solidIn openBin 2) binEye overhead → ⊥
@@ -92,11 +92,11 @@ short-not-covering = record {
 
 -- ---- with the true distance
 built-true : buildOf trueBin 1 1 ≡ Nodes 1
-unfolding buildOf builtAfter plantedOf checkOf firstMet lengthsAgree allOf known isKind isStripes fewStripes stripeCount striped names namedBefore deepest depthsTo partsFree entryOk partsOk ownersOk goodStarts measured simpleMeasured solidMeasured cubeMeasured exceeds placingOk withinBox withinPoint within larger simpleOf simpleOr entryOf ownEntry shapeOf read opOf cutOf compositeOf shapeBox solidBox unnamed nodesFor orderFor layout rootOf belowOf leaves belowRoot treeOf planOf planAxis arranged splitBy hullOf hull extendBox minV maxV minOf maxOf isNan lt le eq neg ofBits
+unfolding buildOf builtAfter plantedOf checkOf firstMet lengthsAgree allOf known isKind isStripes fewStripes stripeCount striped names namedBefore deepest depthsTo partsFree entryOk partsOk ownersOk goodStarts measured simpleMeasured solidMeasured cubeMeasured exceeds placingOk withinBox withinPoint within larger closedOf simpleOf simpleOr entryOf ownEntry shapeOf read opOf cutOf compositeOf shapeBox solidBox unnamed nodesFor orderFor layout rootOf belowOf leaves belowRoot treeOf planOf planAxis arranged splitBy hullOf hull extendBox minV maxV minOf maxOf isNan lt le eq neg ofBits
 built-true = refl
 
 seen-true : seenOnRows trueBin binEye overhead ≡ Visible
-unfolding visibleOf seenAfter sees byDistance walkRows walkOn scan tried nearer backward placesOf padded flat listTo checkOf firstMet lengthsAgree allOf known isKind isStripes fewStripes stripeCount striped names namedBefore deepest depthsTo partsFree entryOk partsOk ownersOk goodStarts measured simpleMeasured solidMeasured cubeMeasured exceeds placingOk withinBox withinPoint within larger simpleOf simpleOr entryOf ownEntry shapeOf read opOf cutOf compositeOf shapeBox solidBox extendBox shapeHit hitOf cubeHit shapeContains cutFrom step both fromFirst tellOf acceptedOr restarted takesAway cutContains position isOk minHit containsOf cubeContains outside unnamed nodesFor orderFor layout rootOf belowOf leaves belowRoot treeOf planOf planAxis arranged splitBy hullOf hull boxTest overlap slab ordered eyeRay sqrtOf distanceOf lengthOf lengthSquared subV divV divScalar dot minV maxV minComponent maxComponent minOf maxOf addV mulScalar add sub mul div lt le eq neg isNan ofBits
+unfolding visibleOf seenAfter sees byDistance walkRows walkOn scan tried nearer backward placesOf padded flat listTo checkOf firstMet lengthsAgree allOf known isKind isStripes fewStripes stripeCount striped names namedBefore deepest depthsTo partsFree entryOk partsOk ownersOk goodStarts measured simpleMeasured solidMeasured cubeMeasured exceeds placingOk withinBox withinPoint within larger closedOf simpleOf simpleOr entryOf ownEntry shapeOf read opOf cutOf compositeOf shapeBox solidBox extendBox shapeHit hitOf cubeHit shapeContains cutFrom step both fromFirst tellOf acceptedOr restarted takesAway cutContains position isOk minHit containsOf cubeContains outside unnamed nodesFor orderFor layout rootOf belowOf leaves belowRoot treeOf planOf planAxis arranged splitBy hullOf hull boxTest overlap slab ordered eyeRay sqrtOf distanceOf lengthOf lengthSquared subV divV divScalar dot minV maxV minComponent maxComponent minOf maxOf addV mulScalar add sub mul div lt le eq neg isNan ofBits
 seen-true = refl
 
 pub true-bin-clear : TrueBinClear

@@ -12,7 +12,7 @@ use Rattle.geometry.specs.Limits.{Within}
 use Rattle.geometry.specs.Vectors.{addV, subV, mulScalar, dot, lengthSquared, distanceSquared}
 use Rattle.geometry.specs.declared.vector.Vector.{Vector}
 use Rattle.refusals.specs.Refusals.{numberOf}
-use Rattle.refusals.specs.declared.Refusal.the-variants.{Lengths, Values, Parts, Measures, Placing, Extent, View, Point, Restarts, Waiting, Room}
+use Rattle.refusals.specs.declared.Refusal.the-variants.{Lengths, Values, Parts, Measures, Placing, Extent, View, Point, Restarts, Waiting, Room, Stripes}
 use Rattle.rounding.proofs.Cells.{Near, near-all, near-first, near-second, squares-short}
 use Rattle.path_chop.specs.Chop.{spotOf, middleOf, offSheet, stops}
 use Rattle.path_chop.specs.declared.Screen.{Screen}
@@ -82,3 +82,4 @@ no-ten Point e = omega (arith, e)
 no-ten Restarts e = omega (arith, e)
 no-ten Waiting e = omega (arith, e)
 no-ten Room e = omega (arith, e)
+no-ten Stripes e = omega (arith, e)

@@ -14,7 +14,7 @@ use Rattle.rows.specs.Rows.{row}
 use Rattle.rows.specs.Entries.{numbersOf}
 use Rattle.rows.specs.declared.Marks.{Marks}
 use Rattle.rows.specs.declared.Numbers.{Numbers}
-use Rattle.scene.specs.Entries.{simpleOf, simpleOr, opOf, cutOf, compositeOf, entryOf, matrixOf, matrixNumbers, marksAt, ownEntry}
+use Rattle.scene.specs.Entries.{closedOf, simpleOf, simpleOr, opOf, cutOf, compositeOf, entryOf, matrixOf, matrixNumbers, marksAt, ownEntry}
 use Rattle.scene.specs.declared.entry.Simple.{Simple}
 use Rattle.scene.specs.declared.entry.Simple.the-variants.{Is, Other}
 use Rattle.scene.specs.declared.entry.Op.{Op}
@@ -63,6 +63,20 @@ module _ (r r′ : List Float) where
         cell 9 r r′ e 8 (omega arith),
       )
 
+  closed-8 : take 3 r ≡ take 3 r′ → closedOf 8 (numbersOf r) ≡ closedOf 8 (numbersOf r′)
+  unfolding closedOf
+  closed-8 e = rw (cell 3 r r′ e 0 (omega arith), cell 3 r r′ e 1 (omega arith), cell 3 r r′ e 2 (omega arith))
+
+  closed-9 : take 2 r ≡ take 2 r′ → closedOf 9 (numbersOf r) ≡ closedOf 9 (numbersOf r′)
+  unfolding closedOf
+  closed-9 e = rw (cell 2 r r′ e 0 (omega arith), cell 2 r r′ e 1 (omega arith))
+
+  closed-agree : (k : ℕ) → take (usedNumbers k) r ≡ take (usedNumbers k) r′ → (t8 t9 : Bool) → eqb k 8 ≡ t8 → eqb k 9 ≡ t9 → closedOf k (numbersOf r) ≡ closedOf k (numbersOf r′)
+  unfolding closedOf usedNumbers
+  closed-agree k e true t9 e8 e9 = let q : k ≡ 8 = eqb-true k 8 e8 in rw q (closed-8 (rw q at e))
+  closed-agree k e false true e8 e9 = let q : k ≡ 9 = eqb-true k 9 e9 in rw q (closed-9 (rw q at e))
+  closed-agree k e false false e8 e9 = rw (e8, e9)
+
   all-agree : take 16 r ≡ take 16 r′ → numbersOf r ≡ numbersOf r′
   all-agree e =
       rw (
@@ -91,7 +105,7 @@ module _ (r r′ : List Float) where
   agree k e false false true t4 t5 e1 e2 e3 e4 e5 = let q : k ≡ 3 = eqb-true k 3 e3 in rw q (agree-3 (rw q at e))
   agree k e false false false true t5 e1 e2 e3 e4 e5 = let q : k ≡ 4 = eqb-true k 4 e4 in rw q (agree-4 (rw q at e))
   agree k e false false false false true e1 e2 e3 e4 e5 = let q : k ≡ 5 = eqb-true k 5 e5 in rw q (agree-5 (rw q at e))
-  agree k e false false false false false e1 e2 e3 e4 e5 = rw (e1, e2, e3, e4, e5)
+  agree k e false false false false false e1 e2 e3 e4 e5 = rw (e1, e2, e3, e4, e5) (closed-agree k e (eqb k 8) (eqb k 9) refl refl)
 
 -- ---- entries that are alike, whose parts are read alike
 module _ (F G : ℕ → Shape) (m m′ : Marks) (r r′ : List Float) (A : Alike (λ a b. F a ≡ G b) m m′ r r′) where

@@ -10,7 +10,7 @@ use lib.Ieee.{Float}
 use borrow.Author.Tests.{leb-true, eqb-true, eqb-false, ne-eqb, lt-ltb}
 use Rattle.rows.specs.declared.Marks.{Marks}
 use Rattle.rows.specs.declared.Numbers.{Numbers}
-use Rattle.scene.specs.Entries.{simpleOf, simpleOr, cutOf, compositeOf, entryOf, matrixOf, marksAt, numbersAt, ownEntry}
+use Rattle.scene.specs.Entries.{closedOf, simpleOf, simpleOr, cutOf, compositeOf, entryOf, matrixOf, marksAt, numbersAt, ownEntry}
 use Rattle.scene.specs.declared.entry.Simple.{Simple}
 use Rattle.scene.specs.declared.entry.Simple.the-variants.{Is, Other}
 use Rattle.scene.specs.declared.entry.Entry.{Entry}
@@ -67,18 +67,28 @@ module _ (m : Marks) (n : Numbers) (o : simpleOf (m .kind) n ≡ Other) where
   unfolding simpleOf
   not-five e = never (ap isOther (sym (ap (λ (k : ℕ). simpleOf k n) e) ∙ o))
 
+  not-eight : m .kind ≡ 8 → ⊥
+  unfolding simpleOf closedOf
+  not-eight e = never (ap isOther (sym (ap (λ (k : ℕ). simpleOf k n) e) ∙ o))
+
+  not-nine : m .kind ≡ 9 → ⊥
+  unfolding simpleOf closedOf
+  not-nine e = never (ap isOther (sym (ap (λ (k : ℕ). simpleOf k n) e) ∙ o))
+
   not-known : eqb (m .kind) 6 ≡ false → eqb (m .kind) 7 ≡ false → known m ≡ true → ⊥
   unfolding known isKind
   not-known e6 e7 h =
-      let k : (leb 1 (m .kind) && leb (m .kind) 7) ≡ true = rw (ne-eqb (m .kind) 4 not-four, e7) at h in
-      let b = and-eq-true-iff (leb 1 (m .kind)) (leb (m .kind) 7) .0 k in
+      let k : (leb 1 (m .kind) && leb (m .kind) 9) ≡ true = rw (ne-eqb (m .kind) 4 not-four, e7) at h in
+      let b = and-eq-true-iff (leb 1 (m .kind)) (leb (m .kind) 9) .0 k in
       let k2 : 2 ≤ m .kind = omega (arith, leb-true 1 (m .kind) (b .0), not-one) in
       let k3 : 3 ≤ m .kind = omega (arith, k2, not-two) in
       let k4 : 4 ≤ m .kind = omega (arith, k3, not-three) in
       let k5 : 5 ≤ m .kind = omega (arith, k4, not-four) in
       let k6 : 6 ≤ m .kind = omega (arith, k5, not-five) in
       let k7 : 7 ≤ m .kind = omega (arith, k6, eqb-false (m .kind) 6 e6) in
-      omega (arith, k7, leb-true (m .kind) 7 (b .1), eqb-false (m .kind) 7 e7)
+      let k8 : 8 ≤ m .kind = omega (arith, k7, eqb-false (m .kind) 7 e7) in
+      let k9 : 9 ≤ m .kind = omega (arith, k8, not-eight) in
+      omega (arith, k9, leb-true (m .kind) 9 (b .1), not-nine)
 
 module _ (m : Marks) (n v : Numbers) (h : known m ≡ true) where
   some-cut : m .kind ≡ 7 → some (cutOf m) ≡ true

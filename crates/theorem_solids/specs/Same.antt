@@ -21,7 +21,9 @@ usedNumbers kind =
     (cond (eqb kind 3) 2
     (cond (eqb kind 4) 6
     (cond (eqb kind 5) 9
-    (cond (eqb kind 6) 16 0)))))
+    (cond (eqb kind 6) 16
+    (cond (eqb kind 8) 3
+    (cond (eqb kind 9) 2 0)))))))
 
 -- whether it uses its detail: a cube's stripes, a cut's operation, a stripe count (document 02, ii)
 unfoldable pub usesDetail : ℕ → Bool

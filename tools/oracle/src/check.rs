@@ -41,7 +41,7 @@ fn marks_known(marks: &[u32]) -> bool {
     match marks[0] {
         4 => (1..=1000).contains(&marks[1]),
         7 => marks[1] <= 3,
-        kind => (1..=7).contains(&kind),
+        kind => (1..=9).contains(&kind),
     }
 }
 
@@ -80,12 +80,17 @@ fn parts_sound(s: &Scene) -> bool {
     true
 }
 
+/// The kinds that lines are handed in for.
+pub fn round(kind: u32) -> bool {
+    matches!(kind, 1 | 2 | 3 | 8 | 9)
+}
+
 fn owners_sound(s: &Scene) -> bool {
-    let round = |o: &u32| {
+    let sound = |o: &u32| {
         let owner = *o as usize;
-        owner < s.entries() && (1..=3).contains(&s.marks_of(owner)[0])
+        owner < s.entries() && round(s.marks_of(owner)[0])
     };
-    s.owners.iter().all(round) && s.owners.is_sorted()
+    s.owners.iter().all(sound) && s.owners.is_sorted()
 }
 
 /// Path starts begin at 0, never fall and stay within the points.
@@ -99,8 +104,8 @@ pub fn starts_sound(starts: &[usize], points: usize) -> bool {
 pub fn used_numbers(kind: u32) -> usize {
     match kind {
         1 => 4,
-        2 => 3,
-        3 => 2,
+        2 | 8 => 3,
+        3 | 9 => 2,
         4 => 6,
         5 => 9,
         6 => 16,
@@ -113,8 +118,8 @@ fn numbers_sound(kind: u32, n: &[f64]) -> bool {
     used.iter().all(|x| small(*x))
         && match kind {
             1 => n[3] >= 0.0,
-            2 => n[0] >= 0.0 && n[1] <= n[2],
-            3 => n[0] >= 0.0 && n[1] > 0.0,
+            2 | 8 => n[0] >= 0.0 && n[1] <= n[2],
+            3 | 9 => n[0] >= 0.0 && n[1] > 0.0,
             4 => (0..3).all(|k| n[k] <= n[k + 3]),
             _ => true,
         }

@@ -5,6 +5,7 @@ use crate::stripes::stripes;
 use crate::{Lines, Rows, Scene, View};
 use larnt::axis::Axis;
 use larnt::bounding_box::BBox;
+use larnt::common::INF;
 use larnt::cone::{Cone, ConeTexture};
 use larnt::csg::{BooleanShape, Op};
 use larnt::cube::{Cube, CubeTexture};
@@ -22,7 +23,9 @@ use larnt::vector::Vector;
 /// Lines handed in for a round solid, and before them its stripes.
 pub type Handed = Vec<Vec<Vector>>;
 
-/// An entry as larnt's own shape. Only kinds 1 to 3 need a wrapper, for their lines.
+include!("closed.rs");
+
+/// An entry as larnt's own shape. Only kinds 1 to 3 need a wrapper, for their lines; 8 and 9 are not larnt's.
 pub enum Solid {
     Sphere(Sphere, Handed),
     Cylinder(Cylinder, Handed),
@@ -33,6 +36,8 @@ pub enum Solid {
     Cut(BooleanShape<Solid>),
     /// Operations 2 and 3: larnt's cut but for its hit.
     TrueCut(BooleanShape<Solid>),
+    ClosedCylinder(ClosedCylinder),
+    ClosedCone(ClosedCone),
 }
 
 /// Kind 7. Operations 0 and 1 are larnt's own.
@@ -80,6 +85,8 @@ impl Shape for Solid {
             Solid::Triangle(s) => s.bounding_box(),
             Solid::Placed(s) => s.bounding_box(),
             Solid::Cut(s) | Solid::TrueCut(s) => s.bounding_box(),
+            Solid::ClosedCylinder(s) => s.bounding_box(),
+            Solid::ClosedCone(s) => s.bounding_box(),
         }
     }
 
@@ -92,6 +99,8 @@ impl Shape for Solid {
             Solid::Triangle(s) => s.contains(v, f),
             Solid::Placed(s) => s.contains(v, f),
             Solid::Cut(s) | Solid::TrueCut(s) => s.contains(v, f),
+            Solid::ClosedCylinder(s) => s.contains(v, f),
+            Solid::ClosedCone(s) => s.contains(v, f),
         }
     }
 
@@ -105,6 +114,8 @@ impl Shape for Solid {
             Solid::Placed(s) => s.intersect(r),
             Solid::Cut(s) => s.intersect(r),
             Solid::TrueCut(s) => true_hit(s, r),
+            Solid::ClosedCylinder(s) => s.intersect(r),
+            Solid::ClosedCone(s) => s.intersect(r),
         }
     }
 
@@ -117,6 +128,8 @@ impl Shape for Solid {
             Solid::Triangle(s) => s.paths(args),
             Solid::Placed(s) => s.paths(args),
             Solid::Cut(s) | Solid::TrueCut(s) => s.paths(args),
+            Solid::ClosedCylinder(s) => s.paths(args),
+            Solid::ClosedCone(s) => s.paths(args),
         }
     }
 }
@@ -182,7 +195,7 @@ fn rows_of(m: &mut Matrix) -> [&mut f64; 16] {
     ]
 }
 
-/// Kinds 1 to 5 from their numbers; `stripes` is the detail of a cube. Stripes of the others are in `lines`.
+/// Kinds 1 to 5, 8 and 9 from their numbers; `stripes` is the detail of a cube. Stripes of the others are in `lines`.
 pub fn simple(kind: u32, stripes: u32, n: &[f64], lines: Handed) -> Solid {
     let corner = |i: usize| Vector::new(n[i], n[i + 1], n[i + 2]);
     match kind {
@@ -206,6 +219,15 @@ pub fn simple(kind: u32, stripes: u32, n: &[f64], lines: Handed) -> Solid {
             Solid::Cube(Cube { min: corner(0), max: corner(3), texture })
         }
         5 => Solid::Triangle(Triangle::new(corner(0), corner(3), corner(6))),
+        8 => {
+            let (radius, z0, z1, texture) = (n[0], n[1], n[2], CylinderTexture::default());
+            let wall = Cylinder { radius, z0, z1, texture };
+            Solid::ClosedCylinder(ClosedCylinder { wall, lines })
+        }
+        9 => {
+            let wall = Cone { radius: n[0], height: n[1], texture: ConeTexture::default() };
+            Solid::ClosedCone(ClosedCone { wall, lines })
+        }
         _ => unreachable!("kind {kind} has parts or doesn't exist"),
     }
 }

@@ -3,7 +3,7 @@
 //! Only sums, products, quotients and square roots are formed, so that a seed gives the same case
 //! everywhere.
 
-use crate::check::{LARGEST, used_numbers};
+use crate::check::{LARGEST, parts, used_numbers};
 use crate::stripes::striped;
 use crate::{FINE, Lines, Places, Room, Scene, View, draw_measured};
 
@@ -247,7 +247,7 @@ impl Maker {
     /// The same simple solid once more, so that middles are equal.
     fn repeat(&mut self) {
         let i = self.scene.entries() - 1;
-        if self.scene.marks_of(i)[0] <= 5 {
+        if parts(self.scene.marks_of(i)).is_empty() {
             let marks = self.scene.marks_of(i).try_into().unwrap();
             let numbers = self.scene.numbers_of(i).to_vec();
             self.scene.push(marks, &numbers);
@@ -325,16 +325,16 @@ impl Maker {
             20..35 => {
                 let (r, z0) = (self.size(), self.place());
                 let z1 = z0 + self.size();
-                let count = self.stripes();
-                let i = self.scene.push([2, count, 0, 0], &[r, z0, z1]);
+                let (kind, count) = (self.rng.pick(&[2, 2, 8]), self.stripes());
+                let i = self.scene.push([kind, count, 0, 0], &[r, z0, z1]);
                 self.round_lines(i, [0.0, 0.0, z0], r, r, z1);
                 i
             }
             35..47 => {
                 let (r, h) = (self.size(), self.size());
                 let h = if h > 0.0 { h } else { 1.0 };
-                let count = self.stripes();
-                let i = self.scene.push([3, count, 0, 0], &[r, h]);
+                let (kind, count) = (self.rng.pick(&[3, 3, 9]), self.stripes());
+                let i = self.scene.push([kind, count, 0, 0], &[r, h]);
                 self.round_lines(i, [0.0; 3], r, 0.0, h);
                 i
             }
@@ -704,7 +704,7 @@ impl Maker {
     }
 
     fn damage_marks(&mut self) {
-        let odd = self.rng.pick(&[0, 8, 9, u32::MAX]);
+        let odd = self.rng.pick(&[0, 10, 11, u32::MAX]);
         match self.rng.below(3) {
             0 => self.scene.push([odd, 0, 0, 0], &[]),
             1 => {
@@ -721,7 +721,7 @@ impl Maker {
 
     /// A count beyond 360, in an entry that is there or in one more.
     fn damage_stripes(&mut self) {
-        let kind = self.rng.pick(&[2, 3]);
+        let kind = self.rng.pick(&[2, 3, 8, 9]);
         let count = self.rng.pick(&[361, 362, 1000, 1_000_000, 1 << 16, 1 << 31, u32::MAX]);
         let n = self.scene.entries().min(self.scene.numbers.len() / 16);
         let found: Vec<usize> = (0..n).filter(|i| striped(self.scene.marks[4 * i])).collect();
@@ -801,7 +801,7 @@ impl Maker {
                 }
             }
             3 => {
-                let kind = 1 + self.rng.below(3) as u32;
+                let kind = self.rng.pick(&[1, 2, 3, 8, 9]);
                 let mut n = [1.0; 3].to_vec();
                 n.resize(4, 1.0);
                 n[if kind == 1 { 3 } else { 0 }] = self.rng.pick(&[-1.0, -5e-324]);
@@ -809,10 +809,12 @@ impl Maker {
             }
             4 => {
                 let height = self.rng.pick(&[0.0, -0.0, -1.0]);
-                self.scene.push([3, 0, 0, 0], &[1.0, height]);
+                let kind = self.rng.pick(&[3, 9]);
+                self.scene.push([kind, 0, 0, 0], &[1.0, height]);
             }
             5 => {
-                self.scene.push([2, 0, 0, 0], &[1.0, 1.0, 0.5]);
+                let kind = self.rng.pick(&[2, 8]);
+                self.scene.push([kind, 0, 0, 0], &[1.0, 1.0, 0.5]);
             }
             _ => {
                 let mut n = [0.0, 0.0, 0.0, 1.0, 1.0, 1.0];

@@ -14,6 +14,7 @@ pub fn check_all() -> Pieces {
     let mut pieces = Pieces::default();
     worked(&mut pieces);
     stripes(&mut pieces);
+    closed(&mut pieces);
     boundaries(&mut pieces);
     text(&mut pieces);
     requests(&mut pieces);
@@ -239,17 +240,19 @@ fn stripes(p: &mut Pieces) {
         (181, 360),
         (360, 360),
     ] {
-        for kind in [2, 3] {
+        for kind in [2, 3, 8, 9] {
             let found = stripes(kind, count, &[1.0, 2.0, 3.0]);
             p.equal(&format!("{count} stripes of kind {kind}"), found.len(), lines);
         }
     }
     p.equal("stripes of a sphere", stripes(1, 4, &[1.0; 4]), vec![]);
     let tube = stripes(2, 4, &[2.0, -1.0, 3.0]);
+    p.equal("four stripes of a closed tube", stripes(8, 4, &[2.0, -1.0, 3.0]), tube.clone());
     let corners = [(2.0, 0.0), (0.0, 2.0), (-2.0, 0.0), (0.0, -2.0)];
     let upright = corners.map(|(x, y)| [[x, y, -1.0], [x, y, 3.0]]).to_vec();
     p.equal("four stripes of a tube", tube, upright);
     let cone = stripes(3, 4, &[2.0, 3.0]);
+    p.equal("four stripes of a closed cone", stripes(9, 4, &[2.0, 3.0]), cone.clone());
     let slopes = corners.map(|(x, y)| [[x, y, 0.0], [0.0, 0.0, 3.0]]).to_vec();
     p.equal("four stripes of a cone", cone, slopes);
     // the root of 3/4, and exactly a half
@@ -266,6 +269,89 @@ fn stripes(p: &mut Pieces) {
         .map(|l| l.points.chunks(3).map(|p| p[2]).collect::<Vec<f64>>());
     let expected = vec![0.5, 0.5, 0.0, 0.0, -0.5, -0.5, 0.0, 0.0, 0.25, -0.25];
     p.equal("lines follow the stripes", drawn, Ok(expected));
+}
+
+/// Closed cylinders and cones: discs from either side, at their rims, in their planes and at INF; insides.
+fn closed(p: &mut Pieces) {
+    let tube = one([8, 0, 0, 0], &[1.0, -1.0, 1.0]);
+    let cone = one([9, 0, 0, 0], &[1.0, 2.0]);
+    let (up, miss) = ([0.0, 0.0, 1.0], (1e9, false));
+    let beyond = 1.0f64.next_up();
+    // t is 512 * k: from k * 2^-21 over the lid, by 2^-30
+    let slow = |k: u32| {
+        let over = f64::from(k) / f64::from(1 << 21);
+        ray([0., 0., 1.0 + over], [0., 0., -1.0 / f64::from(1 << 30)])
+    };
+    for (what, scene, r, expected) in [
+        ("down on a lid", &tube, ray([0., 0., 5.], DOWN), (4.0, true)),
+        ("up on the floor", &tube, ray([0., 0., -5.], up), (4.0, true)),
+        ("up from within", &tube, ray([0., 0., 0.], up), (1.0, true)),
+        ("from a lid down to the floor", &tube, ray([0., 0., 1.], DOWN), (2.0, true)),
+        ("up from a lid", &tube, ray([0., 0., 1.], up), miss),
+        ("on the rim", &tube, ray([0.6, 0.8, 5.], DOWN), (4.0, true)),
+        ("on the rim at x", &tube, ray([1., 0., 5.], DOWN), (4.0, true)),
+        ("beyond the rim", &tube, ray([beyond, 0., 5.], DOWN), miss),
+        ("on the wall", &tube, ray([5., 0., 0.], [-1., 0., 0.]), (4.0, true)),
+        ("from within on the wall", &tube, ray([0., 0., 0.], [-1., 0., 0.]), (1.0, true)),
+        ("in a lid's plane", &tube, ray([5., 0., 1.], [-1., 0., 0.]), miss),
+        ("in a lid's plane, -0", &tube, ray([5., 0., 1.], [-1., 0., -0.0]), miss),
+        ("over the edge on a lid", &tube, ray([-2., 0., 2.], [0.8, 0., -0.6]), (1.0 / 0.6, true)),
+        ("a short direction, below INF", &tube, slow(1_953_124), (999_999_488.0, true)),
+        ("a short direction, at INF", &tube, slow(1_953_125), miss),
+        ("a short direction, beyond INF", &tube, slow(1_953_126), miss),
+        ("up on a cone's base", &cone, ray([0., 0., -3.], up), (3.0, true)),
+        ("down from within a cone", &cone, ray([0.25, 0., 1.], DOWN), (1.0, true)),
+        ("down on a cone", &cone, ray([0.25, 0., 5.], DOWN), (3.5, true)),
+        ("down a cone's axis", &cone, ray([0., 0., 5.], DOWN), (5.0, true)),
+        ("on a base's rim", &cone, ray([0.6, 0.8, -3.], up), (3.0, true)),
+        ("beyond a base's rim", &cone, ray([beyond, 0., -3.], up), miss),
+        ("in a base's plane", &cone, ray([5., 0., 0.], [-1., 0., 0.]), miss),
+    ] {
+        for (way, hit) in
+            [("tree", oracle::intersect(scene, r)), ("own", oracle::own_hit(scene, 0, r))]
+        {
+            let found = hit.map(|h| (h.t, h.ok));
+            p.equal(&format!("{what} ({way})"), found, Ok(expected));
+        }
+    }
+    let near = |t: f64| one([8, 0, 0, 0], &[1.0, -1.0, t]);
+    for (t, ok) in [(1e-6, false), (1e-6f64.next_up(), true)] {
+        let hit = oracle::own_hit(&near(t), 0, ray([0.; 3], up)).map(|h| h.ok);
+        p.equal(&format!("a lid at {t:?}"), hit, Ok(ok));
+    }
+
+    for (what, kind, numbers, v, f, inside) in [
+        ("a lid's middle", 8, vec![1., -1., 1.], [0., 0., 1.], 0.0, 1),
+        ("a lid's rim", 8, vec![1., -1., 1.], [0.6, 0.8, 1.], 0.0, 1),
+        ("over a lid", 8, vec![1., -1., 1.], [0., 0., 1.125], 0.0, 0),
+        ("over a lid, widened", 8, vec![1., -1., 1.], [0., 0., 1.125], 0.125, 1),
+        ("a cone's base", 9, vec![1., 2.], [1., 0., 0.], 0.0, 1),
+        ("a cone's slope", 9, vec![1., 2.], [0.5, 0., 1.], 0.0, 1),
+        ("off a cone's slope", 9, vec![1., 2.], [0.625, 0., 1.], 0.0, 0),
+        ("off a cone's slope, widened", 9, vec![1., 2.], [0.625, 0., 1.], 0.125, 1),
+        ("a cone's apex", 9, vec![1., 2.], [0., 0., 2.], 0.0, 1),
+        ("over a cone's apex", 9, vec![1., 2.], [0., 0., 2.25], 0.25, 1),
+        ("beside a cone's apex", 9, vec![1., 2.], [0.25, 0., 2.25], 0.25, 0),
+        ("under a cone's base", 9, vec![1., 2.], [0., 0., -0.125], 0.125, 1),
+        ("far under a cone's base", 9, vec![1., 2.], [0., 0., -0.25], 0.125, 0),
+        ("a cone narrowed", 9, vec![1., 2.], [0., 0., 0.], -0.125, 0),
+        ("an open cone", 3, vec![1., 2.], [0., 0., 1.], 0.0, 0),
+    ] {
+        let request =
+            format!("contains {kind} {} {} {}", all_bits(&numbers), all_bits(&v), bits(f));
+        p.equal(what, answer(&request), inside.to_string());
+    }
+    for (kind, open, numbers) in [(8, 2, vec![2., -1., 4.]), (9, 3, vec![2., 4.])] {
+        let bounds = |kind: u32| answer(&format!("bounds {kind} {}", all_bits(&numbers)));
+        p.equal("a closed solid's box", bounds(kind), bounds(open));
+    }
+
+    // the far wall is seen through an open end, and not through a lid
+    let mut scene = one([2, 0, 0, 0], &[1.0, 0.0, 4.0]);
+    let (eye, floor) = ([0.0, 0.0, 9.0], [0.5, 0.0, 1.0]);
+    p.equal("into an open tube", oracle::visible(&scene, eye, floor), Ok(true));
+    scene.marks[0] = 8;
+    p.equal("onto a lid", oracle::visible(&scene, eye, floor), Ok(false));
 }
 
 /// Both sides of each refusal's condition.
@@ -296,7 +382,9 @@ fn boundaries(p: &mut Pieces) {
     // 3
     for (marks, number) in [
         ([0, 0, 0, 0], 3),
-        ([8, 0, 0, 0], 3),
+        ([8, 0, 7, 7], 0),
+        ([9, 0, 7, 7], 5),
+        ([10, 0, 0, 0], 3),
         ([5, 99, 7, 7], 0),
         ([4, 0, 0, 0], 3),
         ([4, 1000, 9, 9], 0),
@@ -312,7 +400,7 @@ fn boundaries(p: &mut Pieces) {
     }
     let mut s = cube();
     s.push([6, 0, 1, 0], &IDENTITY);
-    s.push([9, 0, 0, 0], &[]);
+    s.push([10, 0, 0, 0], &[]);
     p.number("3 in the last entry precedes 4 in an earlier one", oracle::check(&s), 3);
 
     // 14
@@ -323,6 +411,10 @@ fn boundaries(p: &mut Pieces) {
         ([3, 360, 9, 9], 0),
         ([3, 361, 0, 0], 14),
         ([3, u32::MAX, 0, 0], 14),
+        ([8, 360, 9, 9], 0),
+        ([8, 361, 0, 0], 14),
+        ([9, 360, 9, 9], 0),
+        ([9, 361, 0, 0], 14),
         ([1, 361, 0, 0], 0),
     ] {
         let scene = one(marks, &[1.0, 1.0, 1.0]);
@@ -358,6 +450,11 @@ fn boundaries(p: &mut Pieces) {
         s.points = vec![0.0; 3 * points];
         s
     };
+    let closed = |mut s: Scene| {
+        s.marks[8] = 8;
+        s.push([9, 0, 0, 0], &[1.0, 1.0]);
+        s
+    };
     for (what, scene, number) in [
         ("equal owners and starts", lines(&[1, 1, 1], &[0, 0, 2], 4), 0),
         ("a start at the point count", lines(&[0, 1], &[0, 4], 4), 0),
@@ -366,6 +463,7 @@ fn boundaries(p: &mut Pieces) {
         ("a start that falls", lines(&[0, 0, 0], &[0, 3, 2], 4), 4),
         ("owners that fall", lines(&[1, 0], &[0, 1], 4), 4),
         ("a cube as owner", lines(&[2], &[0], 4), 4),
+        ("closed solids as owners", closed(lines(&[2, 3], &[0, 2], 4)), 0),
         ("an owner beyond", lines(&[3], &[0], 4), 4),
         ("a path without points", lines(&[0], &[0], 0), 0),
     ] {
@@ -389,6 +487,12 @@ fn boundaries(p: &mut Pieces) {
         ("height -0", cone(1.0, -0.0), 5),
         ("the least height", cone(0.0, 5e-324), 0),
         ("a negative cone radius", cone(-1.0, 1.0), 5),
+        ("a flat closed tube", one([8, 0, 0, 0], &[1.0, 1.0, 1.0]), 0),
+        ("a closed tube with z1 below z0", one([8, 0, 0, 0], &[1.0, 1.0, 0.5]), 5),
+        ("a closed tube of radius above 1,000,000", one([8, 0, 0, 0], &[above, 0.0, 1.0]), 5),
+        ("a closed cone of height -0", one([9, 0, 0, 0], &[1.0, -0.0]), 5),
+        ("the least height of a closed cone", one([9, 0, 0, 0], &[0.0, 5e-324, f64::NAN]), 0),
+        ("a closed cone of negative radius", one([9, 0, 0, 0], &[-1.0, 1.0]), 5),
         ("a flat cube", cube_to(0.0), 0),
         ("a cube with max -0 on min 0", cube_to(-0.0), 0),
         ("min above max", cube_to(-1e-300), 5),
@@ -806,6 +910,24 @@ fn text(p: &mut Pieces) {
         ("two counts", format!("{view}(cylinder 9 0 1 4 4)"), "(refused 1)\n"),
         ("stripes of a sphere", format!("{view}(sphere 9 0 0 1 4)"), "(refused 1)\n"),
         ("stripes, then lines", format!("{view}(cone 9 9 4(line 9 9 9)(line))"), "(drawing 0)\n"),
+        ("a closed tube", format!("{view}(closed-cylinder 9 0 1)"), "(drawing 0)\n"),
+        (
+            "a closed tube, all of it",
+            format!("{view}(closed-cylinder 9 0 1 4(line 9 9 9)(line))"),
+            "(drawing 0)\n",
+        ),
+        ("a closed cone", format!("{view}(closed-cone 9 9 360(line))"), "(drawing 0)\n"),
+        (
+            "361 stripes of a closed tube",
+            format!("{view}(closed-cylinder 9 0 1 361)"),
+            "(refused 14)\n",
+        ),
+        ("361 stripes of a closed cone", format!("{view}(closed-cone 9 9 0361)"), "(refused 14)\n"),
+        ("a closed cone of no height", format!("{view}(closed-cone 9 0)"), "(refused 5)\n"),
+        ("a closed cone of three", format!("{view}(closed-cone 9 9 9 9)"), "(refused 1)\n"),
+        ("a closed tube of two", format!("{view}(closed-cylinder 9 0)"), "(refused 1)\n"),
+        ("a closed sphere", format!("{view}(closed-sphere 9 0 0 1)"), "(refused 1)\n"),
+        ("closed", format!("{view}(closed 9 0 1)"), "(refused 1)\n"),
         ("a count after a line", format!("{view}(cone 9 1 (line 9 9 9) 4)"), "(refused 1)\n"),
         ("a tube without z1", format!("{view}(cylinder 9 0)"), "(refused 1)\n"),
         (

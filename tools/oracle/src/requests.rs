@@ -31,7 +31,7 @@
 //!     visible SCENE EYE(3) POINT(3)       -> ok yes or no
 //!     draw SCENE VIEW THRESHOLD ROOM      -> ok LINES
 //!
-//! KIND is 1 to 5 and NUMBERS are its 4, 3, 2, 6 or 9 measures. Where a call may refuse, the
+//! KIND is 1 to 5, 8 or 9 and NUMBERS are its 4, 3, 2, 6, 9, 3 or 2 measures. Where a call may refuse, the
 //! other answers are `refused N`, `omitted` and `panic MESSAGE`. Before check, build,
 //! intersect, visible, chop, simplify or draw the word `plain` may stand: larnt then runs with
 //! no refusal at all, 2 to 8 included, so a scene that isn't accepted may panic or never end;
@@ -117,7 +117,7 @@ impl Words<'_> {
     }
 
     fn simple(&mut self) -> Option<limited::Solid> {
-        let kind = self.mark().filter(|k| (1..=5).contains(k))?;
+        let kind = self.mark().filter(|k| matches!(k, 1..=5 | 8 | 9))?;
         let numbers: Option<Vec<f64>> =
             (0..crate::check::used_numbers(kind)).map(|_| self.float()).collect();
         Some(limited::simple(kind, 1, &numbers?, Vec::new()))

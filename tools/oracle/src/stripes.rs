@@ -1,4 +1,4 @@
-//! The stripes of cylinders and cones (document 02, ii) by the constant table of cosines and sines: what a draw's
+//! The stripes of cylinders and cones, open or closed (document 02, ii), by the constant table of cosines and sines: what a draw's
 //! oracle takes as lines that are handed in. larnt's own `paths_striped` takes the machine's cosine and sine.
 
 use std::sync::LazyLock;
@@ -7,7 +7,7 @@ pub const MOST_STRIPES: u32 = 360;
 
 /// Whether the detail of a kind is a count of stripes.
 pub fn striped(kind: u32) -> bool {
-    matches!(kind, 2 | 3)
+    matches!(kind, 2 | 3 | 8 | 9)
 }
 
 /// Cosine and sine of 0 to 359 degrees in units of 2^-53, as tools/degrees/generate prints them.
@@ -36,7 +36,7 @@ pub fn stripes(kind: u32, count: u32, n: &[f64]) -> Vec<[[f64; 3]; 2]> {
     let stripe = |degree: usize| {
         let [x, y] = TABLE[degree].map(|units| n[0] * (units as f64 * UNIT));
         match kind {
-            2 => [[x, y, n[1]], [x, y, n[2]]],
+            2 | 8 => [[x, y, n[1]], [x, y, n[2]]],
             _ => [[x, y, 0.0], [0.0, 0.0, n[1]]],
         }
     };

@@ -129,6 +129,8 @@ impl<'a> Form<'a> {
             b"sphere" => self.round(1, 4)?,
             b"cylinder" => self.round(2, 3)?,
             b"cone" => self.round(3, 2)?,
+            b"closed-cylinder" => self.round(8, 3)?,
+            b"closed-cone" => self.round(9, 2)?,
             b"cube" => {
                 let stripes = decimal(self.word()?)?;
                 let n = self.numbers(6)?;

@@ -38,11 +38,26 @@ returns-5 c =
     let at8 = at4 .before .before .before .before in let solid4 = at8 .solid4 in
     rw (solid4 .given .1) (triangle-paths .ensures)
 
+returns-6 : tie.Need-returns-6
+unfolding solidPaths
+returns-6 c =
+    let at4 = c .before .before .before .before in let round-paths3 = at4 .round-paths3 in
+    let at8 = at4 .before .before .before .before in let solid5 = at8 .solid5 in
+    rw (solid5 .given .1) (round-paths3 .ensures)
+
+returns-7 : tie.Need-returns-7
+unfolding solidPaths
+returns-7 c =
+    let at4 = c .before .before .before .before in let round-paths4 = at4 .round-paths4 in
+    let at8 = at4 .before .before .before .before in let solid6 = at8 .solid6 in
+    rw (solid6 .given .1) (round-paths4 .ensures)
+
 pub solid-paths-spec : {M : Type 1} → statement M
 solid-paths-spec =
     tie.close
     (tie.spec
     (λ c. search needs) (λ c κs. search needs) (λ c. search needs) (λ c κs. search needs) (λ c. search needs) (λ c κs. search needs)
-    (λ c. search needs) (λ c κs. search needs) (λ c. search needs) (λ c κs. search needs) (λ c. search needs) (λ c. search needs) returns
-    (λ c. search needs) (λ c. search needs) returns-2 (λ c. search needs) (λ c. search needs) returns-3 (λ c. search needs) (λ c. search needs)
-    returns-4 (λ c. search needs) (λ c. search needs) returns-5)
+    (λ c. search needs) (λ c κs. search needs) (λ c. search needs) (λ c κs. search needs) (λ c. search needs) (λ c κs. search needs)
+    (λ c. search needs) (λ c κs. search needs) (λ c. search needs) (λ c. search needs) returns (λ c. search needs) (λ c. search needs) returns-2
+    (λ c. search needs) (λ c. search needs) returns-3 (λ c. search needs) (λ c. search needs) returns-4 (λ c. search needs) (λ c. search needs)
+    returns-5 (λ c. search needs) (λ c. search needs) returns-6 (λ c. search needs) (λ c. search needs) returns-7)

@@ -14,6 +14,7 @@ use Rattle.text_forms.proofs.enclose.Reads as enclose-reads
 use Rattle.text_forms.proofs.last_of.Reads as last-of-reads
 use Rattle.text_forms.proofs.round.Reads as round-reads
 use Rattle.text_heads.proofs.opening_at.Reads as opening-at-reads
+use Rattle.check_parts.proofs.is_round.Reads as is-round-reads
 use Rattle.text_forms.proofs.+form.{statement}
 use Rattle.text_forms.proofs.+form.Tie.{close}
 
@@ -27,7 +28,7 @@ abbrev form-below : ℕ → In 6 form-kinds.ps
 form-below t = and 6 form-kinds.ps (falls 6 form-kinds.ps _<_ μ-form t) form.Pre
 
 abbrev form-claims : ℕ → form-lts.Claims
-form-claims t = (opening-at-reads.Asked, opening-at-reads.Learnt, round-reads.Asked, round-reads.Learnt, enclose-reads.Asked, enclose-reads.Learnt, form-below t, form.Post, last-of-reads.Asked, last-of-reads.Learnt)
+form-claims t = (opening-at-reads.Asked, opening-at-reads.Learnt, is-round-reads.Asked, is-round-reads.Learnt, round-reads.Asked, round-reads.Learnt, enclose-reads.Asked, enclose-reads.Learnt, form-below t, form.Post, last-of-reads.Asked, last-of-reads.Learnt)
 
 form-returns : (t : ℕ) → form-lts.Need-returns (form-claims t) (form-at t) form.Post
 unfolding nextAs WithinNext
@@ -72,10 +73,11 @@ unfolding sceneUpto
 form-returns-3 t c =
     let at10 = c .before .before .before .before .before .before .before .before .before .before in let round = at10 .round in
     let at16 = at10 .before .before .before .before .before .before in let if2 = at16 .if2 in
-    let at19 = at16 .before .before .before in let o = at19 .o in
+    let at17 = at16 .before in let is-round = at17 .is-round in
+    let at19 = at17 .before .before in let o = at19 .o in
     let at21 = at19 .before .before in let opening-at = at21 .opening-at in
     let at22 = at21 .before in let if1 = at22 .if1 in
-    (round .ensures .0 ∙ body-round _ _ _ _ (if2 .taken) ∙ form-as _ _ _ _ (if1 .left) (opening-at .ensures) (o .given .1), round .ensures .1)
+    (round .ensures .0 ∙ body-round _ _ _ _ (is-round .ensures) (if2 .taken) ∙ form-as _ _ _ _ (if1 .left) (opening-at .ensures) (o .given .1), round .ensures .1)
 
 form-enclose-requires : (t : ℕ) → form-lts.Need-enclose-requires (form-claims t) (form-at t) form.Post
 form-enclose-requires t c κs =
@@ -98,10 +100,11 @@ form-returns-4 t c =
     let at4 = c .before .before .before .before in let enclose = at4 .enclose in
     let at7 = at4 .before .before .before in let if3 = at7 .if3 in
     let at9 = at7 .before .before in let if2 = at9 .if2 in
-    let at12 = at9 .before .before .before in let o = at12 .o in
+    let at10 = at9 .before in let is-round = at10 .is-round in
+    let at12 = at10 .before .before in let o = at12 .o in
     let at14 = at12 .before .before in let opening-at = at14 .opening-at in
     let at15 = at14 .before in let if1 = at15 .if1 in
-    (enclose .ensures .0 _ _ _ ∙ body-plain _ _ _ _ (if2 .left) (if3 .taken) ∙ form-as _ _ _ _ (if1 .left) (opening-at .ensures) (o .given .1), enclose .ensures .1)
+    (enclose .ensures .0 _ _ _ ∙ body-plain _ _ _ _ (is-round .ensures) (if2 .left) (if3 .taken) ∙ form-as _ _ _ _ (if1 .left) (opening-at .ensures) (o .given .1), enclose .ensures .1)
 
 form-sub-form : (t : ℕ) → form-lts.Need-sub-form (form-claims t) (form-at t) form.Post
 form-sub-form t c =
@@ -145,10 +148,11 @@ form-returns-5 t c =
     let at12 = c .before .before .before .before .before .before .before .before .before .before .before .before in let form = at12 .form in
     let at18 = at12 .before .before .before .before .before .before in let if3 = at18 .if3 in
     let at20 = at18 .before .before in let if2 = at20 .if2 in
-    let at23 = at20 .before .before .before in let o = at23 .o in
+    let at21 = at20 .before in let is-round = at21 .is-round in
+    let at23 = at21 .before .before in let o = at23 .o in
     let at25 = at23 .before .before in let opening-at = at25 .opening-at in
     let at26 = at25 .before in let if1 = at26 .if1 in
-    (body-bare _ _ _ _ (if2 .left) (if3 .left) (next-no _ _ _ _ _ _ (form .ensures .0) (c .enum-told2 .given .1)) ∙ form-as _ _ _ _ (if1 .left) (opening-at .ensures) (o .given .1), tt)
+    (body-bare _ _ _ _ (is-round .ensures) (if2 .left) (if3 .left) (next-no _ _ _ _ _ _ (form .ensures .0) (c .enum-told2 .given .1)) ∙ form-as _ _ _ _ (if1 .left) (opening-at .ensures) (o .given .1), tt)
 
 form-last-of-requires : (t : ℕ) → form-lts.Need-last-of-requires (form-claims t) (form-at t) form.Post
 form-last-of-requires t c κs =
@@ -200,11 +204,12 @@ form-returns-6 t c =
     let at23 = at11 .before .before .before .before .before .before .before .before .before .before .before .before in let form = at23 .form in
     let at29 = at23 .before .before .before .before .before .before in let if3 = at29 .if3 in
     let at31 = at29 .before .before in let if2 = at31 .if2 in
-    let at34 = at31 .before .before .before in let o = at34 .o in
+    let at32 = at31 .before in let is-round = at32 .is-round in
+    let at34 = at32 .before .before in let o = at34 .o in
     let at36 = at34 .before .before in let opening-at = at36 .opening-at in
     let at37 = at36 .before in let if1 = at37 .if1 in
     let at44 = at37 .before .before .before .before .before .before .before in let pre = at44 .pre in
-    (enclose2 .ensures .0 _ _ _ ∙ body-place _ _ _ _ (if2 .left) (if3 .left) (next-to _ _ _ _ _ _ (form .ensures .0) (f .given .1)) (last-held _ [] _ [] [] [] (within-next (form .ensures .1) (f .given .1)) (kept-more (pre .1 .1 .marks) (form .kept .1 .1 .1 .1 .0)) (last-of .ensures)) (if4 .taken) ∙ form-as _ _ _ _ (if1 .left) (opening-at .ensures) (o .given .1), enclose2 .ensures .1)
+    (enclose2 .ensures .0 _ _ _ ∙ body-place _ _ _ _ (is-round .ensures) (if2 .left) (if3 .left) (next-to _ _ _ _ _ _ (form .ensures .0) (f .given .1)) (last-held _ [] _ [] [] [] (within-next (form .ensures .1) (f .given .1)) (kept-more (pre .1 .1 .marks) (form .kept .1 .1 .1 .1 .0)) (last-of .ensures)) (if4 .taken) ∙ form-as _ _ _ _ (if1 .left) (opening-at .ensures) (o .given .1), enclose2 .ensures .1)
 
 form-sub-form-2 : (t : ℕ) → form-lts.Need-sub-form-2 (form-claims t) (form-at t) form.Post
 form-sub-form-2 t c =
@@ -259,11 +264,12 @@ form-returns-7 t c =
     let at34 = at22 .before .before .before .before .before .before .before .before .before .before .before .before in let form = at34 .form in
     let at40 = at34 .before .before .before .before .before .before in let if3 = at40 .if3 in
     let at42 = at40 .before .before in let if2 = at42 .if2 in
-    let at45 = at42 .before .before .before in let o = at45 .o in
+    let at43 = at42 .before in let is-round = at43 .is-round in
+    let at45 = at43 .before .before in let o = at45 .o in
     let at47 = at45 .before .before in let opening-at = at47 .opening-at in
     let at48 = at47 .before in let if1 = at48 .if1 in
     let at55 = at48 .before .before .before .before .before .before .before in let pre = at55 .pre in
-    (body-half _ _ _ _ (if2 .left) (if3 .left) (next-to _ _ _ _ _ _ (form .ensures .0) (f .given .1)) (last-held _ [] _ [] [] [] (within-next (form .ensures .1) (f .given .1)) (kept-more (pre .1 .1 .marks) (form .kept .1 .1 .1 .1 .0)) (last-of .ensures)) (if4 .left) (next-no _ _ _ _ _ _ (form2 .ensures .0) (c .enum-told3 .given .1)) ∙ form-as _ _ _ _ (if1 .left) (opening-at .ensures) (o .given .1), tt)
+    (body-half _ _ _ _ (is-round .ensures) (if2 .left) (if3 .left) (next-to _ _ _ _ _ _ (form .ensures .0) (f .given .1)) (last-held _ [] _ [] [] [] (within-next (form .ensures .1) (f .given .1)) (kept-more (pre .1 .1 .marks) (form .kept .1 .1 .1 .1 .0)) (last-of .ensures)) (if4 .left) (next-no _ _ _ _ _ _ (form2 .ensures .0) (c .enum-told3 .given .1)) ∙ form-as _ _ _ _ (if1 .left) (opening-at .ensures) (o .given .1), tt)
 
 form-last-of-requires-2 : (t : ℕ) → form-lts.Need-last-of-requires-2 (form-claims t) (form-at t) form.Post
 form-last-of-requires-2 t c κs =
@@ -324,11 +330,12 @@ form-returns-8 t c =
     let at43 = at31 .before .before .before .before .before .before .before .before .before .before .before .before in let form = at43 .form in
     let at49 = at43 .before .before .before .before .before .before in let if3 = at49 .if3 in
     let at51 = at49 .before .before in let if2 = at51 .if2 in
-    let at54 = at51 .before .before .before in let o = at54 .o in
+    let at52 = at51 .before in let is-round = at52 .is-round in
+    let at54 = at52 .before .before in let o = at54 .o in
     let at56 = at54 .before .before in let opening-at = at56 .opening-at in
     let at57 = at56 .before in let if1 = at57 .if1 in
     let at64 = at57 .before .before .before .before .before .before .before in let pre = at64 .pre in
-    (enclose3 .ensures .0 _ _ _ ∙ body-cut _ _ _ _ (if2 .left) (if3 .left) (next-to _ _ _ _ _ _ (form .ensures .0) (f .given .1)) (last-held _ [] _ [] [] [] (within-next (form .ensures .1) (f .given .1)) (kept-more (pre .1 .1 .marks) (form .kept .1 .1 .1 .1 .0)) (last-of .ensures)) (if4 .left) (next-to _ _ _ _ _ _ (form2 .ensures .0) (g .given .1)) (last-held _ [] _ [] [] [] (within-next (form2 .ensures .1) (g .given .1)) (kept-more (kept-more (pre .1 .1 .marks) (form .kept .1 .1 .1 .1 .0)) (form2 .kept .1 .1 .1 .1 .0)) (last-of2 .ensures)) ∙ form-as _ _ _ _ (if1 .left) (opening-at .ensures) (o .given .1), enclose3 .ensures .1)
+    (enclose3 .ensures .0 _ _ _ ∙ body-cut _ _ _ _ (is-round .ensures) (if2 .left) (if3 .left) (next-to _ _ _ _ _ _ (form .ensures .0) (f .given .1)) (last-held _ [] _ [] [] [] (within-next (form .ensures .1) (f .given .1)) (kept-more (pre .1 .1 .marks) (form .kept .1 .1 .1 .1 .0)) (last-of .ensures)) (if4 .left) (next-to _ _ _ _ _ _ (form2 .ensures .0) (g .given .1)) (last-held _ [] _ [] [] [] (within-next (form2 .ensures .1) (g .given .1)) (kept-more (kept-more (pre .1 .1 .marks) (form .kept .1 .1 .1 .1 .0)) (form2 .kept .1 .1 .1 .1 .0)) (last-of2 .ensures)) ∙ form-as _ _ _ _ (if1 .left) (opening-at .ensures) (o .given .1), enclose3 .ensures .1)
 
 pub +form-spec : {M : Type 1} → statement M
 +form-spec = close μ-form λ t. form-lts.spec (form-claims t)
@@ -339,6 +346,7 @@ pub +form-spec : {M : Type 1} → statement M
     (λ c. search needs)
     (λ c. search needs)
     (form-returns-2 t)
+    (λ c κs. search needs)
     (form-round-requires t)
     (form-same-length t)
     (form-same-length-2 t)

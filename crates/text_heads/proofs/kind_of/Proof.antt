@@ -88,7 +88,8 @@ returns-7 c =
 returns-8 : tie.Need-returns-8
 unfolding kindOf
 returns-8 c =
-    let at1 = c .before in let same-word7 = at1 .same-word7 in
+    let at0 = c .before in let if7 = at0 .if7 in
+    let at1 = at0 .before in let same-word7 = at1 .same-word7 in
     let at3 = at1 .before .before in let if6 = at3 .if6 in
     let at4 = at3 .before in let same-word6 = at4 .same-word6 in
     let at6 = at4 .before .before in let if5 = at6 .if5 in
@@ -101,7 +102,7 @@ returns-8 c =
     let at16 = at15 .before in let same-word2 = at16 .same-word2 in
     let at18 = at16 .before .before in let if1 = at18 .if1 in
     let at19 = at18 .before in let same-word = at19 .same-word in
-    rw (← same-word .ensures, if1 .left, ← same-word2 .ensures, if2 .left, ← same-word3 .ensures, if3 .left, ← same-word4 .ensures, if4 .left, ← same-word5 .ensures, if5 .left, ← same-word6 .ensures, if6 .left, ← same-word7 .ensures, c .if7 .left)
+    rw (← same-word .ensures, if1 .left, ← same-word2 .ensures, if2 .left, ← same-word3 .ensures, if3 .left, ← same-word4 .ensures, if4 .left, ← same-word5 .ensures, if5 .left, ← same-word6 .ensures, if6 .left, ← same-word7 .ensures, if7 .left) (c .closed-kind .ensures)
 
 pub kind-of-spec : {M : Type 1} → statement M
 kind-of-spec =
@@ -109,4 +110,4 @@ kind-of-spec =
     (tie.spec
     (λ c. search needs) (λ c κs. search needs) returns (λ c. search needs) (λ c κs. search needs) returns-2 (λ c. search needs) (λ c κs. search needs)
     returns-3 (λ c. search needs) (λ c κs. search needs) returns-4 (λ c. search needs) (λ c κs. search needs) returns-5 (λ c. search needs)
-    (λ c κs. search needs) returns-6 (λ c. search needs) (λ c κs. search needs) returns-7 returns-8)
+    (λ c κs. search needs) returns-6 (λ c. search needs) (λ c κs. search needs) returns-7 (λ c κs. search needs) returns-8)

@@ -46,13 +46,14 @@ returns-6 c =
 returns-7 : tie.Need-returns-7
 unfolding Heads.measures
 returns-7 c =
-    let at1 = c .before in let if5 = at1 .if5 in
-    let at2 = at1 .before in let if4 = at2 .if4 in
-    let at3 = at2 .before in let if3 = at3 .if3 in
-    let at4 = at3 .before in let if2 = at4 .if2 in
-    let at5 = at4 .before in let if1 = at5 .if1 in
-    (simp (ne-eqb _ _ (if1 .left), ne-eqb _ _ (if2 .left), ne-eqb _ _ (if3 .left), ne-eqb _ _ (if4 .left), ne-eqb _ _ (if5 .left), ne-eqb _ _ (c .if6 .left)), omega arith)
+    let at1 = c .before in let if6 = at1 .if6 in
+    let at2 = at1 .before in let if5 = at2 .if5 in
+    let at3 = at2 .before in let if4 = at3 .if4 in
+    let at4 = at3 .before in let if3 = at4 .if3 in
+    let at5 = at4 .before in let if2 = at5 .if2 in
+    let at6 = at5 .before in let if1 = at6 .if1 in
+    (simp (ne-eqb _ _ (if1 .left), ne-eqb _ _ (if2 .left), ne-eqb _ _ (if3 .left), ne-eqb _ _ (if4 .left), ne-eqb _ _ (if5 .left), ne-eqb _ _ (if6 .left)) (c .closed-measures .ensures .0), c .closed-measures .ensures .1)
 
 pub measures-spec : {M : Type 1} → statement M
 measures-spec =
-    tie.close (tie.spec returns returns-2 returns-3 returns-4 returns-5 returns-6 returns-7)
+    tie.close (tie.spec returns returns-2 returns-3 returns-4 returns-5 returns-6 (λ c κs. tt) returns-7)

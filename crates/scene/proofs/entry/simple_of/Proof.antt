@@ -40,13 +40,13 @@ returns-5 c =
 returns-6 : tie.Need-returns-6
 unfolding simpleOf
 returns-6 c =
-    let at1 = c .before in let if4 = at1 .if4 in
-    let at2 = at1 .before in let new2 = at2 .new2 in
-    let at3 = at2 .before in let if3 = at3 .if3 in
-    let at4 = at3 .before in let if2 = at4 .if2 in
-    let at5 = at4 .before in let if1 = at5 .if1 in
-    let at6 = at5 .before in let new = at6 .new in
-    simp (← new .ensures, ne-eqb _ _ (if1 .left), ne-eqb _ _ (if2 .left), ne-eqb _ _ (if3 .left), ← new2 .ensures, ne-eqb _ _ (if4 .left), ne-eqb _ _ (c .if5 .left))
+    let at1 = c .before in let if5 = at1 .if5 in
+    let at2 = at1 .before in let if4 = at2 .if4 in
+    let at3 = at2 .before in let new2 = at3 .new2 in
+    let at4 = at3 .before in let if3 = at4 .if3 in
+    let at5 = at4 .before in let if2 = at5 .if2 in
+    let at6 = at5 .before in let if1 = at6 .if1 in
+    simp (ne-eqb _ _ (if1 .left), ne-eqb _ _ (if2 .left), ne-eqb _ _ (if3 .left), ne-eqb _ _ (if4 .left), ne-eqb _ _ (if5 .left), ← c .closed-of .ensures)
 
 pub simple-of-spec : {M : Type 1} → statement M
-simple-of-spec = tie.close (tie.spec (λ c κs. tt) returns returns-2 returns-3 (λ c κs. tt) returns-4 (λ c κs. tt) returns-5 returns-6)
+simple-of-spec = tie.close (tie.spec (λ c κs. tt) returns returns-2 returns-3 (λ c κs. tt) returns-4 (λ c κs. tt) returns-5 (λ c κs. tt) returns-6)

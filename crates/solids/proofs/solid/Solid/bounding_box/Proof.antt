@@ -23,5 +23,13 @@ returns-5 : tie.Need-returns-5
 unfolding solidBox
 returns-5 c = rw (c .before .before .self5 .given .1) (c .bounding-box4 .ensures)
 
+returns-6 : tie.Need-returns-6
+unfolding solidBox
+returns-6 c = rw (c .before .before .self6 .given .1) (c .bounding-box5 .ensures)
+
+returns-7 : tie.Need-returns-7
+unfolding solidBox
+returns-7 c = rw (c .before .before .self7 .given .1) (c .bounding-box6 .ensures)
+
 pub bounding-box-spec : {M : Type 1} → statement M
-bounding-box-spec = tie.close (tie.spec (λ c. search needs) (λ c κs. tt) (λ c. search needs) (λ c κs. tt) (λ c. search needs) (λ c κs. tt) (λ c. search needs) (λ c κs. tt) (λ c. search needs) (λ c κs. tt) returns returns-2 returns-3 returns-4 returns-5)
+bounding-box-spec = tie.close (tie.spec (λ c. search needs) (λ c κs. tt) (λ c. search needs) (λ c κs. tt) (λ c. search needs) (λ c κs. tt) (λ c. search needs) (λ c κs. tt) (λ c. search needs) (λ c κs. tt) (λ c. search needs) (λ c κs. tt) (λ c. search needs) (λ c κs. tt) returns returns-2 returns-3 returns-4 returns-5 returns-6 returns-7)
