@@ -1,7 +1,7 @@
-/* The calls that libhost.a exports (`rt staticlib host`). `tools/house` holds these declarations to
-   crates/host/src, type by type. The pointers must not be null,
-   not even those of no elements, and what is filled must overlap neither what is read nor anything
-   else that is filled. Matrices stand by rows.
+/* The calls that libhost.a exports (`rt staticlib host`), and at the end those of libhost_plotter.a. `tools/house`
+   holds these declarations to crates/host/src and crates/host_plotter/src, type by type. The pointers must not be
+   null, not even those of no elements, and what is filled must overlap neither what is read nor anything else that
+   is filled. Matrices stand by rows.
 
    Stack, measured (docs/MEASURES.md): larnt_draw, larnt_draw_with and larnt_build need about 201 KB for
    local arrays and 512 bytes for each level of the tree, at most 1,023 levels, so 725 KB at most.
@@ -174,6 +174,20 @@ uint32_t larnt_plotter_write(larnt_registers *registers, size_t at, uint8_t valu
    is set if bit 0 of the mask is. Changes nothing where bit 1 of the status is clear. After an accepted move busy
    clears after as many steps as the larger axis distance, or after one if that is 0. */
 void larnt_plotter_step(larnt_registers *registers);
+
+/* Pen travel, of libhost_plotter.a too, over two drawings, a yard and its dimension lines: three numbers a
+   point, and where each path starts, in points. `marks` has one byte a path, the yard's first: another than 0 says
+   that the path is drawn. Picks the undrawn path, not an empty one, whose first point is nearest to the pen in
+   computed squared distance; equal distances go to the yard, then to the earlier path. `of_lines` becomes whether
+   it is one of the lines, `path` its place among that drawing's paths, `from` its first point and `end` the one
+   after its last; so its numbers are those from 3 * from up to 3 * end. Its byte becomes 1. Answers 0, or the
+   number of the refusal: 2 (numbers not in threes, or not one byte a path), 4 (path starts), 9 (a number of the
+   pen or of a path that is not finite), 15 (both drawings are used up); then `of_lines` is false, the other three
+   are 0 and no byte changes. */
+uint32_t larnt_pick(const double *yard, size_t yard_count, const size_t *yard_starts, size_t yard_starts_count,
+                    const double *lines, size_t lines_count, const size_t *line_starts, size_t line_starts_count,
+                    const double pen[3], uint8_t *marks, size_t marks_count, bool *of_lines, size_t *path,
+                    size_t *from, size_t *end);
 
 #ifdef __cplusplus
 }

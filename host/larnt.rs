@@ -1,5 +1,5 @@
-//! The calls of libhost.a (`rt staticlib host`) for Rust. `tools/house` looks that none is missing; nothing
-//! checks their types against crates/host/src. Matrices stand by rows; the
+//! The calls of libhost.a (`rt staticlib host`) for Rust, and of libhost_plotter.a. `tools/house` looks that none is
+//! missing; nothing checks their types against crates/host/src and crates/host_plotter/src. Matrices stand by rows; the
 //! kinds and the order of their numbers are in larnt.h, and so is what a scene holds.
 
 /// The calls as they are.
@@ -52,6 +52,27 @@ pub mod raw {
             begins_count: usize,
             points_out: &mut usize,
             paths_out: &mut usize,
+        ) -> u32;
+    }
+
+    // of libhost_plotter.a, as the calls on the registers below
+    unsafe extern "C" {
+        pub fn larnt_pick(
+            yard: *const f64,
+            yard_count: usize,
+            yard_starts: *const usize,
+            yard_starts_count: usize,
+            lines: *const f64,
+            lines_count: usize,
+            line_starts: *const usize,
+            line_starts_count: usize,
+            pen: &[f64; 3],
+            marks: *mut u8,
+            marks_count: usize,
+            of_lines: &mut bool,
+            path: &mut usize,
+            from: &mut usize,
+            end: &mut usize,
         ) -> u32;
     }
 
@@ -633,4 +654,46 @@ impl Registers {
     pub fn step(&mut self) {
         raw_registers::larnt_plotter_step(self);
     }
+}
+
+/// A drawing as a pick takes it: three numbers a point, and where each path starts, in points.
+#[derive(Clone, Copy)]
+pub struct Drawing<'a> {
+    pub points: &'a [f64],
+    pub starts: &'a [usize],
+}
+
+/// The undrawn path that starts nearest to the pen, as the part of the drawing that holds it; its mark becomes
+/// 1. There is one mark a path, the yard's first.
+pub fn pick<'a>(
+    yard: Drawing<'a>,
+    lines: Drawing<'a>,
+    pen: &[f64; 3],
+    marks: &mut [u8],
+) -> Result<&'a [f64], u32> {
+    let (mut of_lines, mut path, mut from, mut end) = (false, 0, 0, 0);
+    let number = unsafe {
+        raw::larnt_pick(
+            yard.points.as_ptr(),
+            yard.points.len(),
+            yard.starts.as_ptr(),
+            yard.starts.len(),
+            lines.points.as_ptr(),
+            lines.points.len(),
+            lines.starts.as_ptr(),
+            lines.starts.len(),
+            pen,
+            marks.as_mut_ptr(),
+            marks.len(),
+            &mut of_lines,
+            &mut path,
+            &mut from,
+            &mut end,
+        )
+    };
+    if number != 0 {
+        return Err(number);
+    }
+    let points = if of_lines { lines.points } else { yard.points };
+    Ok(&points[from * 3..end * 3])
 }

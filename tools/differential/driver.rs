@@ -5,6 +5,7 @@
 //!     driver speed [LAYER..]
 //!     driver demand SEED COUNT              COUNT questions of demand 3 on hiding, and COUNT / 1000 draws
 //!     driver stack
+//!     driver travel DRAWING..             how far the pen travels up, in order and as picked
 
 mod calls;
 mod core;
@@ -20,6 +21,7 @@ mod leaves;
 mod registers;
 mod roots;
 mod names;
+mod pens;
 mod scene_calls;
 mod scene_inputs;
 mod scenes;
@@ -37,7 +39,7 @@ use std::process::ExitCode;
 /// Its name, what it compares, and what it times.
 type Layer = (&'static str, fn(&mut Run), fn());
 
-const LAYERS: [Layer; 9] = [
+const LAYERS: [Layer; 10] = [
     ("roots", roots::compare, roots::speed),
     ("leaves", leaves::compare, leaves::speed),
     ("scenes", scenes::compare, scenes::speed),
@@ -47,6 +49,7 @@ const LAYERS: [Layer; 9] = [
     ("stripes", stripes::compare, || ()),
     ("draws", draws::compare, draws::speed),
     ("registers", registers::compare, registers::speed),
+    ("pens", pens::compare, pens::speed),
 ];
 
 fn layers(named: &[&str]) -> Option<Vec<Layer>> {
@@ -86,6 +89,7 @@ fn command(words: &[&str]) -> Option<bool> {
             let asked = demand::run(seed, count);
             Some(demand::draws(seed, count.div_ceil(1000)) && asked)
         }
+        ["travel", files @ ..] => Some(pens::travel(files)),
         ["stack"] => {
             stack::run();
             Some(true)
@@ -103,7 +107,7 @@ fn main() -> ExitCode {
         Some(false) => ExitCode::FAILURE,
         None => {
             eprintln!(
-                "usage: driver compare SEED COUNT [LAYER..] | speed [LAYER..] | demand SEED COUNT | stack"
+                "usage: driver compare SEED COUNT [LAYER..] | speed [LAYER..] | demand SEED COUNT | stack | travel DRAWING.."
             );
             ExitCode::from(2)
         }
