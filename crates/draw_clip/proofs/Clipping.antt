@@ -1,6 +1,8 @@
 -- The ways through the filter of a draw. Assumes nothing.
-use mathlib.Core.Path.{_≡_}
-use mathlib.Core.Bool.{Bool, true, false}
+use mathlib.Core.Path.{_≡_, refl, sym, _∙_}
+use mathlib.Core.Bool.{Bool, true, false, cond}
+use Prim.Native.Nat.{ℕ}
+use native.Mathlib.Omega.{arith}
 use Rattle.geometry.specs.Boxes.{clipBox, contains}
 use Rattle.geometry.specs.declared.vector.Vector.{Vector}
 use Rattle.matrix.specs.Matrices.{mulPositionW}
@@ -8,8 +10,11 @@ use Rattle.matrix.specs.declared.Matrix.{Matrix}
 use Rattle.refusals.specs.declared.Refusal.the-variants.{Point}
 use Rattle.limits.specs.Limits.{withinPoint}
 use Rattle.tree_sight.specs.declared.Sight.{Sight}
+use Rattle.tree_sight.specs.declared.Sight.the-variants.{Visible, Hidden, Refused as NotSeen}
+use Rattle.draw_memory.specs.Memory.{outcomeOf}
+use Rattle.draw_memory.proofs.Memories.{outcome-dropped}
 use Rattle.path_filter.specs.declared.Test.{Test}
-use Rattle.path_filter.specs.declared.Test.the-variants.{Drop, Refused}
+use Rattle.path_filter.specs.declared.Test.the-variants.{Keep, Drop, Refused}
 use Rattle.draw_clip.specs.Clip.{bySight, clipFilter}
 
 module _ (matrix : Matrix) (seen : Vector → Sight) (v w : Vector) (ew : w ≡ mulPositionW matrix v) (b : Bool) (eb : b ≡ contains clipBox w) where
@@ -25,3 +30,20 @@ module _ (matrix : Matrix) (seen : Vector → Sight) (v w : Vector) (ew : w ≡ 
     pub put : j ≡ true → (s : Sight) → s ≡ seen v → (t : Test) → t ≡ bySight w s → t ≡ clipFilter matrix seen v
     unfolding clipFilter
     put f s es t et = rw (← ew, ← eb, e, ← ej, f, ← es, et)
+
+-- ---- what is kept of a test's outcome tells the test
+kept-on : (w : Vector) (a b : Bool) (s : Sight) → outcomeOf (cond a (cond b (bySight w s) (Refused Point)) Drop) ≡ 1 → Keep w ≡ cond a (cond b (bySight w s) (Refused Point)) Drop
+unfolding outcomeOf bySight
+kept-on w false b s e = absurd (omega (arith, e))
+kept-on w true false s e = absurd (omega (arith, e))
+kept-on w true true Visible e = refl
+kept-on w true true Hidden e = absurd (omega (arith, e))
+kept-on w true true (NotSeen k) e = absurd (omega (arith, e))
+
+module _ (matrix : Matrix) (seen : Vector → Sight) (v : Vector) (c : ℕ) (told : outcomeOf (clipFilter matrix seen v) ≡ c) where
+  pub told-dropped : c ≡ 0 → Drop ≡ clipFilter matrix seen v
+  told-dropped e = sym (outcome-dropped (clipFilter matrix seen v) (told ∙ e))
+
+  pub told-kept : c ≡ 1 → (w : Vector) → w ≡ mulPositionW matrix v → Keep w ≡ clipFilter matrix seen v
+  unfolding clipFilter
+  told-kept e w ew = rw ew (kept-on (mulPositionW matrix v) (contains clipBox (mulPositionW matrix v)) (withinPoint v) (seen v) (told ∙ e))

@@ -1,8 +1,9 @@
 // The filter of a draw (filter.rs, and its loops of path.rs): the clip box, and then the eye test.
 ghost use mathlib.Core.Path.{_≡_};
-ghost use Prim.Native.Nat.{_*_, _≤_};
+ghost use Prim.Native.Nat.{_*_, _≤_, _<_};
 ghost use lib.ListN.{length};
 ghost use lib.Seq.{slice};
+ghost use Rattle.draw_memory.specs.Memory.{Remembered};
 ghost use Rattle.paths.specs.Ends.{places, allPoints, held, EndsBoth};
 ghost use Rattle.path_filter.specs.Filter.{filteredFrom, pathFilter};
 ghost use Rattle.draw_clip.specs.Clip.{bySight, clipFilter, clipPaths, seenFrom};
@@ -59,6 +60,100 @@ pub fn clip_filter(
     by_sight(w, s)
 }
 
+// The filter at an end of a path: many ends are those of other paths too.
+fn end_filter(
+    matrix: Matrix,
+    eye: Vector,
+    numbers: &[f64],
+    inverses: &[f64],
+    marks: &[u32],
+    node_boxes: &[f64],
+    node_marks: &[u32],
+    order: &[u32],
+    v: Vector,
+    ends: &mut [f64],
+    known: &mut [u32],
+) -> Test
+    requires { ⌜ Remembered (clipFilter matrix (seenFrom (now numbers) (now inverses) (now marks) (now «node_boxes») (now «node_marks») (now order) eye)) (now ends) (now known) ⌝ }
+    ensures { λ r. ⌜ (r ≡ clipFilter matrix (seenFrom (now (numbers .entry)) (now (inverses .entry)) (now (marks .entry)) (now («node_boxes» .entry)) (now («node_marks» .entry)) (now (order .entry)) eye) v) × Remembered (clipFilter matrix (seenFrom (now (numbers .entry)) (now (inverses .entry)) (now (marks .entry)) (now («node_boxes» .entry)) (now («node_marks» .entry)) (now (order .entry)) eye)) (now (ends .exit)) (now (known .exit)) ⌝ }
+{
+    let c = draw_memory::recall(ends, known, v);
+    if c == 0 {
+        return Test::Drop;
+    }
+    if c == 1 {
+        return Test::Keep(matrix.mul_position_w(v));
+    }
+    let t = clip_filter(
+        matrix,
+        eye,
+        numbers,
+        inverses,
+        marks,
+        node_boxes,
+        node_marks,
+        order,
+        v,
+    );
+    draw_memory::remember(ends, known, v, draw_memory::outcome(t));
+    t
+}
+
+fn point_filter(
+    matrix: Matrix,
+    eye: Vector,
+    numbers: &[f64],
+    inverses: &[f64],
+    marks: &[u32],
+    node_boxes: &[f64],
+    node_marks: &[u32],
+    order: &[u32],
+    v: Vector,
+    inner: bool,
+    ends: &mut [f64],
+    known: &mut [u32],
+) -> Test
+    requires { ⌜ Remembered (clipFilter matrix (seenFrom (now numbers) (now inverses) (now marks) (now «node_boxes») (now «node_marks») (now order) eye)) (now ends) (now known) ⌝ }
+    ensures { λ r. ⌜ (r ≡ clipFilter matrix (seenFrom (now (numbers .entry)) (now (inverses .entry)) (now (marks .entry)) (now («node_boxes» .entry)) (now («node_marks» .entry)) (now (order .entry)) eye) v) × Remembered (clipFilter matrix (seenFrom (now (numbers .entry)) (now (inverses .entry)) (now (marks .entry)) (now («node_boxes» .entry)) (now («node_marks» .entry)) (now (order .entry)) eye)) (now (ends .exit)) (now (known .exit)) ⌝ }
+{
+    if inner {
+        return clip_filter(
+            matrix,
+            eye,
+            numbers,
+            inverses,
+            marks,
+            node_boxes,
+            node_marks,
+            order,
+            v,
+        );
+    }
+    end_filter(
+        matrix,
+        eye,
+        numbers,
+        inverses,
+        marks,
+        node_boxes,
+        node_marks,
+        order,
+        v,
+        ends,
+        known,
+    )
+}
+
+// Whether i is neither the first place nor the last.
+fn is_inner(from: usize, i: usize, end: usize) -> bool
+    requires { ⌜ i < end ⌝ }
+{
+    if i == from {
+        return false;
+    }
+    i + 1 != end
+}
+
 // Each point of a path from `from` up to `end`, after n points and m starts.
 fn filter_from(
     matrix: Matrix,
@@ -69,6 +164,8 @@ fn filter_from(
     node_boxes: &[f64],
     node_marks: &[u32],
     order: &[u32],
+    ends: &mut [f64],
+    known: &mut [u32],
     path: &[f64],
     from: usize,
     end: usize,
@@ -77,15 +174,15 @@ fn filter_from(
     n: usize,
     m: usize,
 ) -> Counts
-    requires { ⌜ (from ≤ end) × (end * 3 ≤ length (now path)) × (n * 3 ≤ length (now out)) × (m ≤ length (now begins)) ⌝ }
-    ensures { λ r. ⌜ EndsBoth (filteredFrom (clipFilter matrix (seenFrom (now (numbers .entry)) (now (inverses .entry)) (now (marks .entry)) (now («node_boxes» .entry)) (now («node_marks» .entry)) (now (order .entry)) eye)) (places (now (out .entry))) (length (now (begins .entry))) (slice from end (allPoints (now (path .entry)))) (held n (now (out .entry)) m (now (begins .entry)))) (now (out .exit)) (now (begins .exit)) r ⌝ }
+    requires { ⌜ (from ≤ end) × (end * 3 ≤ length (now path)) × (n * 3 ≤ length (now out)) × (m ≤ length (now begins)) × Remembered (clipFilter matrix (seenFrom (now numbers) (now inverses) (now marks) (now «node_boxes») (now «node_marks») (now order) eye)) (now ends) (now known) ⌝ }
+    ensures { λ r. ⌜ (EndsBoth (filteredFrom (clipFilter matrix (seenFrom (now (numbers .entry)) (now (inverses .entry)) (now (marks .entry)) (now («node_boxes» .entry)) (now («node_marks» .entry)) (now (order .entry)) eye)) (places (now (out .entry))) (length (now (begins .entry))) (slice from end (allPoints (now (path .entry)))) (held n (now (out .entry)) m (now (begins .entry)))) (now (out .exit)) (now (begins .exit)) r) × Remembered (clipFilter matrix (seenFrom (now (numbers .entry)) (now (inverses .entry)) (now (marks .entry)) (now («node_boxes» .entry)) (now («node_marks» .entry)) (now (order .entry)) eye)) (now (ends .exit)) (now (known .exit)) ⌝ }
 {
     let mut i = from;
     let mut a = n;
     let mut b = m;
     while i < end {
         let v = rows::read_point(path, i);
-        let t = clip_filter(
+        let t = point_filter(
             matrix,
             eye,
             numbers,
@@ -95,6 +192,9 @@ fn filter_from(
             node_marks,
             order,
             v,
+            is_inner(from, i, end),
+            ends,
+            known,
         );
         let r = path_filter::step(t, out, begins, a, b);
         match r {
@@ -119,6 +219,8 @@ fn path_filter(
     node_boxes: &[f64],
     node_marks: &[u32],
     order: &[u32],
+    ends: &mut [f64],
+    known: &mut [u32],
     path: &[f64],
     from: usize,
     end: usize,
@@ -127,8 +229,8 @@ fn path_filter(
     n: usize,
     m: usize,
 ) -> Counts
-    requires { ⌜ (from ≤ end) × (end * 3 ≤ length (now path)) × (n * 3 ≤ length (now out)) × (m ≤ length (now begins)) ⌝ }
-    ensures { λ r. ⌜ EndsBoth (pathFilter (clipFilter matrix (seenFrom (now (numbers .entry)) (now (inverses .entry)) (now (marks .entry)) (now («node_boxes» .entry)) (now («node_marks» .entry)) (now (order .entry)) eye)) (places (now (out .entry))) (length (now (begins .entry))) (slice from end (allPoints (now (path .entry)))) (held n (now (out .entry)) m (now (begins .entry)))) (now (out .exit)) (now (begins .exit)) r ⌝ }
+    requires { ⌜ (from ≤ end) × (end * 3 ≤ length (now path)) × (n * 3 ≤ length (now out)) × (m ≤ length (now begins)) × Remembered (clipFilter matrix (seenFrom (now numbers) (now inverses) (now marks) (now «node_boxes») (now «node_marks») (now order) eye)) (now ends) (now known) ⌝ }
+    ensures { λ r. ⌜ (EndsBoth (pathFilter (clipFilter matrix (seenFrom (now (numbers .entry)) (now (inverses .entry)) (now (marks .entry)) (now («node_boxes» .entry)) (now («node_marks» .entry)) (now (order .entry)) eye)) (places (now (out .entry))) (length (now (begins .entry))) (slice from end (allPoints (now (path .entry)))) (held n (now (out .entry)) m (now (begins .entry)))) (now (out .exit)) (now (begins .exit)) r) × Remembered (clipFilter matrix (seenFrom (now (numbers .entry)) (now (inverses .entry)) (now (marks .entry)) (now («node_boxes» .entry)) (now («node_marks» .entry)) (now (order .entry)) eye)) (now (ends .exit)) (now (known .exit)) ⌝ }
 {
     let o = paths::new_path(begins, m, n);
     match o {
@@ -143,6 +245,8 @@ fn path_filter(
                 node_boxes,
                 node_marks,
                 order,
+                ends,
+                known,
                 path,
                 from,
                 end,
@@ -180,6 +284,8 @@ pub fn filter_paths(
     ensures { λ r. ⌜ EndsBoth (clipPaths matrix (seenFrom (now (numbers .entry)) (now (inverses .entry)) (now (marks .entry)) (now («node_boxes» .entry)) (now («node_marks» .entry)) (now (order .entry)) eye) (allPoints (now (path .entry))) (now (starts .entry)) (places (now (out .entry))) (length (now (begins .entry)))) (now (out .exit)) (now (begins .exit)) r ⌝ }
 {
     let total = path.len() / 3;
+    let mut ends = [0.0; 24];
+    let mut known = [2u32; 9];
     let mut n = 0;
     let mut m = 0;
     let mut i = 0;
@@ -194,6 +300,8 @@ pub fn filter_paths(
             node_boxes,
             node_marks,
             order,
+            &mut ends,
+            &mut known,
             path,
             p.from,
             p.end,

@@ -6,50 +6,52 @@ use Rattle.draw_clip.proofs.path_filter.Tie as tie
 
 new-path-requires : tie.Need-new-path-requires
 new-path-requires c κs =
-    let at10 = c .before .before .before .before .before .before .before .before .before .before in let pre = at10 .pre in
+    let at12 = c .before .before .before .before .before .before .before .before .before .before .before .before in let pre = at12 .pre in
     pre .3
 
 filter-from-requires : tie.Need-filter-from-requires
 filter-from-requires c κs =
-    let at3 = c .before .before .before in let o2 = at3 .o2 in
-    let at7 = at3 .before .before .before .before in let new-path = at7 .new-path in
-    let at18 = at7 .before .before .before .before .before .before .before .before .before .before .before in let pre = at18 .pre in
-    (pre .0, pre .1, pre .2, omega (arith, new-path .ensures .fits _ (o2 .given .1)))
+    let at5 = c .before .before .before .before .before in let o2 = at5 .o2 in
+    let at9 = at5 .before .before .before .before in let new-path = at9 .new-path in
+    let at22 = at9 .before .before .before .before .before .before .before .before .before .before .before .before .before in let pre = at22 .pre in
+    (pre .0, pre .1, pre .2, omega (arith, new-path .ensures .fits _ (o2 .given .1)), pre .4)
 
 close-requires : tie.Need-close-requires
 close-requires c κs =
     let at2 = c .before .before in let r2 = at2 .r2 in
-    let at8 = at2 .before .before .before .before .before .before in let filter-from = at8 .filter-from in
-    filter-from .ensures .fits _ _ (r2 .given .1) .1
+    let at12 = at2 .before .before .before .before .before .before .before .before .before .before in let filter-from = at12 .filter-from in
+    filter-from .ensures .0 .fits _ _ (r2 .given .1) .1
 
 returns : tie.Need-returns
 returns c =
     let at1 = c .before in let o = at1 .o in
     let at5 = at1 .before .before .before .before in let new-path = at5 .new-path in
-    let at16 = at5 .before .before .before .before .before .before .before .before .before .before .before in let args = at16 .args in
-    path-full _ _ (args .out .now) (args .begins .now) (args .n) (args .m) _ (new-path .ensures) (o .given .1)
+    let at18 = at5 .before .before .before .before .before .before .before .before .before .before .before .before .before in let args = at18 .args in
+    let pre = at18 .pre in
+    (path-full _ _ (args .out .now) (args .begins .now) (args .n) (args .m) _ (new-path .ensures) (o .given .1), pre .4)
 
 returns-2 : tie.Need-returns-2
 returns-2 c =
     let at1 = c .before in let r = at1 .r in
-    let at7 = at1 .before .before .before .before .before .before in let filter-from = at7 .filter-from in
-    let at11 = at7 .before .before .before .before in let o2 = at11 .o2 in
-    let at15 = at11 .before .before .before .before in let new-path = at15 .new-path in
-    let at26 = at15 .before .before .before .before .before .before .before .before .before .before .before in let args = at26 .args in
-    path-refused _ _ (args .out .now) (args .begins .now) (args .n) (args .m) _ (new-path .ensures) (o2 .given .1) (new-path .kept .0) _ _ (filter-from .ensures) (r .given .1)
+    let at11 = at1 .before .before .before .before .before .before .before .before .before .before in let filter-from = at11 .filter-from in
+    let at17 = at11 .before .before .before .before .before .before in let o2 = at17 .o2 in
+    let at21 = at17 .before .before .before .before in let new-path = at21 .new-path in
+    let at34 = at21 .before .before .before .before .before .before .before .before .before .before .before .before .before in let args = at34 .args in
+    (path-refused _ _ (args .out .now) (args .begins .now) (args .n) (args .m) _ (new-path .ensures) (o2 .given .1) (new-path .kept .0) _ _ (filter-from .ensures .0) (r .given .1), filter-from .ensures .1)
 
 returns-3 : tie.Need-returns-3
 returns-3 c =
     let at3 = c .before .before .before in let r2 = at3 .r2 in
-    let at9 = at3 .before .before .before .before .before .before in let filter-from = at9 .filter-from in
-    let at13 = at9 .before .before .before .before in let o2 = at13 .o2 in
-    let at17 = at13 .before .before .before .before in let new-path = at17 .new-path in
-    let at28 = at17 .before .before .before .before .before .before .before .before .before .before .before in let args = at28 .args in
-    path-done _ _ (args .out .now) (args .begins .now) (args .n) (args .m) _ (new-path .ensures) (o2 .given .1) (new-path .kept .0) _ _ (filter-from .ensures) _ (r2 .given .1) (c .close .ensures .0) (c .close .ensures .1)
+    let at13 = at3 .before .before .before .before .before .before .before .before .before .before in let filter-from = at13 .filter-from in
+    let at19 = at13 .before .before .before .before .before .before in let o2 = at19 .o2 in
+    let at23 = at19 .before .before .before .before in let new-path = at23 .new-path in
+    let at36 = at23 .before .before .before .before .before .before .before .before .before .before .before .before .before in let args = at36 .args in
+    (path-done _ _ (args .out .now) (args .begins .now) (args .n) (args .m) _ (new-path .ensures) (o2 .given .1) (new-path .kept .0) _ _ (filter-from .ensures .0) _ (r2 .given .1) (c .close .ensures .0) (c .close .ensures .1), filter-from .ensures .1)
 
 pub path-filter-spec : {M : Type 1} → statement M
 path-filter-spec =
     tie.close
     (tie.spec
     new-path-requires (λ c. search needs) (λ c. search needs) filter-from-requires (λ c. search needs) (λ c. search needs) close-requires
-    (λ c. search needs) returns (λ c. search needs) (λ c. search needs) returns-2 (λ c. search needs) (λ c. search needs) returns-3)
+    (λ c. search needs) returns (λ c. search needs) (λ c. search needs) (λ c. search needs) (λ c. search needs) returns-2
+    (λ c. search needs) (λ c. search needs) (λ c. search needs) (λ c. search needs) returns-3)
