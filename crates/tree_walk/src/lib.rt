@@ -1,10 +1,12 @@
 // The nearest hit of a ray: the walk of a tree in lent slices (tree.rs).
 ghost use mathlib.Core.Path.{_≡_};
 ghost use mathlib.Core.Bool.{_||_};
-ghost use Prim.Native.Nat.{_+_, _≤_, _<_};
-ghost use lib.ListN.{take, drop};
+ghost use Prim.Native.Nat.{_+_, _*_, _≤_, _<_};
+ghost use lib.ListN.{length, take, drop};
 ghost use lib.Dec.{eqb, ltb};
 ghost use Rattle.geometry.specs.Boxes.{boxTest, skips};
+ghost use Rattle.rows.specs.Rows.{row};
+ghost use Rattle.rows.specs.Points.{boxOfRow};
 ghost use Rattle.tree_walk.specs.Walks as Walks;
 use geometry::bounding_box::BBox;
 use geometry::hit::Hit;
@@ -119,6 +121,18 @@ pub fn skip(b: BBox, r: Ray, best: f64) -> bool
     s.tmin >= best
 }
 
+// Whether the walk passes a box in a row by.
+fn skip_row(xs: &[f64], i: usize, r: Ray, best: f64) -> bool
+    requires { ⌜ i * 6 + 6 ≤ length (now xs) ⌝ }
+    ensures { λ s. ⌜ s ≡ skips (boxTest (boxOfRow (row 6 i (now (xs .entry)))) r) best ⌝ }
+{
+    if tree_behind::behind_row(xs, i, r.origin, r.direction) {
+        return true;
+    }
+    let b = rows::read_box(xs, i);
+    skip(b, r, best)
+}
+
 pub fn is_leaf(count: u32, axis: u32) -> bool
     ensures { λ s. ⌜ s ≡ (eqb axis 0 || ltb 0 count) ⌝ }
 {
@@ -179,8 +193,7 @@ pub fn intersect(
         if i >= many {
             continue;
         }
-        let bx = rows::read_box(node_boxes, i);
-        if skip(bx, r, best.hit.t) {
+        if skip_row(node_boxes, i, r, best.hit.t) {
             continue;
         }
         let n = rows::read_triple(node_marks, i);

@@ -37,31 +37,30 @@ loop-less c = omega (arith, c .before .before .loop-test .taken)
 loop-again : tie.Need-loop-again Inv-loop μ-loop
 loop-again c = walking-gone (walk-rounds _ _ _ _ _) (c .before .before .before .loop .inv) (c .before .before .loop-test .taken) (c .before .if1 .left) (c .if2 .taken)
 
-read-box-requires : tie.Need-read-box-requires Inv-loop μ-loop
-read-box-requires c κs = walking-box (walk-rounds _ _ _ _ _) (c .before .before .before .loop .inv) (c .before .before .loop-test .taken) (c .before .if1 .left) (c .if2 .left)
+skip-row-requires : tie.Need-skip-row-requires Inv-loop μ-loop
+skip-row-requires c κs = walking-box (walk-rounds _ _ _ _ _) (c .before .before .before .loop .inv) (c .before .before .loop-test .taken) (c .before .if1 .left) (c .if2 .left)
 
 loop-less-2 : tie.Need-loop-less-2 Inv-loop μ-loop
 loop-less-2 c =
-    let at5 = c .before .before .before .before .before in let loop-test = at5 .loop-test in
+    let at4 = c .before .before .before .before in let loop-test = at4 .loop-test in
     omega (arith, loop-test .taken)
 
 loop-again-2 : tie.Need-loop-again-2 Inv-loop μ-loop
 loop-again-2 c =
-    let at1 = c .before in let skip = at1 .skip in
-    let at2 = at1 .before in let read-box = at2 .read-box in
-    let at3 = at2 .before in let if2 = at3 .if2 in
-    let at4 = at3 .before in let if1 = at4 .if1 in
-    let at5 = at4 .before in let loop-test = at5 .loop-test in
-    let at6 = at5 .before in let loop = at6 .loop in
+    let at1 = c .before in let skip-row = at1 .skip-row in
+    let at2 = at1 .before in let if2 = at2 .if2 in
+    let at3 = at2 .before in let if1 = at3 .if1 in
+    let at4 = at3 .before in let loop-test = at4 .loop-test in
+    let at5 = at4 .before in let loop = at5 .loop in
     walking-skip (walk-rounds _ _ _ _ _) (loop .inv) (loop-test .taken) (if1 .left) (if2 .left)
-    _ _ (read-box .ensures) (skip .ensures) (c .if3 .taken)
+    _ _ refl (skip-row .ensures) (c .if3 .taken)
 
 read-triple-requires : tie.Need-read-triple-requires Inv-loop μ-loop
 read-triple-requires c κs =
-    let at3 = c .before .before .before in let if2 = at3 .if2 in
-    let at4 = at3 .before in let if1 = at4 .if1 in
-    let at5 = at4 .before in let loop-test = at5 .loop-test in
-    let at6 = at5 .before in let loop = at6 .loop in
+    let at2 = c .before .before in let if2 = at2 .if2 in
+    let at3 = at2 .before in let if1 = at3 .if1 in
+    let at4 = at3 .before in let loop-test = at4 .loop-test in
+    let at5 = at4 .before in let loop = at5 .loop in
     walking-marks (walk-rounds _ _ _ _ _) (loop .inv) (loop-test .taken) (if1 .left) (if2 .left)
 
 scan-requires : tie.Need-scan-requires Inv-loop μ-loop
@@ -77,21 +76,20 @@ returns-2 c =
     let at7 = at6 .before in let index = at7 .index in
     let at8 = at7 .before in let read-triple = at8 .read-triple in
     let at9 = at8 .before in let if3 = at9 .if3 in
-    let at10 = at9 .before in let skip = at10 .skip in
-    let at11 = at10 .before in let read-box = at11 .read-box in
-    let at12 = at11 .before in let if2 = at12 .if2 in
-    let at13 = at12 .before in let if1 = at13 .if1 in
-    let at14 = at13 .before in let loop-test = at14 .loop-test in
-    let at15 = at14 .before in let loop = at15 .loop in
+    let at10 = at9 .before in let skip-row = at10 .skip-row in
+    let at11 = at10 .before in let if2 = at11 .if2 in
+    let at12 = at11 .before in let if1 = at12 .if1 in
+    let at13 = at12 .before in let loop-test = at13 .loop-test in
+    let at14 = at13 .before in let loop = at14 .loop in
     leaf-refused _ _ (scan .ensures) _ _
     (walking-into (walk-rounds _ _ _ _ _) (loop .inv) (loop-test .taken) (if1 .left) (if2 .left)
-    _ _ (read-box .ensures) (skip .ensures) (if3 .left) _ (read-triple .ensures) _ (is-leaf .ensures)
+    _ _ refl (skip-row .ensures) (if3 .left) _ (read-triple .ensures) _ (is-leaf .ensures)
     _ (index .ensures .0) _ (index2 .ensures .0) (if4 .taken))
     _ (a .given .1)
 
 loop-less-3 : tie.Need-loop-less-3 Inv-loop μ-loop
 loop-less-3 c =
-    let at14 = c .before .before .before .before .before .before .before .before .before .before .before .before .before .before in let loop-test = at14 .loop-test in
+    let at13 = c .before .before .before .before .before .before .before .before .before .before .before .before .before in let loop-test = at13 .loop-test in
     omega (arith, loop-test .taken)
 
 loop-again-3 : tie.Need-loop-again-3 Inv-loop μ-loop
@@ -104,16 +102,15 @@ loop-again-3 c =
     let at7 = at6 .before in let index = at7 .index in
     let at8 = at7 .before in let read-triple = at8 .read-triple in
     let at9 = at8 .before in let if3 = at9 .if3 in
-    let at10 = at9 .before in let skip = at10 .skip in
-    let at11 = at10 .before in let read-box = at11 .read-box in
-    let at12 = at11 .before in let if2 = at12 .if2 in
-    let at13 = at12 .before in let if1 = at13 .if1 in
-    let at14 = at13 .before in let loop-test = at14 .loop-test in
-    let at15 = at14 .before in let loop = at15 .loop in
+    let at10 = at9 .before in let skip-row = at10 .skip-row in
+    let at11 = at10 .before in let if2 = at11 .if2 in
+    let at12 = at11 .before in let if1 = at12 .if1 in
+    let at13 = at12 .before in let loop-test = at13 .loop-test in
+    let at14 = at13 .before in let loop = at14 .loop in
     walking-past (walk-rounds _ _ _ _ _) (loop .inv) (loop-test .taken) (if1 .left)
     (leaf-passed _ _ (scan .ensures) _ _
     (walking-into (walk-rounds _ _ _ _ _) (loop .inv) (loop-test .taken) (if1 .left) (if2 .left)
-    _ _ (read-box .ensures) (skip .ensures) (if3 .left) _ (read-triple .ensures) _ (is-leaf .ensures)
+    _ _ refl (skip-row .ensures) (if3 .left) _ (read-triple .ensures) _ (is-leaf .ensures)
     _ (index .ensures .0) _ (index2 .ensures .0) (if4 .taken))
     _ (a2 .given .1))
 
@@ -124,14 +121,13 @@ returns-3 c =
     let at3 = at2 .before in let index = at3 .index in
     let at4 = at3 .before in let read-triple = at4 .read-triple in
     let at5 = at4 .before in let if3 = at5 .if3 in
-    let at6 = at5 .before in let skip = at6 .skip in
-    let at7 = at6 .before in let read-box = at7 .read-box in
-    let at8 = at7 .before in let if2 = at8 .if2 in
-    let at9 = at8 .before in let if1 = at9 .if1 in
-    let at10 = at9 .before in let loop-test = at10 .loop-test in
-    let at11 = at10 .before in let loop = at11 .loop in
+    let at6 = at5 .before in let skip-row = at6 .skip-row in
+    let at7 = at6 .before in let if2 = at7 .if2 in
+    let at8 = at7 .before in let if1 = at8 .if1 in
+    let at9 = at8 .before in let loop-test = at9 .loop-test in
+    let at10 = at9 .before in let loop = at10 .loop in
     walking-full (walk-rounds _ _ _ _ _) (loop .inv) (loop-test .taken) (if1 .left) (if2 .left)
-    _ _ (read-box .ensures) (skip .ensures) (if3 .left) _ (read-triple .ensures) _ (is-leaf .ensures)
+    _ _ refl (skip-row .ensures) (if3 .left) _ (read-triple .ensures) _ (is-leaf .ensures)
     _ (index .ensures .0) (if4 .left) (omega (arith, c .if5 .taken))
 
 sided-requires : tie.Need-sided-requires Inv-loop μ-loop
@@ -142,31 +138,31 @@ sided-requires c κs =
 mul-stack : tie.Need-mul-stack Inv-loop μ-loop
 mul-stack c =
     let at2 = c .before .before in let if5 = at2 .if5 in
-    let at13 = at2 .before .before .before .before .before .before .before .before .before .before .before in let loop = at13 .loop in
+    let at12 = at2 .before .before .before .before .before .before .before .before .before .before in let loop = at12 .loop in
     omega (arith, if5 .left, loop .inv .broad)
 
 array-write-stack : tie.Need-array-write-stack Inv-loop μ-loop
 array-write-stack c =
     let at2 = c .before .before in let if5 = at2 .if5 in
-    let at13 = at2 .before .before .before .before .before .before .before .before .before .before .before in let loop = at13 .loop in
+    let at12 = at2 .before .before .before .before .before .before .before .before .before .before in let loop = at12 .loop in
     omega (arith, if5 .left, loop .inv .broad)
 
 add-stack : tie.Need-add-stack Inv-loop μ-loop
 add-stack c =
     let at2 = c .before .before in let if5 = at2 .if5 in
-    let at13 = at2 .before .before .before .before .before .before .before .before .before .before .before in let loop = at13 .loop in
+    let at12 = at2 .before .before .before .before .before .before .before .before .before .before in let loop = at12 .loop in
     omega (arith, if5 .left, loop .inv .broad)
 
 mul-stack-2 : tie.Need-mul-stack-2 Inv-loop μ-loop
 mul-stack-2 c =
     let at2 = c .before .before in let if5 = at2 .if5 in
-    let at13 = at2 .before .before .before .before .before .before .before .before .before .before .before in let loop = at13 .loop in
+    let at12 = at2 .before .before .before .before .before .before .before .before .before .before in let loop = at12 .loop in
     omega (arith, if5 .left, loop .inv .broad)
 
 array-write-stack-2 : tie.Need-array-write-stack-2 Inv-loop μ-loop
 array-write-stack-2 c =
     let at2 = c .before .before in let if5 = at2 .if5 in
-    let at13 = at2 .before .before .before .before .before .before .before .before .before .before .before in let loop = at13 .loop in
+    let at12 = at2 .before .before .before .before .before .before .before .before .before .before in let loop = at12 .loop in
     omega (arith, if5 .left, loop .inv .broad)
 
 add-sp : tie.Need-add-sp Inv-loop μ-loop
@@ -174,7 +170,7 @@ add-sp c = omega (arith, c .before .before .if5 .left)
 
 loop-less-4 : tie.Need-loop-less-4 Inv-loop μ-loop
 loop-less-4 c =
-    let at12 = c .before .before .before .before .before .before .before .before .before .before .before .before in let loop-test = at12 .loop-test in
+    let at11 = c .before .before .before .before .before .before .before .before .before .before .before in let loop-test = at11 .loop-test in
     omega (arith, loop-test .taken)
 
 loop-again-4 : tie.Need-loop-again-4 Inv-loop μ-loop
@@ -186,14 +182,13 @@ loop-again-4 c =
     let at5 = at4 .before in let index = at5 .index in
     let at6 = at5 .before in let read-triple = at6 .read-triple in
     let at7 = at6 .before in let if3 = at7 .if3 in
-    let at8 = at7 .before in let skip = at8 .skip in
-    let at9 = at8 .before in let read-box = at9 .read-box in
-    let at10 = at9 .before in let if2 = at10 .if2 in
-    let at11 = at10 .before in let if1 = at11 .if1 in
-    let at12 = at11 .before in let loop-test = at12 .loop-test in
-    let at13 = at12 .before in let loop = at13 .loop in
+    let at8 = at7 .before in let skip-row = at8 .skip-row in
+    let at9 = at8 .before in let if2 = at9 .if2 in
+    let at10 = at9 .before in let if1 = at10 .if1 in
+    let at11 = at10 .before in let loop-test = at11 .loop-test in
+    let at12 = at11 .before in let loop = at12 .loop in
     walking-down (walk-rounds _ _ _ _ _) (loop .inv) (loop-test .taken) (if1 .left) (if2 .left)
-    _ _ (read-box .ensures) (skip .ensures) (if3 .left) _ (read-triple .ensures) _ (is-leaf .ensures)
+    _ _ refl (skip-row .ensures) (if3 .left) _ (read-triple .ensures) _ (is-leaf .ensures)
     _ (index .ensures .0) (if4 .left) (omega (arith, if5 .left)) _ (backward .ensures) _ (c .sided .ensures)
 
 returns-4 : tie.Need-returns-4 Inv-loop μ-loop
@@ -204,6 +199,6 @@ intersect-spec =
     tie.close
     (tie.spec
     Inv-loop μ-loop (λ c κs. tt) (λ c κs. tt) loop-holds sub-rounds returns sub-sp (λ c. search needs) array-read-i loop-less loop-again
-    read-box-requires (λ c κs. tt) loop-less-2 loop-again-2 read-triple-requires (λ c κs. tt) (λ c κs. tt) (λ c κs. tt) scan-requires
+    skip-row-requires loop-less-2 loop-again-2 read-triple-requires (λ c κs. tt) (λ c κs. tt) (λ c κs. tt) scan-requires
     (λ c. search needs) returns-2 (λ c. search needs) loop-less-3 loop-again-3 returns-3 (λ c κs. tt) sided-requires mul-stack array-write-stack
     add-stack mul-stack-2 array-write-stack-2 add-sp loop-less-4 loop-again-4 returns-4)
