@@ -9,7 +9,7 @@ use borrow.Author.Tests.{ltb-false}
 use lib.Dec.{T, ltb}
 use lib.ListN.{length, take, drop}
 use lib.Seq.{slice, slice-cons, slice-empty, length-slice, getD-take, getD-drop, take-all}
-use lib.Ieee.{Float, lt, le, ofBits}
+use lib.Ieee.{Float, lt, le}
 use lib.Ieee.Scale.{finite}
 use lib.Ieee.Fits.{and-l}
 use Rattle.floats.specs.Arith.{zeroF}
@@ -24,7 +24,7 @@ use Rattle.paths.proofs.Parts.{slice-take, slice-drop}
 use Rattle.paths.proofs.Runs.{front-append}
 use Rattle.path_rdp.specs.Rdp.{thresholdOk, vertex, firstVertex, lastVertex, farthestFrom, nothingYet, farthestOf, halved, thinned, rdp, simplified}
 use Rattle.path_rdp.specs.Demand.{Chain, Near, Accepted, Simplifies}
-use Rattle.path_rdp.proofs.Scanning.{far-before, farthest-most}
+use Rattle.path_rdp.proofs.Scanning.{far-before, farthest-most, zero-number}
 
 -- ---- chains
 -- the d places after a
@@ -50,10 +50,6 @@ module _ (step : ℕ → ℕ → Type 0) where
   unfolding Chain
   chain-all s zero a = sym (add-zero a)
   chain-all s (suc d) a = let e : suc a + d ≡ a + suc d = omega arith in (s a, subst (λ (z : ℕ). Chain step (suc a) (onward (suc a) d) z) e (chain-all s d (suc a)))
-
-zero-number : T (number zeroF)
-unfolding ofBits
-zero-number = tt
 
 -- ---- parts of a path
 module _ (t : Float) (p : List Vector) where

@@ -13,15 +13,16 @@ use lib.Seq.{slice, slice-cons, slice-empty, length-slice}
 use lib.Ieee.{Float, lt, le, ofBits}
 use Rattle.floats.specs.Arith.{zeroF}
 use Rattle.floats.specs.Numbers.{number}
-use Rattle.floats.proofs.Order.{le-refl, le-trans, not-gt→le, lt→le, le-number-r}
+use Rattle.floats.proofs.Order.{le-refl, le-trans, le-lt-trans, lt-le-trans, not-gt→le, lt→le, le-number-r}
 use Rattle.sqrt.specs.Root.{sqrtOf}
-use Rattle.sqrt.proofs.Monotone.{sqrt-above}
+use Rattle.sqrt.proofs.Monotone.{sqrt-number, sqrt-mono, sqrt-above}
 use Rattle.geometry.specs.Vectors.{segmentDistance, segmentSquare}
 use Rattle.geometry.proofs.Segments.{segment-root}
 use Rattle.geometry.specs.declared.vector.Vector.{Vector}
 use Rattle.paths.specs.Ends.{nowhere}
 use Rattle.path_rdp.specs.declared.Far.{Far}
-use Rattle.path_rdp.specs.Rdp.{vertex, firstVertex, lastVertex, farther, farthestFrom, nothingYet, farthestOf}
+use Rattle.path_rdp.specs.declared.Peak.{Peak}
+use Rattle.path_rdp.specs.Rdp.{vertex, firstVertex, lastVertex, farther, farthestFrom, nothingYet, farthestOf, Tops, Peaks}
 
 -- ---- the loop: what is left of it finds what the whole does
 pub record Scanning (p : List Vector) (f : Far) (i : ℕ) : Type 0 where
@@ -63,6 +64,122 @@ stays f i s q r e = by (lt (f .distance) (sqrtOf q)) (λ (t : T (lt (f .distance
     by : (t : Bool) → (T t → T (lt s q)) → f ≡ cond t (record { index = i; distance = sqrtOf q }) f
     by true k = absurd (subst T e (k tt))
     by false k = refl
+
+-- ---- the greatest square and the next lower one
+not-so : (b : Bool) → (T b → T false) → b ≡ false
+not-so true n = absurd (n tt)
+not-so false n = refl
+
+abbrev farAt : ℕ → Float → Far
+farAt i d = record { index = i; distance = d }
+
+abbrev topped : ℕ → Float → Float → Peak
+topped i s l = record { index = i; square = s; lower = l }
+
+pub zero-number : T (number zeroF)
+unfolding ofBits
+zero-number = tt
+
+tops-start : Tops nothingYet (topped 0 zeroF zeroF)
+tops-start =
+    let z : T (le zeroF zeroF) = le-refl zeroF zero-number in
+    record {
+      fair = z;
+      most = subst (λ (x : Float). T (le zeroF x)) root-start z;
+      least = subst (λ (x : Float). T (le x zeroF)) root-start z;
+      first = inl (ap (λ (x : Float). farAt 0 x) root-start);
+    }
+
+module _ (f : Far) (k : Peak) (h : Tops f k) (i : ℕ) (q : Float) where
+  -- a square that is not greater changes nothing
+  tops-stays : lt (k .square) q ≡ false → f ≡ farther f i (sqrtOf q)
+  unfolding farther
+  tops-stays e = by (lt (f .distance) (sqrtOf q)) (λ (t : T (lt (f .distance) (sqrtOf q))). sqrt-above (k .square) q (le-lt-trans (sqrtOf (k .square)) (f .distance) (sqrtOf q) (h .least) t))
+    where
+      by : (t : Bool) → (T t → T (lt (k .square) q)) → f ≡ cond t (record { index = i; distance = sqrtOf q }) f
+      by true n = absurd (subst T e (n tt))
+      by false n = refl
+
+  -- a greater one takes over, if its root is greater too; else the lower one has the same root
+  tops-turn : 0 < i → lt (k .square) q ≡ true → Tops (farther f i (sqrtOf q)) (topped i q (k .square))
+  unfolding farther
+  tops-turn l e = by (lt (f .distance) (sqrtOf q)) refl
+    where
+      under : T (le (k .square) q)
+      under = lt→le (k .square) q (subst T (sym e) tt)
+
+      fair : T (le zeroF q)
+      fair = le-trans zeroF (k .square) q (h .fair) under
+
+      root : T (number (sqrtOf q))
+      root = sqrt-number q fair
+
+      by : (t : Bool) → lt (f .distance) (sqrtOf q) ≡ t → Tops (cond t (record { index = i; distance = sqrtOf q }) f) (topped i q (k .square))
+      by true t = record { fair = fair; most = le-refl (sqrtOf q) root; least = le-refl (sqrtOf q) root; first = inl refl }
+      by false t = record {
+        fair = fair;
+        most = le-trans (f .distance) (sqrtOf (k .square)) (sqrtOf q) (h .most) (sqrt-mono (k .square) q (h .fair) under);
+        least = not-gt→le (sqrtOf q) (f .distance) root (le-number-r (sqrtOf (k .square)) (f .distance) (h .least)) (subst (λ (s : Bool). T (not s)) (sym t) tt);
+        first = inr (l, not-so (lt (sqrtOf (k .square)) (sqrtOf q)) (λ (s : T (lt (sqrtOf (k .square)) (sqrtOf q))). subst T t (le-lt-trans (f .distance) (sqrtOf (k .square)) (sqrtOf q) (h .most) s)));
+      }
+
+-- ---- the loop over squares
+pub record Peaking (p : List Vector) (i index : ℕ) (square lower : Float) : Type 0 where
+  pub far : Far
+  pub scanned : Scanning p far i
+  pub inside : 0 < i
+  pub tops : Tops far (topped index square lower)
+
+module _ (p : List Vector) where
+  pub peaking-start : 2 ≤ length p → Peaking p 1 0 zeroF zeroF
+  peaking-start h = record { far = nothingYet; scanned = scanning-start p h; inside = omega arith; tops = tops-start }
+
+  module _ (i index : ℕ) (square lower : Float) (h : Peaking p i index square lower) where
+    module _ (v a b : Vector) (q : Float) (l : i + 1 < length p) (ea : a ≡ firstVertex p) (eb : b ≡ lastVertex p) (ev : v ≡ vertex p i) (eq : q ≡ segmentSquare v a b) where
+      pub peaking-stays : lt square q ≡ false → Peaking p (i + 1) index square lower
+      peaking-stays e = record {
+        far = h .far;
+        scanned = scanning-turn p (h .far) i (h .scanned) v a b q (h .far) l ea eb ev eq (tops-stays (h .far) (topped index square lower) (h .tops) i q e);
+        inside = omega arith;
+        tops = h .tops;
+      }
+
+      pub peaking-turn : lt square q ≡ true → Peaking p (i + 1) i q square
+      peaking-turn e = record {
+        far = farther (h .far) i (sqrtOf q);
+        scanned = scanning-turn p (h .far) i (h .scanned) v a b q (farther (h .far) i (sqrtOf q)) l ea eb ev eq refl;
+        inside = omega arith;
+        tops = tops-turn (h .far) (topped index square lower) (h .tops) i q (h .inside) e;
+      }
+
+    pub peaking-end : length p ≤ i + 1 → Peaks p (topped index square lower)
+    peaking-end l = subst (λ (f : Far). Tops f (topped index square lower)) (scanning-end p (h .far) i (h .scanned) l) (h .tops)
+
+-- ---- the peak is the farthest, where nothing is above 0 or the next lower root is below its own
+module _ (p : List Vector) (k : Peak) (h : Peaks p k) where
+  module _ (d : Float) (e : d ≡ sqrtOf (k .square)) where
+    at-peak : (n : ℕ) → k .index ≡ n → farthestOf p ≡ farAt (k .index) (sqrtOf (k .square)) → farAt n d ≡ farthestOf p
+    at-peak n i f = rw (← i, e) (sym f)
+
+    pub peak-none : (n : ℕ) → k .index ≡ n → n ≡ 0 → farAt n d ≡ farthestOf p
+    peak-none n i z = by (h .first)
+      where
+        by : (farthestOf p ≡ farAt (k .index) (sqrtOf (k .square))) ⊎ ((0 < k .index) × (lt (sqrtOf (k .lower)) (sqrtOf (k .square)) ≡ false)) → farAt n d ≡ farthestOf p
+        by (inl f) = at-peak n i f
+        by (inr f) = absurd (omega (arith, f .0, i, z))
+
+    pub peak-first : (n : ℕ) → k .index ≡ n → (l : Float) → l ≡ sqrtOf (k .lower) → lt l d ≡ true → farAt n d ≡ farthestOf p
+    peak-first n i l el z = by (h .first)
+      where
+        by : (farthestOf p ≡ farAt (k .index) (sqrtOf (k .square))) ⊎ ((0 < k .index) × (lt (sqrtOf (k .lower)) (sqrtOf (k .square)) ≡ false)) → farAt n d ≡ farthestOf p
+        by (inl f) = at-peak n i f
+        by (inr f) = absurd (subst T (sym z ∙ ap (λ (x : Float). lt x d) el ∙ ap (λ (x : Float). lt (sqrtOf (k .lower)) x) e ∙ f .1) tt)
+
+  -- a square is at most one whose root is not beyond the threshold
+  pub peak-low : (t low : Float) → lt t (sqrtOf low) ≡ false → le (k .square) low ≡ true → lt t (farthestOf p .distance) ≡ false
+  peak-low t low e l =
+      let d = farthestOf p .distance in
+      not-so (lt t d) (λ (s : T (lt t d)). subst T e (lt-le-trans t d (sqrtOf low) s (le-trans d (sqrtOf (k .square)) (sqrtOf low) (h .most) (sqrt-mono (k .square) low (h .fair) (subst T (sym l) tt)))))
 
 -- ---- where the farthest stands: nowhere new, or among the vertices scanned
 abbrev Found : ℕ → ℕ → Far → Far → Type 0

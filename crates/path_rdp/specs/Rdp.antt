@@ -1,20 +1,24 @@
 -- Simplification by Ramer, Douglas and Peucker: of the vertices between a path's ends the first that is farthest from the segment joining them splits the
 -- path, if it is farther than the threshold; the two parts, which share it, are simplified alike and joined. Else only the ends are kept.
 -- Vertices are told apart by place.
+use mathlib.Core.Path.{_≡_}
+use mathlib.Core.Logic.{_⊎_}
 use mathlib.Core.Bool.{Bool, true, false, cond, _&&_}
 use mathlib.Core.List.{List, [], _∷_, _++_}
-use Prim.Native.Nat.{ℕ, zero, suc, _+_, _-_}
+use Prim.Native.Nat.{ℕ, zero, suc, _+_, _-_, _<_}
 use lib.ListN.{length, take, drop, getD}
 use lib.Seq.{slice}
-use lib.Dec.{ltb}
+use lib.Dec.{T, ltb}
 use lib.Ieee.{Float, lt, le}
 use lib.Ieee.Scale.{finite}
 use Rattle.floats.specs.Arith.{zeroF}
+use Rattle.sqrt.specs.Root.{sqrtOf}
 use Rattle.geometry.specs.Vectors.{segmentDistance}
 use Rattle.geometry.specs.declared.vector.Vector.{Vector}
 use Rattle.paths.specs.Paths.{front}
 use Rattle.paths.specs.Ends.{nowhere}
 use Rattle.path_rdp.specs.declared.Far.{Far}
+use Rattle.path_rdp.specs.declared.Peak.{Peak}
 
 -- number 8: a threshold is finite and not negative
 unfoldable pub thresholdOk : Float → Bool
@@ -44,6 +48,17 @@ nothingYet = record { index = 0; distance = zeroF }
 -- of the vertices between a path's ends
 unfoldable pub farthestOf : List Vector → Far
 farthestOf p = farthestFrom (firstVertex p) (lastVertex p) 1 (slice 1 (length p - 1) p) nothingYet
+
+-- what a scan of squares tells of the farthest f: its distance is the root of the greatest square, and its place that square's, unless the next lower
+-- square has the same root
+pub record Tops (f : Far) (k : Peak) : Type 0 where
+  pub fair : T (le zeroF (k .square))
+  pub most : T (le (f .distance) (sqrtOf (k .square)))
+  pub least : T (le (sqrtOf (k .square)) (f .distance))
+  pub first : (f ≡ record { index = k .index; distance = sqrtOf (k .square) }) ⊎ ((0 < k .index) × (lt (sqrtOf (k .lower)) (sqrtOf (k .square)) ≡ false))
+
+abbrev pub Peaks : List Vector → Peak → Type 0
+Peaks p k = Tops (farthestOf p) k
 
 -- split at place k, or not: the split vertex is the last of the first part and the first of the second, and is kept once
 unfoldable pub halved : (List Vector → List Vector) → List Vector → ℕ → Bool → List Vector

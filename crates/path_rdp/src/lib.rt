@@ -6,12 +6,19 @@ ghost use lib.Seq.{slice};
 ghost use Rattle.sqrt.specs.Root.{sqrtOf};
 ghost use Rattle.paths.specs.Ends.{allPoints};
 ghost use Rattle.path_rdp.specs.Rdp as Rdp;
-ghost use Rattle.path_rdp.specs.Rdp.{farthestOf, thresholdOk};
+ghost use Rattle.path_rdp.specs.Rdp.{farthestOf, thresholdOk, Peaks};
 
 // A vertex by its place in a path, and its distance.
 pub struct Far {
     pub index: usize,
     pub distance: f64,
+}
+
+// The first vertex with the greatest square of a distance, that square, and the greatest before it.
+pub struct Peak {
+    pub index: usize,
+    pub square: f64,
+    pub lower: f64,
 }
 
 // The farthest vertex so far, and the square whose root its distance is.
@@ -43,8 +50,8 @@ fn tried(best: FarSquare, i: usize, q: f64) -> FarSquare
 }
 
 // The first farthest vertex between the ends of the path from `from` up to `end`, from the segment
-// that joins them.
-pub fn farthest(path: &[f64], from: usize, end: usize) -> Far
+// that joins them, with a root for each vertex whose square is above that of the farthest so far.
+fn farthest(path: &[f64], from: usize, end: usize) -> Far
     requires { ⌜ (from + 3 ≤ end) × (end * 3 ≤ length (now path)) ⌝ }
     ensures { λ r. ⌜ r ≡ farthestOf (slice from end (allPoints (now (path .entry)))) ⌝ }
 {
@@ -64,6 +71,55 @@ pub fn farthest(path: &[f64], from: usize, end: usize) -> Far
         i += 1;
     }
     best.far
+}
+
+// The peak between the ends of the path from `from` up to `end`: no root is taken.
+pub fn greatest_square(path: &[f64], from: usize, end: usize) -> Peak
+    requires { ⌜ (from + 3 ≤ end) × (end * 3 ≤ length (now path)) ⌝ }
+    ensures { λ r. ⌜ Peaks (slice from end (allPoints (now (path .entry)))) r ⌝ }
+{
+    let a = rows::read_point(path, from);
+    let b = rows::read_point(path, end - 1);
+    let last = end - from - 1;
+    let mut index = 0;
+    let mut square = 0.0;
+    let mut lower = 0.0;
+    let mut i = 1;
+    while i < last {
+        let p = rows::read_point(path, from + i);
+        let q = p.segment_square(a, b);
+        if !(q > square) {
+            i += 1;
+            continue;
+        }
+        lower = square;
+        square = q;
+        index = i;
+        i += 1;
+    }
+    Peak {
+        index,
+        square,
+        lower,
+    }
+}
+
+// The first farthest vertex, where k is the peak: two roots. Only if the next lower square has the same
+// root may an earlier vertex be as far.
+pub fn settled(path: &[f64], from: usize, end: usize, k: Peak) -> Far
+    requires { ⌜ (from + 3 ≤ end) × (end * 3 ≤ length (now path)) × Peaks (slice from end (allPoints (now path))) k ⌝ }
+    ensures { λ r. ⌜ r ≡ farthestOf (slice from end (allPoints (now (path .entry)))) ⌝ }
+{
+    let index = k.index;
+    let distance = sqrt::root(k.square);
+    if index == 0 {
+        return Far { index, distance };
+    }
+    let lower = sqrt::root(k.lower);
+    if lower < distance {
+        return Far { index, distance };
+    }
+    farthest(path, from, end)
 }
 
 // Finite and not negative.

@@ -7,6 +7,7 @@ ghost use lib.ListN.{length, take, getD, set};
 ghost use lib.Seq.{slice};
 ghost use lib.Ieee.{lt, nan, isNan, binary64, ofBits, toBits};
 ghost use Rattle.floats.specs.Arith.{zeroF};
+ghost use Rattle.sqrt.specs.Root.{sqrtOf};
 ghost use Rattle.rows.specs.Points.{points};
 ghost use Rattle.paths.specs.Paths.{onePath};
 ghost use Rattle.paths.specs.Ends.{places, allPoints, Ends, held, EndsBoth, Finished};
@@ -37,15 +38,33 @@ fn waiting(out: &[f64], w: usize) -> usize
     f64::to_bits(x) as usize
 }
 
-// Where the path from a to b is split, or a.
-fn split(path: &[f64], a: usize, b: usize, threshold: f64) -> usize
-    requires { ⌜ (a < b) × (b * 3 + 3 ≤ length (now path)) × (lt threshold zeroF ≡ false) ⌝ }
+// A square whose root is not above the threshold: its own, where rounding allows it.
+fn low_square(threshold: f64) -> f64
+    requires { ⌜ lt threshold zeroF ≡ false ⌝ }
+    ensures { λ r. ⌜ lt threshold (sqrtOf r) ≡ false ⌝ }
+{
+    let q = threshold * threshold;
+    if threshold < sqrt::root(q) {
+        return 0.0;
+    }
+    q
+}
+
+// Where the path from a to b is split, or a. A peak whose square is at most `low` is not beyond the
+// threshold, and needs no root.
+fn split(path: &[f64], a: usize, b: usize, threshold: f64, low: f64) -> usize
+    requires { ⌜ (a < b) × (b * 3 + 3 ≤ length (now path)) × (lt threshold zeroF ≡ false) × (lt threshold (sqrtOf low) ≡ false) ⌝ }
     ensures { λ r. ⌜ r ≡ a + splitPlace threshold (slice a (b + 1) (allPoints (now (path .entry)))) ⌝ }
 {
     if b - a < 2 {
         return a;
     }
-    let f = path_rdp::farthest(path, a, b + 1);
+    let end = b + 1;
+    let k = path_rdp::greatest_square(path, a, end);
+    if k.square <= low {
+        return a;
+    }
+    let f = path_rdp::settled(path, a, end, k);
     if !(f.distance > threshold) {
         return a;
     }
@@ -73,13 +92,14 @@ fn path_simplify(
     if room - n < 2 {
         return Count::Refused(Refusal::Room);
     }
+    let low = low_square(threshold);
     wait(out, 0, end - 1);
     let mut a = from;
     let mut m = n;
     let mut w = 1;
     while 0 < w {
         let b = waiting(out, w);
-        let s = split(path, a, b, threshold);
+        let s = split(path, a, b, threshold, low);
         if a < s {
             if room <= m + w + 1 {
                 return Count::Refused(Refusal::Room);
