@@ -1,0 +1,244 @@
+"""python3 -m larnt sheet YARD SHEET..: from the text of a yard to sheets."""
+from __future__ import annotations
+
+import argparse
+import dataclasses
+import math
+import pathlib
+import sys
+import time
+from typing import List, Optional, Sequence, Tuple
+
+from . import forms, matrices, plotter, progress, scene, sheets, solids
+from .camera import Camera, View
+from .drawing import Drawing
+from .library import Missing
+from .refusals import Refused
+from .scene import Scene
+from .sheets import Sheet
+from .solids import Cut, Placed, Solid
+
+COARSER = 8  # the draw that guesses the time has a step so many times as long
+
+
+def note(words: str) -> None:
+    print(f"sheet: {words}", file=sys.stderr)
+
+
+def arguments(given: Optional[Sequence[str]]) -> argparse.Namespace:
+    parser = argparse.ArgumentParser(prog="python3 -m larnt", description="Hidden-line drawings of yards by the proved library.")
+    commands = parser.add_subparsers(dest="command", required=True)
+    sheet = commands.add_parser("sheet", help="from the text of a yard to sheets", description="Draws a yard and writes sheets of it, each in the format of its ending: "
+                                ".svg, .hpgl or .plt (pen plotters), .dxf (CAD); .pdf and .png where rsvg-convert is at hand. Lengths on paper are millimetres.")
+    add = sheet.add_argument
+    add("yard", help="the text, or - for standard input")
+    add("sheets", nargs="+", metavar="sheet", help="the files to write")
+    add("--eye", nargs=3, type=float, metavar=("X", "Y", "Z"), help="where one looks from (default: the view of the text)")
+    add("--target", nargs=3, type=float, metavar=("X", "Y", "Z"), help="what one looks at (default: the middle of the yard where --eye is given)")
+    add("--fov", type=float, metavar="DEGREES", help="field of view, from the lower edge to the upper (default: that of the text, or 40)")
+    add("--step", type=float, metavar="MM", help="the longest piece between two tested points (default: that of the text; 0.5 without a view)")
+    add("--outlines", choices=("kept", "missing", "all"), help="round solids: the lines of the text as they stand (default), an outline where there are none, "
+        "or an outline for all in place of their lines (default where the eye is moved)")
+    add("--threshold", type=float, default=scene.FINE, help="of simplification (default %(default)g; 1e-4 for fewer vertices)")
+    add("--most-points", type=int, default=scene.MOST_POINTS, metavar="N", help="the most room that a draw is lent (default %(default)s)")
+    add("--paper", default="A4", help="A0 to A5, or WIDTHxHEIGHT in millimetres (default A4, landscape)")
+    add("--portrait", action="store_true", help="the paper upright")
+    add("--margin", nargs="+", type=float, default=[10.0], metavar="MM", help="one for all sides, or top, right, bottom and left (default 10)")
+    add("--line", type=float, default=0.25, metavar="MM", help="how wide a line is (default 0.25)")
+    add("--title", help="draws a frame and a title block with these words")
+    add("--note", action="append", default=[], help="a note in the title block; at most two (default: the yard and the eye)")
+    add("--parts", action="store_true", help="numbers the parts on the sheet, and lists them")
+    add("--dpi", type=float, default=150.0, help="of a PNG (default 150)")
+    return parser.parse_args(given)
+
+
+# ---- what is drawn
+
+
+def paper(words: str, portrait: bool) -> Tuple[float, float]:
+    try:
+        wide, high = sheets.PAPERS[words.upper()] if words.upper() in sheets.PAPERS else map(float, words.lower().split("x"))
+    except ValueError:
+        raise ValueError(f"--paper {words}: A0 to A5, or WIDTHxHEIGHT in millimetres, as 420x297") from None
+    if not (0 < wide < 1e5 and 0 < high < 1e5):
+        raise ValueError(f"--paper {words}: the sides must be above 0")
+    return (high, wide) if portrait else (wide, high)
+
+
+def laid_out(options: argparse.Namespace) -> Sheet:
+    """The sheet that the options ask for; what cannot be made is told before anything is drawn."""
+    if len(options.margin) not in (1, 4):
+        raise ValueError("--margin takes one number, or four: top, right, bottom, left")
+    margins = tuple(options.margin * (1 if len(options.margin) == 4 else 4))
+    if not options.line > 0:
+        raise ValueError("--line must be above 0")
+    if options.note and (len(options.note) > 2 or not options.title):
+        raise ValueError("--note is for a title block, which --title makes, and has room for two")
+    for path in options.sheets:
+        ending = pathlib.Path(path).suffix.lower()
+        if ending not in (*sheets.FORMATS, *sheets.CONVERTED):
+            raise ValueError(f"{path}: sheets end in {', '.join([*sheets.FORMATS, *sheets.CONVERTED])}")
+        if ending in sheets.CONVERTED:
+            sheets.converter()
+    return Sheet(paper(options.paper, options.portrait), margins, options.line, options.title, options.note)  # type: ignore[arg-type]
+
+
+def seen_by(options: argparse.Namespace, yard: forms.Yard, sheet: Sheet) -> View:
+    """The view of the text, or the one that the options ask for."""
+    view = yard.view
+    _, _, wide, high = sheet.area()
+    if view is None and options.eye is None:
+        raise ValueError("the yard has no (view ..), so say where one looks from: --eye X Y Z")
+    if options.eye or options.target or options.fov or view is None:
+        width, height, step = (view.width, view.height, view.step) if view else (wide, high, 0.5)
+        eye = options.eye or view.eye  # type: ignore[union-attr]
+        up = (0.0, 0.0, 1.0)
+        if options.target:
+            target = options.target
+        elif options.eye or view is None:
+            target = middle(yard.scene)
+        else:  # the field of view alone changes
+            if not view.field_of_view():
+                raise ValueError("the view of the text is no camera's, so --fov needs --eye or --target")
+            target, up = matrices.along(eye, view.matrix[3][:3], 1000.0), view.matrix[1][:3]
+        angle = options.fov or (view.field_of_view() if view else None) or 40.0
+        view = Camera(eye, target, up, angle, width, height, step).view()
+    if options.step is not None:
+        view = dataclasses.replace(view, step=options.step / sheet.scale(view.width, view.height))
+    return view
+
+
+def middle(of: Scene) -> List[float]:
+    boxes = of.boxes()
+    if not boxes:
+        raise ValueError("the yard has no solids, so say what to look at: --target X Y Z")
+    return [(min(low[k] for low, _ in boxes) + max(high[k] for _, high in boxes)) / 2 for k in range(3)]
+
+
+def outlined(solid: Solid, every: bool) -> Solid:
+    """The solid with outlines by the host, for every round part of it or for those without lines and stripes."""
+    if isinstance(solid, Placed):
+        return dataclasses.replace(solid, part=outlined(solid.part, every))
+    if isinstance(solid, Cut):
+        return dataclasses.replace(solid, first=outlined(solid.first, every), second=outlined(solid.second, every))
+    if isinstance(solid, solids.Round) and (every or bare(solid)):
+        return dataclasses.replace(solid, lines=None)
+    return solid
+
+
+def bare(solid: Solid) -> bool:
+    return isinstance(solid, solids.Round) and solid.lines == () and not solids.detail(solid)
+
+
+def every_solid(of: Sequence[Solid]) -> List[Solid]:
+    return [inner for solid in of for inner in [solid, *every_solid(solids.parts(solid))]]
+
+
+def with_outlines(options: argparse.Namespace, of: Scene) -> Tuple[Scene, List[str]]:
+    """The scene with the outlines that the options ask for, and what is to be noted of them."""
+    drawn = [part.solid for part in of.parts]
+    moved = bool(options.eye or options.target)
+    how = options.outlines or ("all" if moved else "kept")
+    if how == "kept":
+        lines = sorted({solid.source[0] for solid in every_solid(drawn) if bare(solid) and solid.source})
+        some = ", ".join(map(str, lines[:8])) + (", .." if len(lines) > 8 else "")
+        said = f"round solids without lines of their own, so nothing is drawn of them (text line {some}); --outlines missing draws them"
+        return of, [said] if lines else []
+    anew = moved and not options.outlines and any(isinstance(s, solids.Round) and s.lines for s in every_solid(drawn))
+    said = "the eye is moved, so the outlines of round solids are made anew and the text's lines for them left out; --outlines kept keeps these"
+    return Scene([outlined(solid, how == "all") for solid in drawn]), [said] if anew else []
+
+
+def drawn(of: Scene, view: View, options: argparse.Namespace) -> Drawing:
+    """Draws, with a bar where that takes longer than a second; a draw at a coarser step tells how long it may take."""
+    def draw(view: View) -> Drawing:
+        return of.draw(view, threshold=options.threshold, most_points=options.most_points)
+
+    begun = time.monotonic()
+    if 0 < view.step <= 1000 / COARSER:
+        try:
+            progress.shown(lambda: draw(dataclasses.replace(view, step=COARSER * view.step)), math.inf)
+        except Refused:
+            pass  # the draw itself says it
+    return progress.shown(lambda: draw(view), COARSER * (time.monotonic() - begun))
+
+
+# ---- the command
+
+
+def made(options: argparse.Namespace, text: str, sheet: Sheet) -> None:
+    yard = forms.read(text)
+    of, notes = with_outlines(options, yard.scene)
+    view = seen_by(options, forms.Yard(yard.view, of), sheet)
+    try:
+        drawing = drawn(of, view, options)
+    except Refused as refusal:
+        if refusal.number == 8 and view is yard.view and yard.view_at:
+            refusal.line, refusal.column = yard.view_at
+        raise
+    if sheet.title and not sheet.notes:
+        sheet.notes = [pathlib.Path(options.yard).name, "eye " + " ".join(f"{x:g}" for x in view.eye)]
+    labels, unseen = sheets.numbered(of, view) if options.parts else ([], [])
+    laid = sheet.laid(drawing, labels)
+    for path in options.sheets:
+        sheets.write(laid, path, options.dpi)
+        print(f"{path}: {len(drawing.paths)} lines on {sheet.paper[0]:g} x {sheet.paper[1]:g} mm")
+    if options.parts:
+        for part in of.parts:
+            line = f", text line {part.solid.source[0]}" if part.solid.source else ""
+            print(f"part {part.number}: {described(part.solid)}{line}{', not seen from here' if part in unseen else ''}")
+    if any(path.endswith((".hpgl", ".plt")) for path in options.sheets) and not plotter.there():
+        notes.append("the pen goes in the drawing's order: its way is picked where libhost_plotter.a is at hand (rt staticlib host_plotter)")
+    for said in notes:
+        note(said)
+
+
+def described(solid: Solid) -> str:
+    word = ("closed " if getattr(solid, "closed", False) else "") + type(solid).__name__.lower()
+    inner = [described(part) for part in solids.parts(solid)]
+    return f"{word} {' and '.join(inner)}" if inner else word
+
+
+def excerpt(line: str, column: int) -> List[str]:
+    """What stands about a column, and a mark under it."""
+    first = max(0, column - 41)
+    before = ".." if first else ""
+    shown = before + line[first : first + 80] + (".." if len(line) > first + 80 else "")
+    return [f"    {shown}", "    " + " " * (len(before) + column - 1 - first) + "^"]
+
+
+def refusal_said(refusal: Refused, name: str, text: str) -> str:
+    where = f"{name}, line {refusal.line}, column {refusal.column}" if refusal.line else name
+    rows = [f"sheet: {where}: {refusal.wrong or refusal.words}"]
+    if refusal.line and refusal.column:
+        rows += excerpt(text.split("\n")[refusal.line - 1], refusal.column)
+    return "\n".join(rows + ([f"refusal {refusal.number}: {refusal.words}"] if refusal.wrong else [f"refusal {refusal.number}"]))
+
+
+def main(given: Optional[Sequence[str]] = None) -> int:
+    options = arguments(given)
+    name = "standard input" if options.yard == "-" else options.yard
+    text = ""
+    try:
+        sheet = laid_out(options)
+        text = (sys.stdin.buffer.read() if options.yard == "-" else pathlib.Path(options.yard).read_bytes()).decode("utf-8", "replace")
+        made(options, text, sheet)
+    except Refused as refusal:
+        print(refusal_said(refusal, name, text), file=sys.stderr)
+        return 1
+    except BrokenPipeError:  # nobody reads what is said
+        return 1
+    except OSError as error:
+        note(f"{error.filename or name}: {error.strerror}")
+        return 1
+    except (ValueError, Missing, sheets.NoConverter) as error:
+        note(str(error))
+        return 1
+    except KeyboardInterrupt:
+        note("stopped")
+        return 130
+    return 0
+
+
+if __name__ == "__main__":
+    sys.exit(main())

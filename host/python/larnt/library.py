@@ -1,0 +1,115 @@
+"""The proved library as a shared object, and the types of its calls (host/larnt.h).
+
+`rt staticlib host` writes the proved archive target/staticlib/libhost.a; the system's C compiler makes a shared
+object of it, once, beside it. LARNT_STATICLIB names another folder with the archive, CC another compiler.
+"""
+from __future__ import annotations
+
+import ctypes
+import functools
+import os
+import pathlib
+import subprocess
+from ctypes import POINTER, c_bool, c_double, c_size_t, c_uint8, c_uint16, c_uint32
+from typing import Sequence
+
+ENTRIES = 1024  # the most entries of a scene
+NOBODY = 0xFFFFFFFF  # the entry that is named where none is
+
+# a slice is a pointer and a count of elements
+NUMBERS, MARKS, PLACES, BYTES = ([POINTER(kind), c_size_t] for kind in (c_double, c_uint32, c_size_t, c_uint8))
+SCENE = NUMBERS + MARKS + NUMBERS + PLACES + MARKS
+TREE = NUMBERS + MARKS + MARKS
+COUNT, FLAG, ROW = POINTER(c_size_t), POINTER(c_bool), POINTER(c_double)
+FILLED = NUMBERS + PLACES + NUMBERS + PLACES + NUMBERS + PLACES + NUMBERS + MARKS + MARKS + [COUNT, COUNT]
+
+HOST = {
+    "larnt_check": SCENE + [ROW, ROW, POINTER(c_uint32), COUNT],
+    "larnt_build": SCENE + TREE + [COUNT],
+    "larnt_intersect": SCENE + TREE + [ROW, ROW, FLAG, POINTER(c_uint32)],
+    "larnt_visible": SCENE + TREE + [ROW, ROW, FLAG],
+    "larnt_occluder": SCENE + TREE + [ROW, ROW, POINTER(c_uint32)],
+    "larnt_covered_all": SCENE + TREE + [ROW] + NUMBERS + BYTES,
+    "larnt_draw_with": SCENE + [ROW, c_double] + FILLED,
+}
+
+
+class Registers(ctypes.Structure):
+    """`larnt_registers`: where the pen is, where the last accepted move goes, and the eight bytes."""
+
+    _fields_ = [("pen", c_uint16 * 2), ("target", c_uint16 * 2), ("bytes", c_uint8 * 8)]
+
+
+PLOTTER = {
+    "larnt_pick": NUMBERS + PLACES + NUMBERS + PLACES + [ROW] + BYTES + [FLAG, COUNT, COUNT, COUNT],
+    "larnt_plotter_write": [POINTER(Registers), c_size_t, c_uint8],
+    "larnt_plotter_step": [POINTER(Registers)],
+}
+
+
+class Missing(Exception):
+    """The library is not there, or could not be made; the message says what to do."""
+
+
+def folder() -> pathlib.Path:
+    """Where the archives stand."""
+    named = os.environ.get("LARNT_STATICLIB")
+    return pathlib.Path(named) if named else pathlib.Path(__file__).resolve().parents[3] / "target" / "staticlib"
+
+
+def shared(name: str) -> pathlib.Path:
+    """The shared object of the archive libNAME.a; it has the archive's time, and is made anew where that is another."""
+    archive, made = folder() / f"lib{name}.a", folder() / f"lib{name}.so"
+    if not archive.exists():
+        raise Missing(f"{archive} is not there: run `rt staticlib {name}` in the clone, or name the folder that has it in LARNT_STATICLIB")
+    time = archive.stat().st_mtime_ns
+    if made.exists() and made.stat().st_mtime_ns == time:
+        return made
+    fresh = made.with_suffix(f".{os.getpid()}.so")
+    command = [os.environ.get("CC", "cc"), "-shared", "-o", str(fresh), "-Wl,--whole-archive", str(archive), "-Wl,--no-whole-archive", "-Wl,-z,defs"]
+    try:
+        subprocess.run(command, check=True, capture_output=True, text=True)
+    except FileNotFoundError:
+        raise Missing(f"no C compiler: `{command[0]}` is not there, and it links the shared object; CC names another") from None
+    except subprocess.CalledProcessError as error:
+        raise Missing(f"the shared object could not be linked: {' '.join(command)}\n{error.stderr}") from None
+    os.utime(fresh, ns=(time, time))
+    os.replace(fresh, made)
+    return made
+
+
+def loaded(name: str, calls: dict) -> ctypes.CDLL:
+    opened = ctypes.CDLL(str(shared(name)))
+    for call, types in calls.items():
+        if not hasattr(opened, call):
+            raise Missing(f"{folder() / f'lib{name}.a'} has no call {call}: run `rt staticlib {name}` anew")
+        function = getattr(opened, call)
+        function.argtypes, function.restype = types, c_uint32
+    return opened
+
+
+@functools.lru_cache(maxsize=None)
+def host() -> ctypes.CDLL:
+    """The calls on scenes, trees and draws."""
+    return loaded("host", HOST)
+
+
+@functools.lru_cache(maxsize=None)
+def plotter() -> ctypes.CDLL:
+    """The pen's way and the plotter's registers."""
+    opened = loaded("host_plotter", PLOTTER)
+    opened.larnt_plotter_step.restype = None
+    return opened
+
+
+def numbers(values: Sequence[float]) -> "ctypes.Array[c_double]":
+    """An array that is never empty: the calls take no null pointer."""
+    return (c_double * max(1, len(values)))(*values)
+
+
+def marks(values: Sequence[int]) -> "ctypes.Array[c_uint32]":
+    return (c_uint32 * max(1, len(values)))(*values)
+
+
+def places(values: Sequence[int]) -> "ctypes.Array[c_size_t]":
+    return (c_size_t * max(1, len(values)))(*values)

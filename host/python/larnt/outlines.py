@@ -1,0 +1,126 @@
+"""The outlines of round solids, made by the host, since angles are no business of the core.
+
+An outline stands off its surface a little. The core tests points: a point of an outline that lies on the surface, or
+under it where a chord of a ring cuts the corner, is hidden by the very solid whose outline it is, wherever rounding
+puts the wall between it and the eye. So a ring is as much wider as makes its chords clear the wall too, and by OFF of
+the radius more: by a 500th of it in all with the 72 points of a default ring. (A solid that reaches to the core's
+limit of 1,000,000 meets refusal 9 by an outline that stands off.)
+
+Within a cut lines must lie on the surface: a cut keeps a line only where it is within a thousandth of the cut. There
+the rings are exact, and have so many points that no chord is longer than the step on the sheet: a longer one is
+halved by the core, and its middle lies off the surface. The edges stand a little on this side of where the wall
+turns away.
+"""
+from __future__ import annotations
+
+import math
+from typing import List, Optional, Sequence, Union
+
+from . import matrices
+from .camera import View
+from .matrices import Matrix, Vector
+from .solids import Cone, Cylinder, Lines, Sphere
+
+OFF = 0.001  # how far off the surface, in radii
+TURNED = 0.01  # how far on this side an edge of a cut's part stands, in radians
+FINEST = 6144  # the most points of a ring in a cut
+
+Line = List[Vector]
+
+
+def circle(centre: Sequence[float], u: Sequence[float], v: Sequence[float], r: float, points: int) -> Line:
+    """About a centre, by two directions of length 1; its first point comes again."""
+    turns = [2 * math.pi * k / points for k in range(points)]
+    ring = [matrices.along(matrices.along(centre, u, r * math.cos(t)), v, r * math.sin(t)) for t in turns]
+    return ring + ring[:1]
+
+
+def off(r: float, points: int) -> float:
+    """The radius of a ring whose chords clear the surface too."""
+    return r / math.cos(math.pi / points) + OFF * r
+
+
+def chord(ring: Line, world: Matrix, view: View) -> float:
+    """The longest piece of a ring on the sheet; what is behind the eye has none."""
+    spots = [view.spot(matrices.placed(world, p)) for p in ring]
+    return max((math.dist(a, b) for a, b in zip(spots, spots[1:]) if a and b), default=0.0)
+
+
+class Outliner:
+    """Makes the lines of round solids as a view sees them, where `world` takes a solid's coordinates to the scene's."""
+
+    def __init__(self, view: View, world: Matrix, in_cut: bool) -> None:
+        self.view, self.world, self.in_cut = view, world, in_cut
+        try:
+            self.eye: Optional[Vector] = matrices.placed(matrices.inverse(world), view.eye)
+        except ValueError:  # the core will refuse the placing
+            self.eye = None
+
+    def ring(self, centre: Sequence[float], u: Sequence[float], v: Sequence[float], r: float, points: int) -> Line:
+        made = circle(centre, u, v, r if self.in_cut else off(r, points), points)
+        while self.in_cut and self.view.step > 0 and len(made) <= FINEST and chord(made, self.world, self.view) > self.view.step:
+            points *= 2
+            made = circle(centre, u, v, r, points)
+        return made
+
+    def level(self, r: float, z: float, points: int) -> Line:
+        return self.ring((0, 0, z), (1, 0, 0), (0, 1, 0), r, points)
+
+    def edges(self, cosine: float) -> List[float]:
+        """The angles at which a wall turns away from the eye; none where all of it, or nothing, is turned to it."""
+        if self.eye is None or not abs(cosine) <= 1:
+            return []
+        middle, half = math.atan2(self.eye[1], self.eye[0]), math.acos(cosine)
+        half = max(0.0, half - TURNED) if self.in_cut else half
+        return [middle - half, middle + half]
+
+    def sphere(self, solid: Sphere) -> List[Line]:
+        """The circle in which the ball turns away from the eye; none where the eye is in it."""
+        if self.eye is None:
+            return []
+        r = solid.radius if self.in_cut else off(solid.radius, solid.points)
+        to = matrices.minus(solid.centre, self.eye)
+        far = matrices.length(to)
+        if not far > r:
+            return []
+        w, sine = matrices.unit(to), r / far
+        cosine = math.sqrt(1 - sine * sine)
+        u = matrices.unit(matrices.cross(w, (0, 0, 1) if abs(w[2]) < 0.9 else (1, 0, 0)))
+        centre = matrices.along(self.eye, w, cosine * cosine * far)
+        if self.in_cut:
+            return [self.ring(centre, u, matrices.cross(w, u), cosine * r, 3 * solid.points)]
+        return [circle(centre, u, matrices.cross(w, u), cosine * r, solid.points)]
+
+    def cylinder(self, solid: Cylinder) -> List[Line]:
+        r, points = solid.radius, solid.points
+        lines = [self.level(r, z, points) for z in (solid.low, *solid.rings, solid.high)]
+        far = math.hypot(*self.eye[:2]) if self.eye else 0.0
+        out = r if self.in_cut else off(r, points)
+        for t in self.edges(r / far if far > 0 else 2.0):
+            x, y = out * math.cos(t), out * math.sin(t)
+            lines.append([(x, y, solid.low), (x, y, solid.high)])
+        return lines
+
+    def cone(self, solid: Cone) -> List[Line]:
+        r, h, points = solid.radius, solid.height, solid.points
+        out, up = (r, 0.0) if self.in_cut else (off(r, points), OFF * r)
+        below = self.eye is not None and self.eye[2] < 0  # the rim stands off on the eye's side of the base
+        lines = [self.level(r, -up if below else up, points)] if solid.rim else []
+        far = math.hypot(*self.eye[:2]) if self.eye else 0.0
+        turns = self.edges(r * (h - self.eye[2]) / (h * far) if self.eye and far > 0 and h > 0 else 2.0)
+        turns += [2 * math.pi * (k + 0.5) / solid.slopes for k in range(solid.slopes)]
+        return lines + [[(out * math.cos(t), out * math.sin(t), 0.0), (0.0, 0.0, h + 2 * up)] for t in turns]
+
+    def lines(self, solid: Union[Sphere, Cylinder, Cone]) -> Lines:
+        """Those that were handed in, or the outline."""
+        if solid.lines is not None:
+            return solid.lines
+        if solid.points < 3:
+            raise ValueError(f"a ring has 3 points or more, not {solid.points}")
+        if not solid.radius > 0 or not math.isfinite(solid.radius):  # nothing to draw, or for the core to refuse
+            return ()
+        if isinstance(solid, Sphere):
+            made = self.sphere(solid)
+        else:
+            made = self.cylinder(solid) if isinstance(solid, Cylinder) else self.cone(solid)
+        return tuple(map(tuple, made))

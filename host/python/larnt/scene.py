@@ -1,0 +1,276 @@
+"""A scene: solids as one thinks of them, handed to the proved library, which draws them and answers for them."""
+from __future__ import annotations
+
+from ctypes import byref, c_bool, c_double, c_size_t, c_uint8, c_uint32
+from dataclasses import dataclass
+from typing import Dict, Iterator, List, Optional, Sequence, Tuple, Union
+
+from . import diagnosis, library, matrices, solids
+from .camera import Camera, View, as_view
+from .drawing import Drawing
+from .matrices import IDENTITY, Matrix, Vector
+from .outlines import Outliner
+from .refusals import Refused
+from .solids import POINTS, Cone, Cube, Cut, Cylinder, Placed, Solid, Sphere, Triangle
+
+FINE, COARSE = 1e-6, 1e-4  # thresholds of simplification: of a sheet in fine detail, and of `larnt_draw`
+FIRST_POINTS, MOST_POINTS = 4096, 1 << 21  # the room that a draw is lent at first, and at most
+
+Seen = Union[View, Camera]
+
+
+class Slices:
+    """A scene as the library takes it: five slices, and which solid each entry is."""
+
+    def __init__(self) -> None:
+        self.numbers: List[float] = []
+        self.marks: List[int] = []
+        self.points: List[float] = []
+        self.starts: List[int] = []
+        self.owners: List[int] = []
+        self.entries: List[Solid] = []
+        self.worlds: List[Matrix] = []  # what takes an entry's coordinates to the scene's
+        self.drawn: Dict[int, "Part"] = {}  # the parts by their entries
+
+    def enter(self, solid: Solid, view: Optional[View], world: Matrix = IDENTITY, in_cut: bool = False) -> int:
+        """Adds a solid, its parts first; answers its entry. Without a view there are no lines."""
+        inner = matrices.product(world, solid.matrix) if isinstance(solid, Placed) else world
+        named = [self.enter(part, view, inner, in_cut or isinstance(solid, Cut)) for part in solids.parts(solid)]
+        entry, used = len(self.entries), solids.measures(solid)
+        self.entries.append(solid)
+        self.worlds.append(world)
+        self.numbers += [*used, *[0.0] * (16 - len(used))]
+        self.marks += [solids.kind(solid), solids.detail(solid), *named, *[0] * (2 - len(named))]
+        if isinstance(solid, solids.Round):
+            for line in Outliner(view, world, in_cut).lines(solid) if view else ():
+                self.starts.append(len(self.points) // 3)
+                self.owners.append(entry)
+                self.points += [x for p in line for x in p]
+        return entry
+
+    def arguments(self) -> list:
+        """The five slices, each a pointer and a count."""
+        made = [library.numbers(self.numbers), library.marks(self.marks), library.numbers(self.points), library.places(self.starts), library.marks(self.owners)]
+        counts = map(len, (self.numbers, self.marks, self.points, self.starts, self.owners))
+        return [x for pair in zip(made, counts) for x in pair]
+
+
+class Tree:
+    """The tree that the library built of a scene, for its queries; 9, 11 and 12 are refusals of a point's own."""
+
+    def __init__(self, slices: Slices) -> None:
+        self.slices, self.scene = slices, slices.arguments()
+        nodes = 2 * len(slices.entries) + 1  # a tree with a leaf an entry
+        self.rows = [(c_double * (6 * nodes))(), 6 * nodes, (c_uint32 * (3 * nodes))(), 3 * nodes, (c_uint32 * nodes)(), nodes]
+        answer = library.host().larnt_build(*self.scene, *self.rows, byref(c_size_t()))
+        if answer:
+            raise diagnosis.refused(answer, slices)
+
+    def ask(self, call: str, *asked: object) -> None:
+        answer = getattr(library.host(), call)(*self.scene, *self.rows, *asked)
+        if answer:
+            raise Refused(answer)
+
+
+@dataclass(eq=False)
+class Part:
+    """A drawn solid of a scene: an adviser's numbered part. `number` counts from 1 in the order of drawing."""
+
+    solid: Solid
+    name: Optional[str] = None
+    number: int = 0
+
+    def title(self) -> str:
+        return self.name or f"part {self.number}"
+
+
+class Scene:
+    """Solids that are drawn together, in the order in which they were added."""
+
+    def __init__(self, drawn: Sequence[Solid] = ()) -> None:
+        self.parts: List[Part] = []
+        self._tree: Optional[Tree] = None
+        for solid in drawn:
+            self.add(solid)
+
+    # ---- building
+
+    def add(self, solid: Solid, name: Optional[str] = None) -> Part:
+        """A solid that was made by itself; the methods below make one and add it. Each answers the part."""
+        part = Part(solid, name, len(self.parts) + 1)
+        self.parts.append(part)
+        self._tree = None
+        return part
+
+    def taken(self, part: Union[Part, Solid]) -> Solid:
+        """The solid, which is no longer drawn by itself if it was a part of this scene."""
+        if not isinstance(part, Part):
+            return part
+        if part not in self.parts:
+            raise ValueError(f"{part.title()} is no part of this scene, or is one no longer")
+        self.parts.remove(part)
+        for number, other in enumerate(self.parts, 1):
+            other.number = number
+        self._tree = None
+        return part.solid
+
+    def _put(self, solid: Solid, at: Optional[Sequence[float]], name: Optional[str]) -> Part:
+        return self.add(solid if at is None else Placed(matrices.moved(*at), solid), name)
+
+    def sphere(
+        self, centre: Sequence[float], radius: float, *, lines: Optional[Sequence] = None, points: int = POINTS, name: Optional[str] = None
+    ) -> Part:
+        """A ball; its `lines` are by default its outline (solids.py, outlines.py)."""
+        return self.add(Sphere(matrices.vector(centre), float(radius), solids.hand_in(lines), points), name)
+
+    def cylinder(
+        self, radius: float, low: float, high: float, *, at: Optional[Sequence[float]] = None, stripes: int = 0, closed: bool = False,
+        lines: Optional[Sequence] = None, points: int = POINTS, rings: Sequence[float] = (), name: Optional[str] = None,
+    ) -> Part:
+        """A tube about the Z axis from `low` to `high`, moved to `at`; `closed` has a disc at either end."""
+        made = Cylinder(float(radius), float(low), float(high), stripes, closed, solids.hand_in(lines), points, tuple(rings))
+        return self._put(made, at, name)
+
+    def cone(
+        self, radius: float, height: float, *, at: Optional[Sequence[float]] = None, stripes: int = 0, closed: bool = False,
+        lines: Optional[Sequence] = None, points: int = POINTS, slopes: int = 0, rim: bool = True, name: Optional[str] = None,
+    ) -> Part:
+        """A cone about the Z axis, its base at 0 and its apex at `height`, moved to `at`; `closed` has a disc at its base."""
+        return self._put(Cone(float(radius), float(height), stripes, closed, solids.hand_in(lines), points, slopes, rim), at, name)
+
+    def cube(self, low: Sequence[float], high: Sequence[float], *, stripes: int = 1, name: Optional[str] = None) -> Part:
+        """A box, from its least corner to its greatest."""
+        return self.add(Cube(matrices.vector(low), matrices.vector(high), stripes), name)
+
+    def triangle(self, a: Sequence[float], b: Sequence[float], c: Sequence[float], *, name: Optional[str] = None) -> Part:
+        """By its three corners."""
+        return self.add(Triangle(matrices.vector(a), matrices.vector(b), matrices.vector(c)), name)
+
+    def pipe(self, start: Sequence[float], end: Sequence[float], radius: float, *, name: Optional[str] = None, **more: int) -> Part:
+        """A tube from one point to another (solids.pipe)."""
+        return self.add(solids.pipe(start, end, radius, **more), name)
+
+    def silo(
+        self, radius: float, height: float, roof: float, *, at: Sequence[float] = (0, 0, 0), stripes: int = 0, slopes: int = 6,
+        closed: bool = False, name: Optional[str] = None,
+    ) -> Tuple[Part, Part]:
+        """A tube and its roof, a cone, whose rim is the tube's."""
+        tube = self.cylinder(radius, 0, height, at=at, stripes=stripes, closed=closed, name=name)
+        top = (at[0], at[1], at[2] + height)
+        return tube, self.cone(radius, roof, at=top, slopes=slopes, rim=False, name=f"{name}, roof" if name else None)
+
+    def place(self, matrix: Sequence[Sequence[float]], part: Union[Part, Solid], *, name: Optional[str] = None) -> Part:
+        """A part taken to its place; a part of this scene is then drawn there alone."""
+        return self.add(Placed(matrices.matrix(matrix), self.taken(part)), name)
+
+    def cut(self, operation: int, first: Union[Part, Solid], second: Union[Part, Solid], *, name: Optional[str] = None) -> Part:
+        """What an operation leaves of two parts; parts of this scene are then drawn as the cut alone."""
+        return self.add(Cut(int(operation), self.taken(first), self.taken(second)), name)
+
+    # ---- what the library is handed
+
+    def slices(self, view: Optional[View] = None) -> Slices:
+        """Without a view, the solids alone."""
+        made = Slices()
+        for part in self.parts:
+            made.drawn[made.enter(part.solid, view)] = part
+        return made
+
+    def tree(self) -> Tree:
+        """Built once, until a part is added or taken."""
+        if self._tree is None:
+            self._tree = Tree(self.slices())
+        return self._tree
+
+    # ---- asking
+
+    def visible(self, eye: Sequence[float], point: Sequence[float]) -> bool:
+        """Whether the eye sees a point past the solids."""
+        seen = c_bool()
+        self.tree().ask("larnt_visible", library.numbers(matrices.vector(eye)), library.numbers(matrices.vector(point)), byref(seen))
+        return seen.value
+
+    def why_hidden(self, eye: Sequence[float], point: Sequence[float]) -> Optional[Part]:
+        """The part that hides a point from the eye; None where it is visible."""
+        entry = c_uint32()
+        self.tree().ask("larnt_occluder", library.numbers(matrices.vector(eye)), library.numbers(matrices.vector(point)), byref(entry))
+        return None if entry.value == library.NOBODY else self.tree().slices.drawn[entry.value]
+
+    def told(self, eye: Sequence[float], points: Sequence[Sequence[float]]) -> bytes:
+        """Of many points at once a byte each: 1 seen, 2 not, or the number of the point's own refusal, 9, 11 or 12."""
+        tested = [float(x) for p in points for x in matrices.vector(p)]
+        room = max(1, len(points))
+        filled = (c_uint8 * room)()
+        self.tree().ask("larnt_covered_all", library.numbers(matrices.vector(eye)), library.numbers(tested), len(tested), filled, room)
+        return bytes(filled[: len(points)])
+
+    def covered(self, eye: Sequence[float], points: Sequence[Sequence[float]]) -> List[bool]:
+        """Of many points at once whether a solid covers each; the first point with a refusal of its own raises it."""
+        answers = self.told(eye, points)
+        for k, answer in enumerate(answers):
+            if answer > 2:
+                raise Refused(answer, f"point {k}, {tuple(points[k])}, has no answer")
+        return [answer == 2 for answer in answers]
+
+    def first_met(self, eye: Sequence[float], point: Sequence[float]) -> Optional[Tuple[Part, Vector]]:
+        """The part that a look from the eye towards a point meets first, and where; None where it meets none."""
+        way = matrices.unit(matrices.minus(point, eye))
+        t, ok, entry = c_double(), c_bool(), c_uint32()
+        self.tree().ask("larnt_intersect", library.numbers([*matrices.vector(eye), *way]), byref(t), byref(ok), byref(entry))
+        return (self.tree().slices.drawn[entry.value], matrices.along(eye, way, t.value)) if ok.value else None
+
+    def boxes(self) -> List[Tuple[Vector, Vector]]:
+        """The box of each part, by its least and its greatest corner; a `Refused` where the scene is not accepted."""
+        made = self.slices()
+        rows, ignored = (c_double * (6 * library.ENTRIES))(), (c_double * (16 * library.ENTRIES))()
+        answer = library.host().larnt_check(*made.arguments(), ignored, rows, (c_uint32 * library.ENTRIES)(), byref(c_size_t()))
+        if answer:
+            raise diagnosis.refused(answer, made)
+        return [(tuple(rows[6 * e : 6 * e + 3]), tuple(rows[6 * e + 3 : 6 * e + 6])) for e in made.drawn]  # type: ignore[misc]
+
+    def lined(self, view: View) -> Slices:
+        """The slices with all lines; outlines are made only of a scene that is accepted, as a view of fair numbers sees it."""
+        self.boxes()
+        return self.slices(None if any(diagnosis.view_troubles(view, None)) else view)
+
+    # ---- drawing
+
+    def draw(self, seen: Seen, *, threshold: float = FINE, most_points: int = MOST_POINTS) -> Drawing:
+        """The lines that the view sees. The room lent to the core grows until the drawing fits, up to `most_points`."""
+        view = as_view(seen)
+        made = self.lined(view)
+        for points in rooms(made, most_points):
+            answer, drawing = attempt(made, view, threshold, points)
+            if answer != 13:
+                break
+        if answer:
+            raise diagnosis.refused(answer, made, view, threshold, most_points)
+        return drawing
+
+
+def rooms(made: Slices, most: int) -> Iterator[int]:
+    """The rooms to try, in points. Most draws that do not fit say so at the chop, before the eye tests, which take most
+    of the time. A call that counts before drawing would leave one room to try."""
+    points = max(1, min(most, max(FIRST_POINTS, len(made.points) // 3)))
+    yield points
+    while points < most:
+        points = min(2 * points, most)
+        yield points
+
+
+def attempt(made: Slices, view: View, threshold: float, points: int) -> Tuple[int, Drawing]:
+    """One call of the library with room for so many points; its answer, and the drawing where that is 0."""
+    nodes = 2 * len(made.entries) + 1
+
+    def slots(kind: type, count: int) -> list:
+        return [(kind * count)(), count]
+
+    out, begins = slots(c_double, 3 * points), slots(c_size_t, points)
+    work = slots(c_double, 8 * 3 * points) + slots(c_size_t, 8 * points) + slots(c_double, 3 * points) + slots(c_size_t, points)
+    tree = slots(c_double, 6 * nodes) + slots(c_uint32, 3 * nodes) + slots(c_uint32, nodes)
+    points_out, paths_out = c_size_t(), c_size_t()
+    answer = library.host().larnt_draw_with(*made.arguments(), library.numbers(view.numbers()), threshold, *out, *begins, *work, *tree, byref(points_out), byref(paths_out))
+    numbers, starts = out[0][: 3 * points_out.value], begins[0][: paths_out.value]
+    rows = list(zip(numbers[0::3], numbers[1::3], numbers[2::3]))
+    paths = [rows[a:b] for a, b in zip(starts, [*starts[1:], points_out.value])]
+    return answer, Drawing(view.width, view.height, paths)
