@@ -12,7 +12,7 @@ const PAINTED: usize = 48 << 20;
 const PAINT: u8 = 0xA5;
 
 /// What host/larnt.h says that a draw's local arrays take, and the little that is left beside them.
-const ARRAYS: usize = 201 << 10;
+const ARRAYS: usize = 214 << 10;
 const LITTLE: usize = 256 << 10;
 
 pub fn run() {
@@ -102,10 +102,14 @@ fn within<T: Send>(stack: usize, work: impl FnOnce() -> T + Send) -> T {
     })
 }
 
-/// Cuts in cuts, as deep as a scene may nest them.
-fn cuts() -> Scene {
+/// Cuts in cuts, as deep as a scene may nest them: of a box, or of a tube with stripes.
+fn cuts(striped: bool) -> Scene {
     let mut scene = Scene::default();
-    let mut so_far = scene.push([4, 1, 0, 0], &[-500.0, -500.0, -500.0, 500.0, 500.0, 500.0]);
+    let mut so_far = if striped {
+        scene.push([2, 8, 0, 0], &[500.0, -500.0, 500.0])
+    } else {
+        scene.push([4, 1, 0, 0], &[-500.0, -500.0, -500.0, 500.0, 500.0, 500.0])
+    };
     for k in 0..7 {
         let at = 100.0 * f64::from(k) - 400.0;
         let b = scene.push([4, 1, 0, 0], &[at, at, at, at + 50.0, at + 50.0, 600.0]);
@@ -116,7 +120,7 @@ fn cuts() -> Scene {
 
 /// The check of a scene, and the questions that a host asks of one: each goes through all the cuts.
 fn questions() {
-    let scene = cuts();
+    let scene = cuts(false);
     let last = scene.entries() - 1;
     let (eye, point) = ([-380.0, -380.0, 9000.0], [-380.0, -380.0, -9000.0]);
     let ray = [eye[0], eye[1], eye[2], 0.0, 0.0, -1.0];
@@ -163,7 +167,8 @@ fn draw() {
     for (name, scene, step) in [
         ("800 equal boxes", same, 0.0),
         ("2,048 points to and fro", line, 1000.0),
-        ("7 cuts", cuts(), 100.0),
+        ("7 cuts", cuts(false), 100.0),
+        ("7 cuts of a striped tube", cuts(true), 100.0),
     ] {
         let view = View { matrix, eye, width: 1000.0, height: 1000.0, step };
         let mut points = 0;
