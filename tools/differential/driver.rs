@@ -3,6 +3,7 @@
 //!
 //!     driver compare SEED COUNT [LAYER..]   COUNT cases a function; ends with 1 if anything differs
 //!     driver speed [LAYER..]
+//!     driver growth                       draws of 10, 100 and 1,000 solids at steps 4, 1 and 0.25, timed
 //!     driver demand SEED COUNT              COUNT questions of demand 3 on hiding, and COUNT / 1000 draws
 //!     driver stack
 //!     driver travel DRAWING..             how far the pen travels up, in order and as picked
@@ -90,6 +91,11 @@ fn command(words: &[&str]) -> Option<bool> {
             Some(demand::draws(seed, count.div_ceil(1000)) && asked)
         }
         ["travel", files @ ..] => Some(pens::travel(files)),
+        ["growth"] => {
+            harness::times_header();
+            draws::growth();
+            Some(true)
+        }
         ["stack"] => {
             stack::run();
             Some(true)
@@ -107,7 +113,7 @@ fn main() -> ExitCode {
         Some(false) => ExitCode::FAILURE,
         None => {
             eprintln!(
-                "usage: driver compare SEED COUNT [LAYER..] | speed [LAYER..] | demand SEED COUNT | stack | travel DRAWING.."
+                "usage: driver compare SEED COUNT [LAYER..] | speed [LAYER..] | growth | demand SEED COUNT | stack | travel DRAWING.."
             );
             ExitCode::from(2)
         }
