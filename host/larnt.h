@@ -129,6 +129,15 @@ uint32_t larnt_covered_all(LARNT_SCENE, LARNT_TREE, const double eye[3], const d
 uint32_t larnt_chop(const double view[22], const double *points, size_t points_count, const size_t *starts,
                     size_t starts_count, LARNT_PATHS);
 
+/* The outline that a draw's first step adds for a round solid that has neither stripes nor handed-in lines, in the
+   solid's own coordinates: rings, then lines. The solid is one of kinds 1 to 5, 8 or 9 with its 16 numbers, as above
+   (cubes and triangles have no outline). `eye` is the eye as the solid sees it, taken back through each placing's
+   inverse, outermost first; `place` is the product of the placings' matrices, outermost first, from the identity on;
+   the view is the draw's own, as for larnt_chop. Fills paths as larnt_chop does. 3 for any other kind, 8 for the
+   view, 13; the numbers of the solid, of `eye` and of `place` are not judged. */
+uint32_t larnt_outline(uint32_t kind, const double numbers[16], const double eye[3], const double place[16],
+                       const double view[22], LARNT_PATHS);
+
 /* The paths simplified. */
 uint32_t larnt_simplify(const double *points, size_t points_count, const size_t *starts, size_t starts_count,
                         double threshold, LARNT_PATHS);

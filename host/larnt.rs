@@ -40,6 +40,19 @@ pub mod raw {
             points_out: &mut usize,
             paths_out: &mut usize,
         ) -> u32;
+        pub fn larnt_outline(
+            kind: u32,
+            numbers: &[f64; 16],
+            eye: &[f64; 3],
+            place: &[f64; 16],
+            view: &[f64; 22],
+            out: *mut f64,
+            out_count: usize,
+            begins: *mut usize,
+            begins_count: usize,
+            points_out: &mut usize,
+            paths_out: &mut usize,
+        ) -> u32;
         pub fn larnt_simplify(
             points: *const f64,
             points_count: usize,
@@ -502,6 +515,40 @@ pub fn chop(
             points.len(),
             starts.as_ptr(),
             starts.len(),
+            out.as_mut_ptr(),
+            out.len(),
+            begins.as_mut_ptr(),
+            begins.len(),
+            &mut n,
+            &mut m,
+        )
+    };
+    if number == 0 {
+        Ok((n, m))
+    } else {
+        Err(number)
+    }
+}
+
+/// The same of the outline that step 1 of a draw adds for a solid without lines, in its own coordinates: by the eye
+/// there, the product of its placings, and the draw's view.
+pub fn outline(
+    kind: u32,
+    numbers: &[f64; 16],
+    eye: &[f64; 3],
+    place: &[f64; 16],
+    view: &[f64; 22],
+    out: &mut [f64],
+    begins: &mut [usize],
+) -> Result<(usize, usize), u32> {
+    let (mut n, mut m) = (0, 0);
+    let number = unsafe {
+        raw::larnt_outline(
+            kind,
+            numbers,
+            eye,
+            place,
+            view,
             out.as_mut_ptr(),
             out.len(),
             begins.as_mut_ptr(),

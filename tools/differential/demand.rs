@@ -18,6 +18,7 @@ use oracle::larnt_plain::matrix::Matrix;
 use oracle::larnt_plain::path::Paths;
 use oracle::larnt_plain::shape::Shape;
 use oracle::larnt_plain::vector::Vector;
+use oracle::outlines::with_outlines;
 use oracle::{COARSE, Lines, Scene, Trouble, View, plain};
 use std::cell::RefCell;
 
@@ -139,7 +140,7 @@ fn rendered(tally: &mut Tally, scene: &Scene, view: &View) -> Lines {
     let (mut found, mut rows) = (unfilled(), Rows::ample());
     (CORE_SCENES.check)(scene, &mut found);
     (CORE.build)(scene, &mut rows);
-    let (entries, args) = (plain::entries(scene), plain::render_args(view));
+    let (entries, args) = (plain::entries(&with_outlines(scene, view)), plain::render_args(view));
     let mut paths = Paths::new();
     for solid in &entries.solids {
         paths.extend(solid.paths(&args));

@@ -464,7 +464,7 @@ struct Yard<'a> {
     rng: &'a mut Rng,
     scale: f64,
     scene: Scene,
-    /// Whether its tubes and cones may be closed, and may have stripes, as larnt's are not.
+    /// Whether its tubes and cones may be closed, may have stripes, and may be without lines, as larnt's are not.
     ours: bool,
 }
 
@@ -553,11 +553,16 @@ impl Yard<'_> {
         self.ours && self.rng.chance(40)
     }
 
+    /// Whether a round solid has no lines: its outline is drawn, or its stripes alone.
+    fn bare(&mut self) -> bool {
+        self.ours && self.rng.chance(40)
+    }
+
     fn tube(&mut self, r: f64, h: f64) -> u32 {
         let (r, h) = (self.scale * r, self.scale * h);
         let (count, closed) = (self.stripes(), self.closed());
         let tube = self.scene.push([if closed { 8 } else { 2 }, count, 0, 0], &[r, 0.0, h]);
-        if count > 0 && self.rng.chance(30) {
+        if self.bare() {
             return tube;
         }
         // on the surface, or just outside it
@@ -574,7 +579,7 @@ impl Yard<'_> {
         let (r, h) = (self.scale * r, self.scale * h);
         let (count, closed) = (self.stripes(), self.closed());
         let cone = self.scene.push([if closed { 9 } else { 3 }, count, 0, 0], &[r, h]);
-        if count > 0 && self.rng.chance(30) {
+        if self.bare() {
             return cone;
         }
         let out = r * self.rng.pick(&[1.0, 1.0, 1.001, 1.05]);
@@ -597,6 +602,9 @@ impl Yard<'_> {
         let r = self.measure(0.4, 2.0);
         let c = [at[0], at[1], r * self.rng.pick(&[1.0, 1.5, 0.5])];
         let ball = self.scene.push([1, 0, 0, 0], &[c[0], c[1], c[2], r]);
+        if self.bare() {
+            return;
+        }
         let out = self.rng.pick(&[1.0, 1.0, 1.001, 1.05]);
         for z in [0.0, 0.6, -0.6] {
             let around = if z == 0.0 { r } else { 0.8 * r };
@@ -654,7 +662,9 @@ impl Yard<'_> {
             1 => {
                 let r = self.measure(1.0, 2.0);
                 let ball = self.scene.push([1, 0, 0, 0], &[0.0, 0.0, 0.0, r]);
-                self.ring(ball, [0.0; 3], r, 16);
+                if !self.bare() {
+                    self.ring(ball, [0.0; 3], r, 16);
+                }
                 ball
             }
             _ => self.block([0.0; 3], 1),

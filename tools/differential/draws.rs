@@ -8,7 +8,9 @@ use crate::host::{self, raw};
 use crate::scene_calls::{Words, copy, number, put, put_floats};
 use crate::scene_inputs::has_lids;
 use crate::stage_inputs::view_numbers;
+use oracle::check::any_inside;
 use oracle::generate::Rng;
+use oracle::outlines::bare;
 use oracle::stripes::striped;
 use oracle::{Answer, FINE, Lines, Room, Scene, View, draw_measured, plain};
 use std::cell::{Cell, RefCell};
@@ -225,6 +227,11 @@ fn has_stripes(scene: &Scene, with_lines: bool) -> bool {
     counted.any(|(i, _)| !with_lines || scene.owners.contains(&(i as u32)))
 }
 
+/// Whether an entry has neither lines nor stripes, but an outline.
+fn has_outline(scene: &Scene) -> bool {
+    (0..scene.entries()).any(|i| bare(scene, i))
+}
+
 fn has(scene: &Scene, kind: u32) -> bool {
     scene.marks.chunks(4).any(|m| m[0] == kind)
 }
@@ -240,6 +247,13 @@ pub fn compare(run: &mut Run) {
         }),
         ("with a placing", &|case, a| a.0[0] == 0 && has(&case.scene, 6)),
         ("with lines handed in", &|case, a| a.0[0] == 0 && !case.scene.starts.is_empty()),
+        ("with outlines", &|case, a| a.0[0] == 0 && has_outline(&case.scene)),
+        ("with outlines in a placing", &|case, a| {
+            a.0[0] == 0 && any_inside(&case.scene, |i| bare(&case.scene, i), 6)
+        }),
+        ("with outlines in a cut", &|case, a| {
+            a.0[0] == 0 && any_inside(&case.scene, |i| bare(&case.scene, i), 7)
+        }),
         ("with stripes", &|case, a| a.0[0] == 0 && has_stripes(&case.scene, false)),
         ("with stripes and lines of one solid", &|case, a| {
             a.0[0] == 0 && has_stripes(&case.scene, true)

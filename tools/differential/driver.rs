@@ -7,6 +7,7 @@
 //!     driver demand SEED COUNT              COUNT questions of demand 3 on hiding, and COUNT / 1000 draws
 //!     driver stack
 //!     driver travel DRAWING..             how far the pen travels up, in order and as picked
+//!     driver own YARD..                   how much of its own outline a solid hides, and what outlines take
 
 mod calls;
 mod core;
@@ -14,6 +15,7 @@ mod covers;
 mod demand;
 mod draw_inputs;
 mod draws;
+mod exact;
 mod harness;
 #[path = "../../host/larnt.rs"]
 mod host;
@@ -22,6 +24,9 @@ mod leaves;
 mod registers;
 mod roots;
 mod names;
+mod outline_inputs;
+mod outlines;
+mod own;
 mod pens;
 mod scene_calls;
 mod scene_inputs;
@@ -40,7 +45,7 @@ use std::process::ExitCode;
 /// Its name, what it compares, and what it times.
 type Layer = (&'static str, fn(&mut Run), fn());
 
-const LAYERS: [Layer; 10] = [
+const LAYERS: [Layer; 11] = [
     ("roots", roots::compare, roots::speed),
     ("leaves", leaves::compare, leaves::speed),
     ("scenes", scenes::compare, scenes::speed),
@@ -48,6 +53,7 @@ const LAYERS: [Layer; 10] = [
     ("covers", covers::compare, covers::speed),
     ("stages", stages::compare, stages::speed),
     ("stripes", stripes::compare, || ()),
+    ("outlines", outlines::compare, outlines::speed),
     ("draws", draws::compare, draws::speed),
     ("registers", registers::compare, registers::speed),
     ("pens", pens::compare, pens::speed),
@@ -96,6 +102,7 @@ fn command(words: &[&str]) -> Option<bool> {
             draws::growth();
             Some(true)
         }
+        ["own", files @ ..] => Some(own::run(files)),
         ["stack"] => {
             stack::run();
             Some(true)
@@ -113,7 +120,7 @@ fn main() -> ExitCode {
         Some(false) => ExitCode::FAILURE,
         None => {
             eprintln!(
-                "usage: driver compare SEED COUNT [LAYER..] | speed [LAYER..] | growth | demand SEED COUNT | stack | travel DRAWING.."
+                "usage: driver compare SEED COUNT [LAYER..] | speed [LAYER..] | growth | demand SEED COUNT | stack | travel DRAWING.. | own YARD.."
             );
             ExitCode::from(2)
         }

@@ -47,11 +47,29 @@ pub fn run() {
         assert_eq!(host::chop(&view, &corners, &[0], &mut out, &mut begins), Err(13));
     });
     println!("chop of a longest segment: {bytes} bytes");
+    outline();
     questions();
     draw();
     for n in [20_000, 60_000] {
         zigzag(n);
     }
+}
+
+/// The outline of a tube whose rings are halved as deep as may be.
+fn outline() {
+    let (mut numbers, mut place, mut view) = ([0.0; 16], [0.0; 16], [0.0; 22]);
+    (numbers[0], numbers[2]) = (2.0, 6.0);
+    for k in [0, 5, 10, 15] {
+        (place[k], view[k]) = (1.0, 1.0);
+    }
+    (view[15], view[19], view[20], view[21]) = (8.0, 1000.0, 1000.0, 1e-200);
+    let (mut out, mut begins) = (vec![0.0; 3 * 2054], vec![0; 4]);
+    let eye = [10.0, 3.0, 8.0];
+    let bytes = taken(|| {
+        let filled = host::outline(2, &numbers, &eye, &place, &view, &mut out, &mut begins);
+        assert_eq!(filled, Ok((2054, 4)));
+    });
+    println!("outline of a tube, 2,054 points: {bytes} bytes");
 }
 
 /// So many points to and fro, each farther out than the one before: every one splits the path.
@@ -102,13 +120,12 @@ fn within<T: Send>(stack: usize, work: impl FnOnce() -> T + Send) -> T {
     })
 }
 
-/// Cuts in cuts, as deep as a scene may nest them: of a box, or of a tube with stripes.
-fn cuts(striped: bool) -> Scene {
+/// Cuts in cuts, as deep as a scene may nest them: of a box, or of a tube with so many stripes.
+fn cuts(stripes: Option<u32>) -> Scene {
     let mut scene = Scene::default();
-    let mut so_far = if striped {
-        scene.push([2, 8, 0, 0], &[500.0, -500.0, 500.0])
-    } else {
-        scene.push([4, 1, 0, 0], &[-500.0, -500.0, -500.0, 500.0, 500.0, 500.0])
+    let mut so_far = match stripes {
+        Some(count) => scene.push([2, count, 0, 0], &[500.0, -500.0, 500.0]),
+        None => scene.push([4, 1, 0, 0], &[-500.0, -500.0, -500.0, 500.0, 500.0, 500.0]),
     };
     for k in 0..7 {
         let at = 100.0 * f64::from(k) - 400.0;
@@ -120,7 +137,7 @@ fn cuts(striped: bool) -> Scene {
 
 /// The check of a scene, and the questions that a host asks of one: each goes through all the cuts.
 fn questions() {
-    let scene = cuts(false);
+    let scene = cuts(None);
     let last = scene.entries() - 1;
     let (eye, point) = ([-380.0, -380.0, 9000.0], [-380.0, -380.0, -9000.0]);
     let ray = [eye[0], eye[1], eye[2], 0.0, 0.0, -1.0];
@@ -167,8 +184,9 @@ fn draw() {
     for (name, scene, step) in [
         ("800 equal boxes", same, 0.0),
         ("2,048 points to and fro", line, 1000.0),
-        ("7 cuts", cuts(false), 100.0),
-        ("7 cuts of a striped tube", cuts(true), 100.0),
+        ("7 cuts", cuts(None), 100.0),
+        ("7 cuts of a striped tube", cuts(Some(8)), 100.0),
+        ("7 cuts of a tube with an outline", cuts(Some(0)), 100.0),
     ] {
         let view = View { matrix, eye, width: 1000.0, height: 1000.0, step };
         let mut points = 0;

@@ -117,7 +117,7 @@ const TEXTS: [&str; 20] = [
     "(view 2 2 0 0 0 5 1 0 0 0 0 1 0 0 0 0 1 0 0 0 0 1 1)\n",
     "(view 2 2 0 0 0 5 1 0 0 0 0 1 0 0 0 0 1 0 0 0 0 1)",
     "(view 2 2 0 0 0 5 1 0 0 0 0 1 0 0 0 0 1 0 0 0 0 1) (cone 1 1)\n",
-    "( view 2 2 0 0 0 5 1 0 0 0 0 1 0 0 0 0 1 0 0 0 0 1 )\n\n ( cone 1 1 )",
+    "( view 2 2 0 0 0 5 1 0 0 0 0 1 0 0 0 0 1 0 0 0 0 1 )\n\n ( cone 1 1 ( line ) )",
     "(view 2 2 0 0 0 5 1 0 0 0 0 1 0 0 0 0 1 0 0 0 0 1)\n(cone 1\n1)\n",
     "(view 2 2 0 0 0 5 1 0 0 0 0 1 0 0 0 0 1 0 0 0 0 1)\n(Cone 1 1)\n",
     // 8
@@ -157,7 +157,8 @@ fn bounds(list: &mut List) {
         list.add(format!("{VIEW}{tubes}{}", "(cone 9 9 1)\n".repeat(n)));
     }
     for n in [512, 513] {
-        list.add(format!("{VIEW}{}", "(cone 0 1)\n".repeat(n)));
+        // a line without points, so that there is no outline
+        list.add(format!("{VIEW}{}", "(cone 0 1(line))\n".repeat(n)));
     }
     for n in [2048, 2049] {
         list.form(&format!("(sphere 9 9 9 0{})", "(line)".repeat(n)));
@@ -169,7 +170,7 @@ fn bounds(list: &mut List) {
         list.form(&format!("{open}(cube 2 0 0 0 1 1 1){close}"));
     }
     for n in [65_536, 65_537] {
-        let mut text = format!("{VIEW}(cone 1 1)\n").into_bytes();
+        let mut text = format!("{VIEW}(cone 1 1(line))\n").into_bytes();
         text.resize(n, b' ');
         list.add(text);
     }
@@ -184,6 +185,34 @@ fn bounds(list: &mut List) {
     for n in [8, 9, 200] {
         let balls: String = (0..n).map(|k| format!("(cube 1 {k} 0 0 {} 1 1)\n", k + 1)).collect();
         list.add(format!("(view 9 9 0 300 5 5 1 0 0 0 0 1 0 0 0 0 1 0 0 0 0 400)\n{balls}"));
+    }
+}
+
+/// Round solids with outlines, from the side and from within; and such as have none.
+const OUTLINED: [&str; 10] = [
+    "(sphere 0 0 0 1)",
+    "(cylinder 1 -1 1)",
+    "(closed-cylinder 2 0 1 0)",
+    "(cone 1 2)",
+    "(closed-cone 1 2)",
+    "(cylinder 0 -1 1)",
+    "(place 1 1 0 1 0 2 0 0 0 0 -1 0 0 0 0 1 (place 0 -1 0 0 1 0 1 0 0 0 2 0 0 0 0 1 (cylinder 1 -1 1)))",
+    "(cut 1 (cube 1 -1 -1 -1 1 1 1) (cylinder 1 -2 2))",
+    "(cylinder 1 -1 1 (line))",
+    "(cone 1 2 2)",
+];
+
+fn outlines(list: &mut List) {
+    let quarter = word(0.25);
+    let side = format!("0 {quarter} 0 0 0 0 {quarter} 0 {} 0 0 0 0 0 0 1", word(0.015625));
+    for form in OUTLINED {
+        for asked in ["10 10 2 20 3 1", "10 10 9 0 0 0"] {
+            list.add(format!("(view {asked} {side})\n{form}\n"));
+        }
+    }
+    // as fine as there are places for, and finer
+    for step in ["1", "#3F50624DD2F1A9FC"] {
+        list.add(format!("(view 10 10 {step} 20 3 1 {side})\n(cone 1 2)\n"));
     }
 }
 
@@ -237,6 +266,7 @@ fn main() {
             list.add(format!("{VIEW}{form}\n(cube 1 -1 -1 -3 1 1 -2)\n"));
         }
         bounds(&mut list);
+        outlines(&mut list);
         restarts_and_places(&mut list);
         let mut rng = Rng::new(1);
         for form in FORMS {

@@ -46,11 +46,11 @@ both : (a : Bool) {b : Bool} → (a && b) ≡ true → (a ≡ true) × (b ≡ tr
 both a {b} e = and-eq-true-iff a b .0 e
 
 -- ---- kinds 1 to 5, 8 and 9
-record Radius (r : Float) : Type 0 where
+pub record Radius (r : Float) : Type 0 where
   pub bounded : T (within r)
   pub nonneg : T (le zeroF r)
 
-radius-of : (r : Float) → isRadius r ≡ true → Radius r
+pub radius-of : (r : Float) → isRadius r ≡ true → Radius r
 unfolding isRadius
 radius-of r h = let p = both (within r) h in record { bounded = passes _ (p .0); nonneg = within-le zeroF r zero-within (passes _ (p .0)) (passes _ (p .1)) }
 

@@ -27,7 +27,7 @@ bounded b h f =
     record { min = within-point (b .min) (w .0); max = within-point (b .max) (w .1); fair = f }
 
 module _ (s : Scene) (p : Passing s) where
-  own-measured : (i : ℕ) → i < entriesOf s → Measured (ownEntry (s .numbers) (s .marks) i)
+  pub own-measured : (i : ℕ) → i < entriesOf s → Measured (ownEntry (s .numbers) (s .marks) i)
   unfolding ownEntry
   own-measured i h =
       let n = numbersAt (s .numbers) i in

@@ -30,13 +30,14 @@ use Rattle.paths.specs.declared.Counts.the-variants.{Both, Refused}
 use Rattle.paths.proofs.Ending.{both-at, both-refused, refuses-both, answers-both}
 use Rattle.paths.proofs.Parts.{length-points}
 use Rattle.draw_lines.specs.Lines.{ownPaths}
-use Rattle.draw_solids.specs.Lines.{solidPaths}
 use Rattle.draw_lines.specs.Pushing.{addPaths}
+use Rattle.draw_arcs.specs.Stances.{placedStance}
+use Rattle.draw_arcs.specs.declared.Stance.{Stance}
+use Rattle.draw_shown.specs.Shown.{shownPaths}
 use Rattle.draw_lines.proofs.Adding.{ends-both-as}
-use Rattle.view.specs.declared.RenderArgs.{RenderArgs}
 use Rattle.path_append.specs.Append.{appended}
 use Rattle.draw_collect.specs.Lined.{Lined, noLines, cutLines, bare, linedOf, readLined, detailAt, ownLines}
-use Rattle.draw_collect.specs.Collect.{LineRoom, placedArgs, movedFrom, handed, choppedLines, sifted, collected}
+use Rattle.draw_collect.specs.Collect.{LineRoom, movedFrom, handed, choppedLines, sifted, collected}
 use Rattle.draw_collect.specs.Slices.{roomOf, linedAt, firstHeld, Lent, joined}
 use Rattle.draw_collect.proofs.Vectors.{rest-is, rest-after}
 
@@ -69,11 +70,11 @@ module _ (at : ℕ → Entry) (own : ℕ → Solid → List (List Vector)) where
   bare-read (suc d) i = bare-of (readLined d at own) (read d at) (bare-read d) (own i) (at i)
 
 -- a cut of parts without lines adds nothing
-cut-of-nothing : (a : RenderArgs) (w : LineRoom) (o : Op) (p : Paths) → collected a w (cutLines o noLines noLines) p ≡ answered p
+cut-of-nothing : (a : Stance) (w : LineRoom) (o : Op) (p : Paths) → collected a w (cutLines o noLines noLines) p ≡ answered p
 unfolding collected sifted choppedLines handed pointsOk stage pathsOf each appended pushAll
 cut-of-nothing a w o p = refl
 
-module _ (a : RenderArgs) (wide many n m : ℕ) (xs : List Float) (ss : List ℕ) (chopped : List Float) (choppedStarts : List ℕ)
+module _ (a : Stance) (wide many n m : ℕ) (xs : List Float) (ss : List ℕ) (chopped : List Float) (choppedStarts : List ℕ)
     (numbers inverses : List Float) (marks : List ℕ) (ps : List Float) (starts owners : List ℕ) (d i : ℕ) (L : Lent d wide many n m xs ss) where
   abbrev value : Answer Paths
   value = collected a (roomOf wide many chopped choppedStarts) (linedAt d numbers inverses marks ps starts owners i) (firstHeld wide many n xs m ss)
@@ -115,18 +116,18 @@ module _ (a : RenderArgs) (wide many n m : ℕ) (xs : List Float) (ss : List ℕ
           nothing-more (value-as found ∙ rw (h, none x z, none y z) (cut-of-nothing a (roomOf wide many chopped choppedStarts) o (firstHeld wide many n xs m ss)))
 
       pub entry-simple : {s : Solid} {k : ℕ} → e ≡ Simple s → k ≡ detailAt marks i → (ys : List Float) (us : List ℕ) {r : Counts}
-          → EndsBoth (addPaths (places (take wide xs)) (length (take many ss)) (solidPaths s k (ownPaths i (pathsOf (allPoints ps) starts) owners)) (held n (take wide xs) m (take many ss))) ys us r
+          → EndsBoth (addPaths (places (take wide xs)) (length (take many ss)) (shownPaths a s k (ownPaths i (pathsOf (allPoints ps) starts) owners)) (held n (take wide xs) m (take many ss))) ys us r
           → length ys ≡ length (take wide xs) → length us ≡ length (take many ss) → EndsBoth value (take wide (ys ++ drop wide xs)) (take many (us ++ drop many ss)) r
-      unfolding linedOf collected ownLines
+      unfolding linedOf collected ownLines shownPaths
       entry-simple {s} {k} h q ys us f lx ls =
           let lw = length-take-le wide xs one-wide in
           let lm = length-take-le many ss one-many in
-          let g : value ≡ addPaths (places (take wide xs)) (length (take many ss)) (solidPaths s k (ownPaths i (pathsOf (allPoints ps) starts) owners)) (held n (take wide xs) m (take many ss))
+          let g : value ≡ addPaths (places (take wide xs)) (length (take many ss)) (shownPaths a s k (ownPaths i (pathsOf (allPoints ps) starts) owners)) (held n (take wide xs) m (take many ss))
           = value-as found ∙ rw (h, q, lw, lm) in
           rw (take-at ys (drop wide xs) wide (lx ∙ lw), take-at us (drop many ss) many (ls ∙ lm)) (ends-both-as g f)
 
       -- a placed part: t and v are its matrix and its inverse, x the part
-      module _ {t v : Matrix} {x : ℕ} (h : e ≡ Placed t v x) {b : RenderArgs} (q : b ≡ placedArgs t v a) (ys : List Float) (us : List ℕ) {r : Counts}
+      module _ {t v : Matrix} {x : ℕ} (h : e ≡ Placed t v x) {b : Stance} (q : b ≡ placedStance t v a) (ys : List Float) (us : List ℕ) {r : Counts}
           (ends : EndsBoth (collected b (roomOf wide many chopped choppedStarts) (linedAt (d - 1) numbers inverses marks ps starts owners x) (firstHeld wide many n xs m ss)) (take wide ys) (take many us) r) where
         part-as : value ≡ next (collected b (roomOf wide many chopped choppedStarts) (linedAt (d - 1) numbers inverses marks ps starts owners x) (firstHeld wide many n xs m ss)) (λ (u : Paths). answered (movedFrom t (length (points n (take wide xs))) u))
         unfolding linedOf collected
@@ -168,7 +169,7 @@ module _ (a : RenderArgs) (wide many n m : ℕ) (xs : List Float) (ss : List ℕ
 
         cut-as : value
             ≡ next (next (collected a (roomOf wide many chopped choppedStarts) (linedAt (d - 1) numbers inverses marks ps starts owners x) noPaths) (collected a (roomOf wide many chopped choppedStarts) (linedAt (d - 1) numbers inverses marks ps starts owners y)))
-            (λ (u : Paths). next (sifted a (roomOf wide many chopped choppedStarts) (bare (cutLines o (linedAt (d - 1) numbers inverses marks ps starts owners x) (linedAt (d - 1) numbers inverses marks ps starts owners y))) u) (appended (wide / 3) many (firstHeld wide many n xs m ss)))
+            (λ (u : Paths). next (sifted (a .args) (roomOf wide many chopped choppedStarts) (bare (cutLines o (linedAt (d - 1) numbers inverses marks ps starts owners x) (linedAt (d - 1) numbers inverses marks ps starts owners y))) u) (appended (wide / 3) many (firstHeld wide many n xs m ss)))
         unfolding linedOf collected
         cut-as = value-as found ∙ rw h
 
@@ -194,7 +195,7 @@ module _ (a : RenderArgs) (wide many n m : ℕ) (xs : List Float) (ss : List ℕ
           )
 
           pub joint : (chopped′ : List Float) (choppedStarts′ : List ℕ) → length chopped′ ≡ length chopped → length choppedStarts′ ≡ length choppedStarts → (zs : List Float) (vs : List ℕ) {r : Counts}
-              → EndsBoth (joined a (roomOf wide many chopped′ choppedStarts′) (decode d numbers inverses marks i) wide many n (putMid wide (length xs - wide) xs ys) m (putMid many (length ss - many) ss us) c) zs vs r
+              → EndsBoth (joined (a .args) (roomOf wide many chopped′ choppedStarts′) (decode d numbers inverses marks i) wide many n (putMid wide (length xs - wide) xs ys) m (putMid many (length ss - many) ss us) c) zs vs r
               → EndsBoth value zs vs r
           joint chopped′ choppedStarts′ lc lu zs vs f =
               let w = roomOf wide many chopped choppedStarts in
@@ -203,12 +204,12 @@ module _ (a : RenderArgs) (wide many n m : ℕ) (xs : List Float) (ss : List ℕ
               ≡ next (collected a w (linedAt (d - 1) numbers inverses marks ps starts owners x) noPaths) (collected a w (linedAt (d - 1) numbers inverses marks ps starts owners y))
               = rw (rest-after xs wide one-wide ys, rest-after ss many one-many us) (ends .is) in
               let solid : decode d numbers inverses marks i ≡ bare (cutLines o (linedAt (d - 1) numbers inverses marks ps starts owners x) (linedAt (d - 1) numbers inverses marks ps starts owners y)) = solid-is in
-              let g : value ≡ joined a (roomOf wide many chopped′ choppedStarts′) (decode d numbers inverses marks i) wide many n (putMid wide (length xs - wide) xs ys) m (putMid many (length ss - many) ss us) c
+              let g : value ≡ joined (a .args) (roomOf wide many chopped′ choppedStarts′) (decode d numbers inverses marks i) wide many n (putMid wide (length xs - wide) xs ys) m (putMid many (length ss - many) ss us) c
               = cut-as ∙ rw (same, told, first-xs, first-ss, solid) in
               ends-both-as g f
 
 -- ---- the lines of both parts of a cut, one after the other
-module _ (a : RenderArgs) (wide many : ℕ) (xs : List Float) (ss : List ℕ) (chopped : List Float) (choppedStarts : List ℕ) (x y : Lined) (ys : List Float) (us : List ℕ) {c : Counts}
+module _ (a : Stance) (wide many : ℕ) (xs : List Float) (ss : List ℕ) (chopped : List Float) (choppedStarts : List ℕ) (x y : Lined) (ys : List Float) (us : List ℕ) {c : Counts}
     (ends : EndsBoth (collected a (roomOf wide many chopped choppedStarts) x (firstHeld wide many 0 xs 0 ss)) (take wide ys) (take many us) c) where
   from-none : firstHeld wide many 0 xs 0 ss ≡ noPaths
   unfolding view

@@ -3,7 +3,7 @@ use mathlib.Core.Bool.{cond}
 use mathlib.Core.List.{List, [], _∷_, _++_, map}
 use Prim.Native.Nat.{ℕ}
 use lib.ListN.{length, take, drop}
-use Rattle.matrix.specs.Matrices.{mulM, mulPosition}
+use Rattle.matrix.specs.Matrices.{mulPosition}
 use Rattle.matrix.specs.declared.Matrix.{Matrix}
 use Rattle.refusals.specs.declared.Refusal.the-variants.{Point}
 use Rattle.scene_shape.specs.Shapes.{Shape}
@@ -14,6 +14,9 @@ use Rattle.view.specs.declared.RenderArgs.{RenderArgs}
 use Rattle.path_chop.specs.Chop.{chopPaths}
 use Rattle.draw_cuts.specs.Cuts.{cutPaths}
 use Rattle.draw_lines.specs.Pushing.{addPaths}
+use Rattle.draw_arcs.specs.Stances.{stanceOf, placedStance}
+use Rattle.draw_arcs.specs.declared.Stance.{Stance}
+use Rattle.draw_shown.specs.Shown.{orOutline}
 use Rattle.path_append.specs.Append.{appended}
 use Rattle.draw_collect.specs.Lined.{Lined, noLines, lined, placedLines, cutLines, bare}
 
@@ -23,10 +26,6 @@ pub record LineRoom : Type 0 where
   pub starts : ℕ
   pub chopped : ℕ
   pub begins : ℕ
-
--- a placed part is seen in its own coordinates
-unfoldable pub placedArgs : Matrix → Matrix → RenderArgs → RenderArgs
-placedArgs m v a = record { screen = mulM (a .screen) m; eye = mulPosition v (a .eye); width = a .width; height = a .height; step = a .step }
 
 -- the points after the first n are moved (`transform`)
 unfoldable pub movedFrom : Matrix → ℕ → Paths → Paths
@@ -44,16 +43,16 @@ choppedLines a room startRoom p = next (handed p) (λ (q : Paths). chopPaths a (
 unfoldable pub sifted : RenderArgs → LineRoom → Shape → Paths → Answer Paths
 sifted a w s p = next (choppedLines a (w .chopped) (w .begins) p) (λ (c : Paths). cutPaths s (c .vertices) (c .starts) (w .points) (w .starts))
 
--- The lines of a drawn value after those that there are. A cut's are collected in a vector of their own, which is then appended.
-unfoldable pub collected : RenderArgs → LineRoom → Lined → Paths → Answer Paths
-collected a w noLines p = answered p
-collected a w (lined s ps) p = addPaths (w .points) (w .starts) ps p
-collected a w (placedLines m v x) p = next (collected (placedArgs m v a) w x p) (λ (q : Paths). answered (movedFrom m (length (p .vertices)) q))
-collected a w (cutLines o x y) p =
-    next (next (collected a w x noPaths) (collected a w y))
-    (λ (q : Paths). next (sifted a w (bare (cutLines o x y)) q) (appended (w .points) (w .starts) p))
+-- The lines of a drawn value after those that there are; a round solid without any has its outline. A cut's are collected in a vector of their own, which is then appended.
+unfoldable pub collected : Stance → LineRoom → Lined → Paths → Answer Paths
+collected t w noLines p = answered p
+collected t w (lined s ps) p = addPaths (w .points) (w .starts) (orOutline t s ps) p
+collected t w (placedLines m v x) p = next (collected (placedStance m v t) w x p) (λ (q : Paths). answered (movedFrom m (length (p .vertices)) q))
+collected t w (cutLines o x y) p =
+    next (next (collected t w x noPaths) (collected t w y))
+    (λ (q : Paths). next (sifted (t .args) w (bare (cutLines o x y)) q) (appended (w .points) (w .starts) p))
 
 -- step 1 of a draw: the lines of each of these, in order
 unfoldable pub collectedAll : RenderArgs → LineRoom → (ℕ → Lined) → List ℕ → Paths → Answer Paths
 collectedAll a w at [] p = answered p
-collectedAll a w at (i ∷ is) p = next (collected a w (at i) p) (collectedAll a w at is)
+collectedAll a w at (i ∷ is) p = next (collected (stanceOf a) w (at i) p) (collectedAll a w at is)

@@ -11,6 +11,7 @@ use Rattle.paths.specs.declared.Counts.{Counts}
 use Rattle.scene_shape.specs.Shapes.{Shape}
 use Rattle.view.specs.declared.RenderArgs.{RenderArgs}
 use Rattle.path_append.specs.Append.{appended}
+use Rattle.draw_arcs.specs.declared.Stance.{Stance}
 use Rattle.draw_collect.specs.Lined.{Lined, readLined, ownLines}
 use Rattle.draw_collect.specs.Collect.{LineRoom, collected, sifted}
 
@@ -22,8 +23,8 @@ abbrev pub linedAt : ℕ → List Float → List Float → List ℕ → List Flo
 linedAt depth numbers inverses marks points starts owners = readLined depth (entryAt numbers inverses marks) (ownLines marks points starts owners)
 
 -- the lines of entry a and then of entry b
-abbrev pub collectedBoth : RenderArgs → LineRoom → (ℕ → Lined) → ℕ → ℕ → Answer Paths
-collectedBoth args w lined a b = next (collected args w (lined a) noPaths) (collected args w (lined b))
+abbrev pub collectedBoth : Stance → LineRoom → (ℕ → Lined) → ℕ → ℕ → Answer Paths
+collectedBoth t w lined a b = next (collected t w (lined a) noPaths) (collected t w (lined b))
 
 -- the paths that the first vector holds, and those of the second
 abbrev pub firstHeld : ℕ → ℕ → ℕ → List Float → ℕ → List ℕ → Paths

@@ -14,26 +14,12 @@ ghost use Rattle.draw_collect.specs.Lined.{detailAt};
 ghost use Rattle.draw_collect.specs.Collect as Collect;
 ghost use Rattle.draw_collect.specs.Collect.{collected, collectedAll};
 ghost use Rattle.draw_collect.specs.Slices.{roomOf, linedAt, firstHeld, collectedBoth, Lent, joined};
+use draw_arcs::Stance;
 use matrix::Matrix;
 use paths::Counts;
 use refusals::Refusal;
 use scene::entry::Entry;
 use view::RenderArgs;
-
-// The arguments of a placed part, with its matrix and its inverse.
-fn placed_args(m: Matrix, v: Matrix, a: RenderArgs) -> RenderArgs
-    ensures { λ r. ⌜ r ≡ Collect.placedArgs m v a ⌝ }
-{
-    let screen = a.screen;
-    let eye = a.eye;
-    RenderArgs {
-        screen: screen.mul(m),
-        eye: v.mul_position(eye),
-        width: a.width,
-        height: a.height,
-        step: a.step,
-    }
-}
 
 fn detail_of(marks: &[u32], i: usize) -> u32
     ensures { λ r. ⌜ r ≡ detailAt (now (marks .entry)) i ⌝ }
@@ -170,7 +156,7 @@ fn entry_paths(
     starts: &[usize],
     owners: &[u32],
     i: usize,
-    args: RenderArgs,
+    t: Stance,
     depth: usize,
     wide: usize,
     many: usize,
@@ -182,7 +168,7 @@ fn entry_paths(
     chopped_starts: &mut [usize],
 ) -> Counts
     requires { ⌜ Lent depth wide many n m (now work) (now begins) ⌝ }
-    ensures { λ r. ⌜ EndsBoth (collected args (roomOf wide many (now (chopped .entry)) (now («chopped_starts» .entry))) (linedAt depth (now (numbers .entry)) (now (inverses .entry)) (now (marks .entry)) (now (points .entry)) (now (starts .entry)) (now (owners .entry)) i) (firstHeld wide many n (now (work .entry)) m (now (begins .entry)))) (take wide (now (work .exit))) (take many (now (begins .exit))) r ⌝ }
+    ensures { λ r. ⌜ EndsBoth (collected t (roomOf wide many (now (chopped .entry)) (now («chopped_starts» .entry))) (linedAt depth (now (numbers .entry)) (now (inverses .entry)) (now (marks .entry)) (now (points .entry)) (now (starts .entry)) (now (owners .entry)) i) (firstHeld wide many n (now (work .entry)) m (now (begins .entry)))) (take wide (now (work .exit))) (take many (now (begins .exit))) r ⌝ }
 {
     if depth == 0 {
         return Counts::Both(n, m);
@@ -190,20 +176,21 @@ fn entry_paths(
     let e = scene::entry::entry_at(numbers, inverses, marks, i);
     match e {
         Entry::None => Counts::Both(n, m),
-        Entry::Simple(s) => draw_solids::solid_paths(
+        Entry::Simple(s) => draw_shown::shown_paths(
             s,
             detail_of(marks, i),
             i,
             points,
             starts,
             owners,
+            t,
             &mut work[..wide],
             &mut begins[..many],
             n,
             m,
         ),
-        Entry::Placed(t, v, k) => {
-            let inner = placed_args(t, v, args);
+        Entry::Placed(x, v, k) => {
+            let inner = draw_arcs::placed_stance(x, v, t);
             let r = entry_paths(
                 numbers,
                 inverses,
@@ -226,7 +213,7 @@ fn entry_paths(
             match r {
                 Counts::Refused(f) => Counts::Refused(f),
                 Counts::Both(p, q) => {
-                    move_points(t, &mut work[..wide], n, p);
+                    move_points(x, &mut work[..wide], n, p);
                     Counts::Both(p, q)
                 }
             }
@@ -244,7 +231,7 @@ fn entry_paths(
                 owners,
                 a,
                 b,
-                args,
+                t,
                 depth - 1,
                 wide,
                 many,
@@ -260,7 +247,7 @@ fn entry_paths(
                 marks,
                 i,
                 depth,
-                args,
+                t.args,
                 wide,
                 many,
                 work,
@@ -284,7 +271,7 @@ fn part_paths(
     owners: &[u32],
     a: usize,
     b: usize,
-    args: RenderArgs,
+    t: Stance,
     depth: usize,
     wide: usize,
     many: usize,
@@ -294,7 +281,7 @@ fn part_paths(
     chopped_starts: &mut [usize],
 ) -> Counts
     requires { ⌜ Lent depth wide many 0 0 (now work) (now begins) ⌝ }
-    ensures { λ r. ⌜ EndsBoth (collectedBoth args (roomOf wide many (now (chopped .entry)) (now («chopped_starts» .entry))) (linedAt depth (now (numbers .entry)) (now (inverses .entry)) (now (marks .entry)) (now (points .entry)) (now (starts .entry)) (now (owners .entry))) a b) (take wide (now (work .exit))) (take many (now (begins .exit))) r ⌝ }
+    ensures { λ r. ⌜ EndsBoth (collectedBoth t (roomOf wide many (now (chopped .entry)) (now («chopped_starts» .entry))) (linedAt depth (now (numbers .entry)) (now (inverses .entry)) (now (marks .entry)) (now (points .entry)) (now (starts .entry)) (now (owners .entry))) a b) (take wide (now (work .exit))) (take many (now (begins .exit))) r ⌝ }
 {
     let r = entry_paths(
         numbers,
@@ -304,7 +291,7 @@ fn part_paths(
         starts,
         owners,
         a,
-        args,
+        t,
         depth,
         wide,
         many,
@@ -325,7 +312,7 @@ fn part_paths(
             starts,
             owners,
             b,
-            args,
+            t,
             depth,
             wide,
             many,
@@ -373,7 +360,7 @@ pub fn all_paths(
             starts,
             owners,
             rows::index(listed[i]),
-            args,
+            draw_arcs::stance_of(args),
             8,
             wide,
             many,

@@ -244,7 +244,7 @@ fn is_entry(owner: u32, i: usize) -> bool
 }
 
 // Whether entry i owns handed-in path j.
-fn owned(owners: &[u32], j: usize, i: usize) -> bool
+pub fn owned(owners: &[u32], j: usize, i: usize) -> bool
     ensures { λ r. ⌜ r ≡ ownedBy (now (owners .entry)) j i ⌝ }
 {
     if j < owners.len() {

@@ -9,6 +9,10 @@ use Rattle.paths.specs.Ends.{Finished}
 use Rattle.paths.specs.declared.Counts.{Counts}
 use Rattle.view.specs.declared.View.{View}
 use Rattle.path_chop.specs.Chop.{chopCall}
+use Rattle.geometry.specs.declared.vector.Vector.{Vector}
+use Rattle.matrix.specs.declared.Matrix.{Matrix}
+use Rattle.scene.specs.declared.entry.Simple.{Simple}
+use Rattle.draw_outlines.specs.Calls.{outlineCall}
 use Rattle.scene.specs.Scenes.{Scene}
 use Rattle.draw_render.specs.Render.{Places}
 use Rattle.draw.specs.Draw.{drawWith}
@@ -27,3 +31,8 @@ view-so ps ss room startRoom x y {xs} {us} {c} e f = subst (λ (v : View). Finis
 pub draw-so : {v w : View} (t : Float) (s : Scene) (p : Places) (x y : ℕ) {xs : List Float} {ss : List ℕ} {c : Counts} {number n m : ℕ}
     → v ≡ w → Finished (drawWith t s v p) x y xs ss c → number ≡ countsNumber c → n ≡ pointsTold c → m ≡ pathsTold c → PathsTold (drawWith t s w p) x y number xs ss n m
 draw-so {w = w} t s p x y {xs} {ss} {c} e f = finished-so (drawWith t s w p) x y (subst (λ (v : View). Finished (drawWith t s v p) x y xs ss c) e f)
+
+-- an outline, of what the arrays hold
+pub outline-so : {s s′ : Simple} {e e′ : Vector} {m m′ : Matrix} {v v′ : View} (room startRoom x y : ℕ) {xs : List Float} {us : List ℕ} {c : Counts}
+    → s ≡ s′ → e ≡ e′ → m ≡ m′ → v ≡ v′ → Finished (outlineCall s e m v room startRoom) x y xs us c → Finished (outlineCall s′ e′ m′ v′ room startRoom) x y xs us c
+outline-so room startRoom x y hs he hm hv f = rw (← hs, ← he, ← hm, ← hv) f

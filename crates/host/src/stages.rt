@@ -4,6 +4,10 @@ ghost use lib.ListN.{length};
 ghost use Rattle.floats.specs.Arith.{zeroF};
 ghost use Rattle.paths.specs.Ends.{places, Zeroed};
 ghost use Rattle.path_chop.specs.Chop.{chopCall};
+ghost use Rattle.rows.specs.Points.{pointOf};
+ghost use Rattle.rows.specs.Entries.{numbersOf};
+ghost use Rattle.scene.specs.Entries.{simpleOf, matrixOf};
+ghost use Rattle.draw_outlines.specs.Calls.{outlineCall};
 ghost use Rattle.path_simplify.specs.Simplify.{simplifyCall};
 ghost use Rattle.host.specs.StageCalls as StageCalls;
 use geometry::vector::Vector;
@@ -87,6 +91,36 @@ pub extern "C" fn larnt_chop(
     ensures { λ r. ⌜ StageCalls.PathsTold (chopCall (StageCalls.viewOfRow (now (view .entry))) (now (points .entry)) (now (starts .entry)) (places (now (out .entry))) (length (now (begins .entry)))) (length (now (out .entry))) (length (now (begins .entry))) r (now (out .exit)) (now (begins .exit)) (now («points_out» .exit)) (now («paths_out» .exit)) ⌝ }
 {
     let c = path_chop::chop_adaptive(view_from(view), points, starts, out, begins);
+    *points_out = point_count(c);
+    *paths_out = path_count(c);
+    counts_number(c)
+}
+
+// The outline that step 1 of a draw adds for a solid of kinds 1 to 5, 8 or 9 without lines of its own, in the
+// solid's own coordinates, where the eye stands there and its placings have this product (by rows): number 3 for
+// any other kind, 8 for the view, then 13. What is filled is as above.
+#[no_mangle]
+pub extern "C" fn larnt_outline(
+    kind: u32,
+    n: &[f64; 16],
+    eye: &[f64; 3],
+    place: &[f64; 16],
+    view: &[f64; 22],
+    out: &mut [f64],
+    begins: &mut [usize],
+    points_out: &mut usize,
+    paths_out: &mut usize,
+) -> u32
+    ensures { λ r. ⌜ StageCalls.PathsTold (outlineCall (simpleOf kind (numbersOf (now (n .entry)))) (pointOf (now (eye .entry))) (matrixOf (numbersOf (now (place .entry)))) (StageCalls.viewOfRow (now (view .entry))) (places (now (out .entry))) (length (now (begins .entry)))) (length (now (out .entry))) (length (now (begins .entry))) r (now (out .exit)) (now (begins .exit)) (now («points_out» .exit)) (now («paths_out» .exit)) ⌝ }
+{
+    let c = draw_outlines::outline_alone(
+        scene::entry::simple_of(kind, crate::sixteen(n)),
+        crate::point(eye),
+        scene::entry::matrix_of(crate::sixteen(place)),
+        view_from(view),
+        out,
+        begins,
+    );
     *points_out = point_count(c);
     *paths_out = path_count(c);
     counts_number(c)

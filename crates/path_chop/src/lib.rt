@@ -29,7 +29,7 @@ pub struct Spot {
     pub seen: Vector,
 }
 
-fn screen_of(a: RenderArgs) -> Screen
+pub fn screen_of(a: RenderArgs) -> Screen
     ensures { λ r. ⌜ r ≡ Chop.screenOf a ⌝ }
 {
     let matrix = a.screen;
@@ -41,7 +41,7 @@ fn screen_of(a: RenderArgs) -> Screen
     }
 }
 
-fn spot_of(s: Screen, v: Vector) -> Spot
+pub fn spot_of(s: Screen, v: Vector) -> Spot
     ensures { λ r. ⌜ r ≡ Chop.spotOf s v ⌝ }
 {
     let m = s.matrix;
@@ -88,7 +88,7 @@ fn off_sheet(s: Screen, a: Vector, b: Vector) -> bool
 }
 
 // The stop rule: whether a segment needs no halving.
-fn stops(s: Screen, a: Spot, b: Spot) -> bool
+pub fn stops(s: Screen, a: Spot, b: Spot) -> bool
     ensures { λ r. ⌜ r ≡ Chop.stops s a b ⌝ }
 {
     let c = a.seen;

@@ -46,6 +46,7 @@ use Rattle.draw_solids.specs.Lines.{solidPaths}
 use Rattle.draw_lines.specs.Pushing.{addPaths}
 use Rattle.draw_clip.specs.Clip.{clipFilter, bySight}
 use Rattle.draw_collect.specs.Collect.{collectedAll, collected}
+use Rattle.draw_shown.specs.Shown.{orOutline}
 use Rattle.draw_collect.specs.Lined.{readLined, linedOf, bare, detailAt, ownLines}
 use Rattle.draw_render.specs.Render.{rendered, staged, seenLines, onTree, nearestOf, stepping, mapped}
 use Rattle.draw.specs.Draw.{linedIn, drawWith, drawnAfter, render}
@@ -57,7 +58,7 @@ use Rattle.theorem_demand3.specs.Demand3.{PremiseOn}
 use Rattle.theorem_demand3.specs.Witnesses.{atOrigin, sampleYard, sampleView, samplePlaces, sampleDrawing, sampleBehind, widerPlaces, SampleDraws}
 
 drawn-there : drawWith millionth sampleYard sampleView samplePlaces ≡ answered sampleDrawing
-unfolding drawWith thresholdOk drawnAfter render rendered staged seenLines onTree nearestOf stepping mapped collectedAll collected readLined linedOf bare detailAt ownLines solidPaths ownPaths
+unfolding drawWith thresholdOk drawnAfter render rendered staged seenLines onTree nearestOf stepping mapped collectedAll collected orOutline readLined linedOf bare detailAt ownLines solidPaths ownPaths
     trianglePaths addPaths clipFilter bySight filteredFrom pathFilter stepped push pushAll front pathsOf opened closedStarts closed onePath each stage viewOk extentOk stepOk viewport argsOf
     plantedOf sees byDistance visit scan tried nearer backward padded flat checkOf firstMet lengthsAgree allOf known isKind isStripes fewStripes stripeCount striped names namedBefore deepest depthsTo partsFree entryOk
     partsOk ownersOk goodStarts measured simpleMeasured solidMeasured triangleMeasured exceeds placingOk withinBox withinPoint within listTo finiteFour finiteMatrix simpleOf simpleOr entryOf
@@ -67,7 +68,7 @@ unfolding drawWith thresholdOk drawnAfter render rendered staged seenLines onTre
 drawn-there = refl
 
 nothing-there : drawWith millionth sampleBehind sampleView widerPlaces ≡ answered noPaths
-unfolding drawWith thresholdOk drawnAfter render rendered staged seenLines onTree nearestOf stepping mapped collectedAll collected readLined linedOf bare detailAt ownLines solidPaths ownPaths
+unfolding drawWith thresholdOk drawnAfter render rendered staged seenLines onTree nearestOf stepping mapped collectedAll collected orOutline readLined linedOf bare detailAt ownLines solidPaths ownPaths
     trianglePaths addPaths clipFilter bySight filteredFrom pathFilter stepped push pushAll front pathsOf opened closedStarts closed onePath each stage viewOk extentOk stepOk viewport argsOf
     plantedOf sees byDistance visit scan tried nearer backward padded flat checkOf firstMet lengthsAgree allOf known isKind isStripes fewStripes stripeCount striped names namedBefore deepest depthsTo partsFree entryOk
     partsOk ownersOk goodStarts measured simpleMeasured solidMeasured triangleMeasured exceeds placingOk withinBox withinPoint within listTo finiteFour finiteMatrix simpleOf simpleOr entryOf
@@ -85,7 +86,7 @@ abbrev round : List Vector
 round = atOrigin ∷ vec halfF zeroF zeroF ∷ vec zeroF halfF zeroF ∷ atOrigin ∷ []
 
 collected-lines : (p : Paths) × (collectedAll (argsOf sampleView) (widerPlaces .lines) (linedIn sampleBehind) (drawn (sampleBehind .marks)) noPaths ≡ answered p) × Member round (pathsOf (p .vertices) (p .starts))
-unfolding collectedAll collected readLined linedOf bare detailAt ownLines solidPaths ownPaths trianglePaths addPaths push pushAll front pathsOf opened closedStarts closed onePath each stage argsOf allOf known isKind isStripes fewStripes stripeCount striped names namedBefore deepest depthsTo partsFree entryOk partsOk ownersOk goodStarts measured simpleMeasured solidMeasured cubeMeasured simpleOf simpleOr entryOf ownEntry shapeOf read unnamed padded flat listTo identityM addV subV mulScalar pathsStriped faces stripe stripesFrom stripeAt sides across ofInt add sub mul div lt le eq neg isNan ofBits
+unfolding collectedAll collected orOutline readLined linedOf bare detailAt ownLines solidPaths ownPaths trianglePaths addPaths push pushAll front pathsOf opened closedStarts closed onePath each stage argsOf allOf known isKind isStripes fewStripes stripeCount striped names namedBefore deepest depthsTo partsFree entryOk partsOk ownersOk goodStarts measured simpleMeasured solidMeasured cubeMeasured simpleOf simpleOr entryOf ownEntry shapeOf read unnamed padded flat listTo identityM addV subV mulScalar pathsStriped faces stripe stripesFrom stripeAt sides across ofInt add sub mul div lt le eq neg isNan ofBits
 collected-lines = (_, refl, inl refl)
 
 corner-put : Put empty-sheet atOrigin

@@ -59,6 +59,21 @@ pub fn parts(marks: &[u32]) -> &[u32] {
     }
 }
 
+/// Whether an entry that is meant stands somewhere inside an entry of a kind.
+pub fn any_inside(scene: &Scene, meant: impl Fn(usize) -> bool, outer: u32) -> bool {
+    let mut within = vec![false; scene.entries()];
+    for i in (0..scene.entries()).rev() {
+        let marks = scene.marks_of(i);
+        for part in parts(marks) {
+            within[*part as usize] = within[i] || marks[0] == outer;
+        }
+        if within[i] && meant(i) {
+            return true;
+        }
+    }
+    false
+}
+
 fn parts_sound(s: &Scene) -> bool {
     let mut named = vec![false; s.entries()];
     let mut depths = Vec::new();

@@ -7,6 +7,7 @@
 
 pub mod check;
 pub mod generate;
+pub mod outlines;
 pub mod requests;
 pub mod stripes;
 pub mod yard;
@@ -285,7 +286,7 @@ pub fn draw(scene: &Scene, view: &View, threshold: f64, room: Room) -> Answer<Li
     draw_measured(scene, view, threshold, room).0
 }
 
-/// One draw, and the most places of each slice that it took.
+/// One draw, and the most places of each slice that it took. Outlines stand among the lines that are handed in.
 pub fn draw_measured(
     scene: &Scene,
     view: &View,
@@ -293,10 +294,11 @@ pub fn draw_measured(
     room: Room,
 ) -> (Answer<Lines>, Room) {
     let asked = || check::view(view).and_then(|()| check::threshold(threshold));
-    let checked = accepted(scene).and_then(|e| asked().map(|()| e));
+    let checked = accepted(scene).and_then(|_| asked());
     match checked {
         Err(trouble) => (Err(trouble), Room::of(0)),
-        Ok(entries) => {
+        Ok(()) => {
+            let entries = limited::entries(&outlines::with_outlines(scene, view));
             let answer = within(room, || limited::draw(&entries, view, threshold));
             (answer, larnt_limited::limits::used())
         }

@@ -15,6 +15,7 @@ pub fn check_all() -> Pieces {
     worked(&mut pieces);
     stripes(&mut pieces);
     closed(&mut pieces);
+    outlines(&mut pieces);
     boundaries(&mut pieces);
     text(&mut pieces);
     requests(&mut pieces);
@@ -269,6 +270,95 @@ fn stripes(p: &mut Pieces) {
         .map(|l| l.points.chunks(3).map(|p| p[2]).collect::<Vec<f64>>());
     let expected = vec![0.5, 0.5, 0.0, 0.0, -0.5, -0.5, 0.0, 0.0, 0.25, -0.25];
     p.equal("lines follow the stripes", drawn, Ok(expected));
+}
+
+/// Outlines: rings and lines by triangles of whole numbers, how far rings are halved, and who has an outline.
+fn outlines(p: &mut Pieces) {
+    use oracle::outlines::{outline, outlines, placed, with_outlines};
+    let view = |step: f64| View { step, ..outline_view() };
+    let seen =
+        |kind, numbers: &[f64], eye: [f64; 3]| outline(kind, numbers, eye, &IDENTITY, &view(0.0));
+    let lens = |lines: &[oracle::outlines::Line]| lines.iter().map(Vec::len).collect::<Vec<_>>();
+
+    // e = 25, q = 4
+    let tube = seen(2, &[3.0, -1.0, 2.0], [5.0, 0.0, 7.0]);
+    p.equal("a tube: two rings, two lines", lens(&tube), vec![129, 129, 2, 2]);
+    p.equal("its ring at z0", (tube[0][0], tube[0][32]), ([3.0, 0.0, -1.0], [0.0, 3.0, -1.0]));
+    p.equal("its ring at z1", (tube[1][64], tube[1][128]), ([-3.0, 0.0, 2.0], [3.0, 0.0, 2.0]));
+    p.equal("its first line", tube[2].clone(), vec![[1.8, 2.4, -1.0], [1.8, 2.4, 2.0]]);
+    p.equal("its second line", tube[3].clone(), vec![[1.8, -2.4, -1.0], [1.8, -2.4, 2.0]]);
+    p.equal("a closed tube", seen(8, &[3.0, -1.0, 2.0], [5.0, 0.0, 7.0]), tube);
+    for (what, x) in [("within", 2.0), ("on the axis", 0.0), ("on the wall", 3.0)] {
+        let tube = seen(2, &[3.0, -1.0, 2.0], [x, 0.0, 7.0]);
+        p.equal(&format!("a tube, the eye {what}"), lens(&tube), vec![129, 129]);
+    }
+    let near = seen(2, &[3.0, -1.0, 2.0], [3.0_f64.next_up(), 0.0, 7.0]);
+    p.equal("a tube, the eye next to its wall", lens(&near), vec![129, 129, 2, 2]);
+
+    // c = 3 at the base's height, 0 at the apex's, 1.5 between, 6 below
+    let cone = |x: f64, z: f64| seen(3, &[3.0, 2.0], [x, 0.0, z]);
+    p.equal("a cone from its base's height", cone(5.0, 0.0)[1][0], [1.8, 2.4, 0.0]);
+    p.equal("a cone's line ends at its apex", cone(5.0, 0.0)[2][1], [0.0, 0.0, 2.0]);
+    p.equal("a cone from its apex's height", cone(5.0, 2.0)[1][0], [0.0, 3.0, 0.0]);
+    p.equal("and its second line", cone(5.0, 2.0)[2][0], [0.0, -3.0, 0.0]);
+    p.equal("a cone from halfway up", cone(2.5, 1.0)[1][0], [1.8, 2.4, 0.0]);
+    p.equal("a cone from its wall", lens(&cone(1.5, 1.0)), vec![129]);
+    p.equal("a cone from below", lens(&cone(5.0, -2.0)), vec![129]);
+    p.equal("a cone from its apex", lens(&cone(0.0, 2.0)), vec![129]);
+    p.equal("a cone from above", lens(&cone(0.0, 9.0)), vec![129]);
+    p.equal("a closed cone", seen(9, &[3.0, 2.0], [5.0, 0.0, 1.0]), cone(5.0, 1.0));
+
+    // h = 5, the root of 16 is 4: radius 2.4, 3.2 from the eye
+    let ball = |x: f64| seen(1, &[0.0, 0.0, 0.0, 3.0], [x, 0.0, 0.0]);
+    p.equal("a ball: one ring", lens(&ball(5.0)), vec![129]);
+    let quarters = [0, 32, 64, 96, 128].map(|k| ball(5.0)[0][k].map(|x| (x * 1e9).round() / 1e9));
+    let around =
+        [[1.8, 0., -2.4], [1.8, -2.4, 0.], [1.8, 0., 2.4], [1.8, 2.4, 0.], [1.8, 0., -2.4]];
+    p.equal("its ring", quarters, around);
+    p.equal("a ball, the eye on it", ball(3.0), vec![]);
+    p.equal("a ball, the eye within", ball(1.0), vec![]);
+
+    // the sheet is 2 wide, and so is what it shows
+    let ring =
+        |step, radius| outline(3, &[radius, 1.0], [0.0, 0.0, 5.0], &IDENTITY, &view(step))[0].len();
+    p.equal("steps", [1000.0, 1.0, 0.5, 0.25].map(|s| ring(s, 0.5)), [5, 5, 9, 17]);
+    p.equal("a step that is never reached", ring(1e-300, 0.5), 1025);
+    p.equal("step 0 of either sign", [0.0, -0.0].map(|s| ring(s, 0.5)), [129, 129]);
+    p.equal("radius 0", [0.0, 1e-300, 1.0].map(|s| ring(s, 0.0)), [5, 5, 5]);
+    p.equal("ends nearer than 1e-9 squared", ring(1e-300, 1e-5), 5);
+    let twice = outline(3, &[0.5, 1.0], [0.0, 0.0, 5.0], &stretched(2.0), &view(0.25));
+    p.equal("ends as placed", twice[0].len(), 33);
+
+    let turned = [0., -1., 0., 0., 1., 0., 0., 0., 0., 0., 1., 0., 0., 0., 0., 1.];
+    let mut moved = IDENTITY;
+    moved[3] = 1.0;
+    let (eye, place) = placed(&view(0.0), &[moved, turned]);
+    p.equal("the eye, through the outer placing first", eye, [0.0, 1.0, 5.0]);
+    p.equal("outer times inner", (place[1], place[3], place[4], place[7]), (-1.0, 1.0, 1.0, 0.0));
+
+    // who has one
+    let mut scene = one([2, 0, 0, 0], &[1.0, 0.0, 1.0]);
+    scene.push([2, 4, 0, 0], &[1.0, 0.0, 1.0]);
+    scene.push([1, 7, 0, 0], &[9.0, 0.0, 0.0, 1.0]);
+    scene.push([1, 0, 0, 0], &[0.0, 0.0, 0.0, 1.0]);
+    scene.push([9, 0, 0, 0], &[1.0, 1.0]);
+    scene.push([4, 1, 0, 0], &[0.0, 0.0, 0.0, 1.0, 1.0, 1.0]);
+    scene.push([6, 0, 4, 0], &IDENTITY);
+    scene.push_line(3, &[]);
+    let own: Vec<usize> = outlines(&scene, &view(0.0)).iter().map(Vec::len).collect();
+    p.equal("outlines where there are no other lines", own, vec![2, 0, 1, 0, 1, 0, 0]);
+    let owners = with_outlines(&scene, &view(0.0)).owners;
+    p.equal("outlines in the order of their owners", owners, vec![0, 0, 2, 3, 4]);
+    let drawn = |s: &Scene| {
+        oracle::draw(s, &view(0.25), FINE, Room::of(3000)).map(|l| (l.points, l.starts))
+    };
+    let handed = drawn(&with_outlines(&scene, &view(0.25)));
+    p.equal("outlines as lines that are handed in", drawn(&scene), handed);
+}
+
+/// Straight down, the whole sheet 2 wide.
+fn outline_view() -> View {
+    View { matrix: IDENTITY, eye: [0.0, 0.0, 5.0], width: 2.0, height: 2.0, step: 0.0 }
 }
 
 /// Closed cylinders and cones: discs from either side, at their rims, in their planes and at INF; insides.
@@ -785,7 +875,9 @@ fn boundaries(p: &mut Pieces) {
     s.push([1, 0, 0, 0], &[1.0, 5.0, 6.0, 0.5]);
     s.push([7, 1, 0, 1], &[]);
     let exact = Room { work: Places { points: 24, starts: 13 }, ..taking(&s, 0, 0, 24) };
-    tight(p, "a cut filters into its own slice", &s, &coarse, exact);
+    // the eye is in the ball, which has no outline then
+    let within = View { eye: [1.0, 5.0, 6.0], ..coarse };
+    tight(p, "a cut filters into its own slice", &s, &within, exact);
     p.number(
         "no drawn entry pushes nothing",
         oracle::draw(&Scene::default(), &view, FINE, Room::of(0)),
@@ -847,7 +939,8 @@ fn text(p: &mut Pieces) {
         text
     };
     let place = |form: &str| format!("(place 1 0 0 0 0 1 0 0 0 0 1 0 0 0 0 1 {form})");
-    let nested = |n: usize| (0..n).fold("(sphere 0 0 0 1)".to_string(), |form, _| place(&form));
+    let nested =
+        |n: usize| (0..n).fold("(sphere 0 0 0 1(line))".to_string(), |form, _| place(&form));
     for (what, text, expected) in [
         ("a view alone", view.to_string(), "(drawing 0)\n"),
         ("nothing", String::new(), "(refused 1)\n"),
@@ -939,7 +1032,7 @@ fn text(p: &mut Pieces) {
         ("operation 4", format!("{view}(cut 4(sphere 0 0 0 1)(cone 1 1))"), "(refused 3)\n"),
         (
             "no space at brackets",
-            format!("{view}(cut 1(sphere 0 0 0 1)(cone 1 1(line 0 0 0)(line)))"),
+            format!("{view}(cut 1(sphere 0 0 0 1(line))(cone 1 1(line 0 0 0)(line)))"),
             "(drawing 0)\n",
         ),
         ("a cut of one", format!("{view}(cut 1 (sphere 0 0 0 1))"), "(refused 1)\n"),
@@ -950,7 +1043,7 @@ fn text(p: &mut Pieces) {
         ("depth 8", format!("{view}{}", nested(7)), "(drawing 0)\n"),
         ("depth 9", format!("{view}{}", nested(8)), "(refused 4)\n"),
         ("depth 513", format!("{view}{}", nested(512)), "(refused 1)\n"),
-        ("512 entries", format!("{view}{}", repeated(512, "(cone 1 1)\n")), "(drawing 0)\n"),
+        ("512 entries", format!("{view}{}", repeated(512, "(cone 1 1(line))\n")), "(drawing 0)\n"),
         ("513 entries", format!("{view}{}", repeated(513, "(cone 1 1)\n")), "(refused 1)\n"),
         ("2,048 lines", format!("{view}(cone 1 1{})", repeated(2048, "(line)")), "(drawing 0)\n"),
         ("2,049 lines", format!("{view}(cone 1 1{})", repeated(2049, "(line)")), "(refused 1)\n"),
@@ -1026,6 +1119,10 @@ fn requests(p: &mut Pieces) {
         let request = format!("draw {asked} 9 9 9 9 {room} 9 9 9");
         p.equal("draw request refused", answer(&request), format!("refused {number}"));
     }
+    // a cone that is a line, from its axis: a ring of five points
+    let line = all_bits(&[0.0, 1.0, 0.0, 0.0, 5.0]);
+    let request = format!("outline 3 {line} {} {view_text}", all_bits(&IDENTITY));
+    p.equal("outline request", answer(&request), format!("15 {} 1 0", all_bits(&[0.0; 15])));
     scene.push([6, 0, 0, 0], &stretched(2.0));
     let text = scene_text(&scene);
     let half = bits(0.5);

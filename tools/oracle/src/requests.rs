@@ -19,6 +19,8 @@
 //!     hit KIND NUMBERS RAY                -> t ok(0 or 1)
 //!     bounds KIND NUMBERS                 -> BOX
 //!     contains KIND NUMBERS POINT F       -> 0 or 1
+//!     outline KIND NUMBERS EYE(3) PLACE(16) VIEW -> LINES, with the eye in the solid's own coordinates and the
+//!                                            product of the placings
 //!     segment POINT V W                   -> distance of the point from the segment v w
 //!     chop VIEW LINES POINTS STARTS       -> ok LINES         (places for points and starts)
 //!     simplify THRESHOLD LINES POINTS STARTS -> ok LINES
@@ -37,6 +39,7 @@
 //! no refusal at all, 2 to 8 included, so a scene that isn't accepted may panic or never end;
 //! places are read and ignored. A request that can't be read is answered `bad`.
 
+use crate::outlines::{outline, with_outlines};
 use crate::{Answer, Checked, Hit, Lines, Places, Room, Rows, Scene, Trouble, View};
 use crate::{limited, plain};
 use larnt_limited::shape::Shape;
@@ -116,11 +119,16 @@ impl Words<'_> {
         })
     }
 
-    fn simple(&mut self) -> Option<limited::Solid> {
+    /// A kind without parts, and its measures.
+    fn measures(&mut self) -> Option<(u32, Vec<f64>)> {
         let kind = self.mark().filter(|k| matches!(k, 1..=5 | 8 | 9))?;
-        let numbers: Option<Vec<f64>> =
-            (0..crate::check::used_numbers(kind)).map(|_| self.float()).collect();
-        Some(limited::simple(kind, 1, &numbers?, Vec::new()))
+        let numbers = (0..crate::check::used_numbers(kind)).map(|_| self.float());
+        Some((kind, numbers.collect::<Option<_>>()?))
+    }
+
+    fn simple(&mut self) -> Option<limited::Solid> {
+        let (kind, numbers) = self.measures()?;
+        Some(limited::simple(kind, 1, &numbers, Vec::new()))
     }
 
     fn request(&mut self) -> Option<String> {
@@ -153,6 +161,15 @@ impl Words<'_> {
             "contains" => {
                 let (solid, p, f) = (self.simple()?, self.floats()?, self.float()?);
                 u32::from(solid.contains(limited::vector(p), f)).to_string()
+            }
+            "outline" => {
+                let ((kind, numbers), eye) = (self.measures()?, self.floats()?);
+                let (place, view) = (self.floats()?, self.view()?);
+                let mut told = Scene::default();
+                let lines = outline(kind, &numbers, eye, &place, &view);
+                lines.iter().for_each(|line| told.push_line(0, line));
+                let Scene { points, starts, .. } = told;
+                lines_text(&Lines { points, starts })
             }
             "segment" => {
                 let [p, v, w] =
@@ -229,7 +246,8 @@ impl Words<'_> {
             "draw" => {
                 let (scene, view) = (self.scene()?, self.view()?);
                 let (threshold, _) = (self.float()?, self.room()?);
-                let lines = caught(|| plain::draw(&plain::entries(&scene), &view, threshold));
+                let entries = || plain::entries(&with_outlines(&scene, &view));
+                let lines = caught(|| plain::draw(&entries(), &view, threshold));
                 answer_text(lines, lines_text)
             }
             _ => return None,

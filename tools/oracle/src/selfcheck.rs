@@ -7,7 +7,9 @@
 
 mod pieces;
 
+use oracle::check::any_inside;
 use oracle::generate::{Case, case, places_of};
+use oracle::outlines::{bare, with_outlines};
 use oracle::requests::plain_checked;
 use oracle::stripes::striped;
 use oracle::{Answer, COARSE, Checked, FINE, Lines, Scene, Trouble, caught, plain, same_bits};
@@ -44,19 +46,9 @@ struct Tally {
     exact_rooms: u64,
 }
 
-/// Entries of this kind that stand somewhere inside an entry of that kind.
+/// Whether an entry of this kind stands somewhere inside an entry of that kind.
 fn inside(scene: &Scene, kind: u32, outer: u32) -> bool {
-    let mut within = vec![false; scene.entries()];
-    for i in (0..scene.entries()).rev() {
-        let marks = scene.marks_of(i);
-        for part in oracle::check::parts(marks) {
-            within[*part as usize] = within[i] || marks[0] == outer;
-        }
-        if within[i] && marks[0] == kind {
-            return true;
-        }
-    }
-    false
+    any_inside(scene, |i| scene.marks_of(i)[0] == kind, outer)
 }
 
 /// Whether some solid has stripes and handed-in lines too.
@@ -219,7 +211,8 @@ fn compare_draw(tally: &mut Tally, case: &Case, exactly: bool) {
     let (scene, view) = (&case.scene, &case.view);
     let (drawn, used) = oracle::draw_measured(scene, view, FINE, case.room);
     let put = oracle::larnt_limited::limits::points_put() as u64;
-    let plainly = |threshold: f64| plain::draw(&plain::entries(scene), view, threshold);
+    let entries = || plain::entries(&with_outlines(scene, view));
+    let plainly = |threshold: f64| plain::draw(&entries(), view, threshold);
     tally.compare(case, "draw", &drawn, || plainly(FINE), same_lines);
     let coarse = oracle::draw(scene, view, COARSE, case.room);
     tally.compare(case, "draw at 1e-4", &coarse, || plainly(COARSE), same_lines);
@@ -237,6 +230,9 @@ fn compare_draw(tally: &mut Tally, case: &Case, exactly: bool) {
         ("any path", !lines.starts.is_empty()),
         ("step 0", view.step == 0.0),
         ("handed-in lines", !scene.starts.is_empty()),
+        ("an outline", (0..scene.entries()).any(|i| bare(scene, i))),
+        ("an outline in a placing", any_inside(scene, |i| bare(scene, i), 6)),
+        ("an outline in a cut", any_inside(scene, |i| bare(scene, i), 7)),
         ("stripes", scene.marks.chunks(4).any(|m| striped(m[0]) && m[1] > 0)),
         ("stripes and lines of one solid", both(scene)),
         ("a cut", kinds(7)),

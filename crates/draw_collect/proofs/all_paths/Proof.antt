@@ -37,67 +37,69 @@ shared-slice-read-index c =
 
 entry-paths-requires : tie.Need-entry-paths-requires Inv-loop μ-loop
 entry-paths-requires c κs =
-    let at7 = c .before .before .before .before .before .before .before in let loop = at7 .loop in
+    let at8 = c .before .before .before .before .before .before .before .before in let loop = at8 .loop in
     loop .inv .lent
 
 same-length : tie.Need-same-length Inv-loop μ-loop
 same-length c =
     let at11 = c .before .before .before .before .before .before .before .before .before .before .before in let entry-paths = at11 .entry-paths in
-    let at19 = at11 .before .before .before .before .before .before .before .before in let loop = at19 .loop in
+    let at20 = at11 .before .before .before .before .before .before .before .before .before in let loop = at20 .loop in
     (entry-paths .kept .1 .1 .1 .1 .1 .1 .1 .1 .1 .1 .1 .0) ∙ loop .inv .same
 
 same-length-2 : tie.Need-same-length-2 Inv-loop μ-loop
 same-length-2 c =
     let at11 = c .before .before .before .before .before .before .before .before .before .before .before in let entry-paths = at11 .entry-paths in
-    let at19 = at11 .before .before .before .before .before .before .before .before in let loop = at19 .loop in
+    let at20 = at11 .before .before .before .before .before .before .before .before .before in let loop = at20 .loop in
     (entry-paths .kept .1 .1 .1 .1 .1 .1 .1 .1 .1 .1 .1 .1 .0) ∙ loop .inv .same-starts
 
 same-length-3 : tie.Need-same-length-3 Inv-loop μ-loop
 same-length-3 c =
     let at11 = c .before .before .before .before .before .before .before .before .before .before .before in let entry-paths = at11 .entry-paths in
-    let at19 = at11 .before .before .before .before .before .before .before .before in let loop = at19 .loop in
+    let at20 = at11 .before .before .before .before .before .before .before .before .before in let loop = at20 .loop in
     (entry-paths .kept .1 .1 .1 .1 .1 .1 .1 .1 .1 .1 .1 .1 .1 .1 .1 .0) ∙ loop .inv .same-chopped
 
 same-length-4 : tie.Need-same-length-4 Inv-loop μ-loop
 same-length-4 c =
     let at11 = c .before .before .before .before .before .before .before .before .before .before .before in let entry-paths = at11 .entry-paths in
-    let at19 = at11 .before .before .before .before .before .before .before .before in let loop = at19 .loop in
+    let at20 = at11 .before .before .before .before .before .before .before .before .before in let loop = at20 .loop in
     (entry-paths .kept .1 .1 .1 .1 .1 .1 .1 .1 .1 .1 .1 .1 .1 .1 .1 .1 .0) ∙ loop .inv .same-chopped-starts
 
 returns : tie.Need-returns Inv-loop μ-loop
 returns c =
     let at1 = c .before in let r = at1 .r in
     let at11 = at1 .before .before .before .before .before .before .before .before .before .before in let entry-paths = at11 .entry-paths in
-    let at16 = at11 .before .before .before .before .before in let index = at16 .index in
-    let at18 = at16 .before .before in let loop-test = at18 .loop-test in
-    let at19 = at18 .before in let loop = at19 .loop in
-    let at31 = at19 .before .before .before .before .before .before .before .before .before .before .before .before in let args = at31 .args in
-    let pre = at31 .pre in
-    collecting-refused (args .args) (args .wide) (args .many) _ (take (args .count) (args .listed .now)) (args .work .now) (args .begins .now) (args .chopped .now) (args .chopped-starts .now) (loop .work) (loop .begins) (loop .chopped) (loop .chopped-starts) (loop .p) (loop .q) (loop .i) (loop .inv) _ (omega (arith, loop-test .taken, pre .0, length-take-le (args .count) (args .listed .now) (pre .0))) (index .ensures .0 ∙ sym (getD-take (args .count) (args .listed .now) (loop .i) 0 (loop-test .taken))) (entry-paths .last .1 .1 .1 .1 .1 .1 .1 .1 .1 .1 .1 .0) (entry-paths .last .1 .1 .1 .1 .1 .1 .1 .1 .1 .1 .1 .1 .0) (entry-paths .ensures) (r .given .1)
+    let at16 = at11 .before .before .before .before .before in let stance-of = at16 .stance-of in
+    let at17 = at16 .before in let index = at17 .index in
+    let at19 = at17 .before .before in let loop-test = at19 .loop-test in
+    let at20 = at19 .before in let loop = at20 .loop in
+    let at32 = at20 .before .before .before .before .before .before .before .before .before .before .before .before in let args = at32 .args in
+    let pre = at32 .pre in
+    collecting-refused (args .args) (args .wide) (args .many) _ (take (args .count) (args .listed .now)) (args .work .now) (args .begins .now) (args .chopped .now) (args .chopped-starts .now) (loop .work) (loop .begins) (loop .chopped) (loop .chopped-starts) (loop .p) (loop .q) (loop .i) (loop .inv) _ (omega (arith, loop-test .taken, pre .0, length-take-le (args .count) (args .listed .now) (pre .0))) (index .ensures .0 ∙ sym (getD-take (args .count) (args .listed .now) (loop .i) 0 (loop-test .taken))) (entry-paths .last .1 .1 .1 .1 .1 .1 .1 .1 .1 .1 .1 .0) (entry-paths .last .1 .1 .1 .1 .1 .1 .1 .1 .1 .1 .1 .1 .0) (stance-of .ensures) (entry-paths .ensures) (r .given .1)
 
 add-i : tie.Need-add-i Inv-loop μ-loop
 add-i c =
-    let at18 = c .before .before .before .before .before .before .before .before .before .before .before .before .before .before .before .before .before .before in let loop-test = at18 .loop-test in
-    let at31 = at18 .before .before .before .before .before .before .before .before .before .before .before .before .before in let fits = at31 .fits in
+    let at19 = c .before .before .before .before .before .before .before .before .before .before .before .before .before .before .before .before .before .before .before in let loop-test = at19 .loop-test in
+    let at32 = at19 .before .before .before .before .before .before .before .before .before .before .before .before .before in let fits = at32 .fits in
     omega (arith, loop-test .taken, fits .count)
 
 loop-less : tie.Need-loop-less Inv-loop μ-loop
 loop-less c =
-    let at18 = c .before .before .before .before .before .before .before .before .before .before .before .before .before .before .before .before .before .before in let loop-test = at18 .loop-test in
+    let at19 = c .before .before .before .before .before .before .before .before .before .before .before .before .before .before .before .before .before .before .before in let loop-test = at19 .loop-test in
     omega (arith, loop-test .taken)
 
 loop-again : tie.Need-loop-again Inv-loop μ-loop
 loop-again c =
     let at1 = c .before in let r2 = at1 .r2 in
     let at11 = at1 .before .before .before .before .before .before .before .before .before .before in let entry-paths = at11 .entry-paths in
-    let at16 = at11 .before .before .before .before .before in let index = at16 .index in
-    let at18 = at16 .before .before in let loop-test = at18 .loop-test in
-    let at19 = at18 .before in let loop = at19 .loop in
-    let at31 = at19 .before .before .before .before .before .before .before .before .before .before .before .before in let args = at31 .args in
-    let pre = at31 .pre in
+    let at16 = at11 .before .before .before .before .before in let stance-of = at16 .stance-of in
+    let at17 = at16 .before in let index = at17 .index in
+    let at19 = at17 .before .before in let loop-test = at19 .loop-test in
+    let at20 = at19 .before in let loop = at20 .loop in
+    let at32 = at20 .before .before .before .before .before .before .before .before .before .before .before .before in let args = at32 .args in
+    let pre = at32 .pre in
     collecting-turn (args .args) (args .wide) (args .many) _ (take (args .count) (args .listed .now)) (args .work .now) (args .begins .now) (args .chopped .now) (args .chopped-starts .now) (loop .work) (loop .begins) (loop .chopped)
     (loop .chopped-starts) (loop .p) (loop .q) (loop .i) (loop .inv) _ (omega (arith, loop-test .taken, pre .0, length-take-le (args .count) (args .listed .now) (pre .0)))
-    (index .ensures .0 ∙ sym (getD-take (args .count) (args .listed .now) (loop .i) 0 (loop-test .taken))) (entry-paths .last .1 .1 .1 .1 .1 .1 .1 .1 .1 .1 .1 .0) (entry-paths .last .1 .1 .1 .1 .1 .1 .1 .1 .1 .1 .1 .1 .0) (entry-paths .ensures)
+    (index .ensures .0 ∙ sym (getD-take (args .count) (args .listed .now) (loop .i) 0 (loop-test .taken))) (entry-paths .last .1 .1 .1 .1 .1 .1 .1 .1 .1 .1 .1 .0) (entry-paths .last .1 .1 .1 .1 .1 .1 .1 .1 .1 .1 .1 .1 .0) (stance-of .ensures) (entry-paths .ensures)
     (r2 .given .1) _ _ (entry-paths .kept .1 .1 .1 .1 .1 .1 .1 .1 .1 .1 .1 .0) (entry-paths .kept .1 .1 .1 .1 .1 .1 .1 .1 .1 .1 .1 .1 .0) (entry-paths .kept .1 .1 .1 .1 .1 .1 .1 .1 .1 .1 .1 .1 .1 .1 .1 .0)
     (entry-paths .kept .1 .1 .1 .1 .1 .1 .1 .1 .1 .1 .1 .1 .1 .1 .1 .1 .0)
 
@@ -124,6 +126,6 @@ pub all-paths-spec : {M : Type 1} → statement M
 all-paths-spec =
     tie.close
     (tie.spec
-    Inv-loop μ-loop loop-holds mul-index shared-slice-read-index (λ c κs. tt) entry-paths-requires (λ c. search needs) same-length same-length-2
+    Inv-loop μ-loop loop-holds mul-index shared-slice-read-index (λ c κs. tt) (λ c κs. tt) entry-paths-requires (λ c. search needs) same-length same-length-2
     same-length-3 same-length-4 returns (λ c. search needs) add-i loop-less loop-again same-length-5 same-length-6 same-length-7 same-length-8
     returns-2)

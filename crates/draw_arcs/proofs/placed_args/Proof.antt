@@ -1,6 +1,6 @@
-use Rattle.draw_collect.specs.Collect.{placedArgs}
-use Rattle.draw_collect.proofs.placed_args.Statement.{statement}
-use Rattle.draw_collect.proofs.placed_args.Tie as tie
+use Rattle.draw_arcs.specs.Stances.{placedArgs}
+use Rattle.draw_arcs.proofs.placed_args.Statement.{statement}
+use Rattle.draw_arcs.proofs.placed_args.Tie as tie
 
 returns : tie.Need-returns
 unfolding placedArgs

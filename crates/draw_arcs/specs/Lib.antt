@@ -1,0 +1,3 @@
+pub mod Stances
+pub mod Rings
+pub mod Runs

@@ -1,0 +1,81 @@
+-- The outline of a round solid (document 02 (vii)), seen from an eye in its own coordinates: rings, then lines.
+use mathlib.Core.Bool.{cond}
+use mathlib.Core.List.{List, [], _∷_}
+use lib.Ieee.{Float, lt, le}
+use Rattle.floats.specs.Arith.{_⊕_, _⊖_, _⊗_, _⊘_, zeroF, oneF}
+use Rattle.sqrt.specs.Root.{sqrtOf}
+use Rattle.geometry.specs.Vectors.{vec, addV, subV, mulScalar, cross, lengthOf, normalizeOf, minAxis}
+use Rattle.geometry.specs.declared.vector.Vector.{Vector}
+use Rattle.geometry.specs.declared.vector.Normalized.{Normalized}
+use Rattle.geometry.specs.declared.vector.Normalized.the-variants.{Unit, Zero}
+use Rattle.solids.specs.declared.solid.Solid.{Solid}
+use Rattle.solids.specs.declared.solid.Solid.the-variants.{Sphere, Cylinder, Cone, Cube, Triangle, ClosedCylinder, ClosedCone}
+use Rattle.draw_arcs.specs.declared.Stance.{Stance}
+use Rattle.draw_rings.specs.Spheres.{sphereRing, sphereReach}
+use Rattle.draw_arcs.specs.Rings.{frameOf, levelAt, ringOf}
+
+-- ---- tangents: (a, b) is the eye in the own plane, e = a² + b², c the right side of ax + by = cr, and q the root of e − c²
+unfoldable pub eyeSquare : Vector → Float
+eyeSquare eye = eye .x ⊗ eye .x ⊕ eye .y ⊗ eye .y
+
+unfoldable pub tangentRoot : Float → Float → Float
+tangentRoot e c = sqrtOf (e ⊖ c ⊗ c)
+
+-- (r(ca − qb)/e, r(cb + qa)/e)
+unfoldable pub firstTangent : Float → Float → Float → Float → Vector → Float → Vector
+firstTangent r c q e eye z = vec (r ⊗ (c ⊗ eye .x ⊖ q ⊗ eye .y) ⊘ e) (r ⊗ (c ⊗ eye .y ⊕ q ⊗ eye .x) ⊘ e) z
+
+-- (r(ca + qb)/e, r(cb − qa)/e)
+unfoldable pub secondTangent : Float → Float → Float → Float → Vector → Float → Vector
+secondTangent r c q e eye z = vec (r ⊗ (c ⊗ eye .x ⊕ q ⊗ eye .y) ⊘ e) (r ⊗ (c ⊗ eye .y ⊖ q ⊗ eye .x) ⊘ e) z
+
+-- ---- a cylinder: both rings, z0's first; if e > radius² also the upright lines, from z0
+unfoldable pub uprights : Float → Float → Vector → Float → Float → List (List Vector)
+uprights r e eye z0 z1 =
+    let q = tangentRoot e r in
+    (firstTangent r r q e eye z0 ∷ firstTangent r r q e eye z1 ∷ []) ∷ (secondTangent r r q e eye z0 ∷ secondTangent r r q e eye z1 ∷ []) ∷ []
+
+unfoldable pub cylinderOutline : Stance → Float → Float → Float → List (List Vector)
+cylinderOutline t r z0 z1 =
+    let e = eyeSquare (t .args .eye) in
+    ringOf t (levelAt z0) r ∷ ringOf t (levelAt z1) r ∷ cond (le e (r ⊗ r)) [] (uprights r e (t .args .eye) z0 z1)
+
+-- ---- a cone: the base ring; if e > c² also the lines to the apex
+unfoldable pub coneSide : Float → Float → Vector → Float
+coneSide r h eye = r ⊗ (oneF ⊖ eye .z ⊘ h)
+
+unfoldable pub slopes : Float → Float → Float → Vector → Float → List (List Vector)
+slopes r c e eye h =
+    let q = tangentRoot e c in
+    (firstTangent r c q e eye zeroF ∷ vec zeroF zeroF h ∷ []) ∷ (secondTangent r c q e eye zeroF ∷ vec zeroF zeroF h ∷ []) ∷ []
+
+unfoldable pub coneOutline : Stance → Float → Float → List (List Vector)
+coneOutline t r h =
+    let e = eyeSquare (t .args .eye) in
+    let c = coneSide r h (t .args .eye) in
+    ringOf t (levelAt zeroF) r ∷ cond (le e (c ⊗ c)) [] (slopes r c e (t .args .eye) h)
+
+-- ---- a sphere at distance h > radius: one ring. Its axes are u, w cross w's `min_axis` normalised, and w cross u. Where nothing can be normalised there is no line: by h > radius
+-- that does not come about but for an infinite or NaN eye.
+unfoldable pub ringAround : Stance → Vector → Float → Vector → Normalized → List (List Vector)
+ringAround t c r w (Unit u) = ringOf t (frameOf c u (cross w u)) r ∷ []
+ringAround t c r w Zero = []
+
+unfoldable pub ringFacing : Stance → Float → Float → Normalized → List (List Vector)
+ringFacing t r h (Unit w) = ringAround t (addV (t .args .eye) (mulScalar w (sphereReach r h))) (sphereRing r h) w (normalizeOf (cross w (minAxis w)))
+ringFacing t r h Zero = []
+
+unfoldable pub sphereOutline : Stance → Vector → Float → List (List Vector)
+sphereOutline t center r =
+    let d = subV center (t .args .eye) in
+    cond (lt r (lengthOf d)) (ringFacing t r (lengthOf d) (normalizeOf d)) []
+
+-- ---- the outline of a solid: round ones have one, kinds 8 and 9 those of 2 and 3
+unfoldable pub outlineOf : Stance → Solid → List (List Vector)
+outlineOf t (Sphere center radius) = sphereOutline t center radius
+outlineOf t (Cylinder radius z0 z1) = cylinderOutline t radius z0 z1
+outlineOf t (Cone radius height) = coneOutline t radius height
+outlineOf t (Cube min max) = []
+outlineOf t (Triangle v1 v2 v3) = []
+outlineOf t (ClosedCylinder radius z0 z1) = cylinderOutline t radius z0 z1
+outlineOf t (ClosedCone radius height) = coneOutline t radius height
