@@ -1,5 +1,5 @@
-/* The calls that libhost.a exports (`rt staticlib host`), and at the end those of libhost_plotter.a. `tools/house`
-   holds these declarations to crates/host/src and crates/host_plotter/src, type by type. The pointers must not be
+/* The calls that libhost.a exports (`rt staticlib host`), the preview of libhost_preview.a, and at the end those of
+   libhost_plotter.a. `tools/house` holds these declarations to the crates of these names, type by type. The pointers must not be
    null, not even those of no elements, and what is filled must overlap neither what is read nor anything else that
    is filled. Matrices stand by rows.
 
@@ -161,6 +161,15 @@ uint32_t larnt_draw_with(LARNT_SCENE, const double view[22], double threshold, d
                          size_t chopped_starts_count, double *node_boxes, size_t node_boxes_count,
                          uint32_t *node_marks, size_t node_marks_count, uint32_t *order, size_t order_count,
                          size_t *points_out, size_t *paths_out);
+
+/* The preview that libhost_preview.a exports (`rt staticlib host_preview`): the answer of larnt_draw_with and its
+   counts, for `out` of out_len numbers and `begins` of begins_len starts, neither of which is lent. It works in what
+   a draw works in, and that is zeros afterwards. To learn how many places a draw needs, ask with SIZE_MAX. */
+uint32_t larnt_preview(LARNT_SCENE, const double view[22], double threshold, size_t out_len, size_t begins_len,
+                       double *work, size_t work_count, size_t *work_starts, size_t work_starts_count,
+                       double *chopped, size_t chopped_count, size_t *chopped_starts, size_t chopped_starts_count,
+                       double *node_boxes, size_t node_boxes_count, uint32_t *node_marks, size_t node_marks_count,
+                       uint32_t *order, size_t order_count, size_t *points_out, size_t *paths_out);
 
 /* The plotter's registers: the calls that libhost_plotter.a exports (`rt staticlib host_plotter`), declared in
    crates/host_plotter/src/registers.rt. No machine is behind them, and all state is in what is lent.

@@ -1,6 +1,7 @@
-//! The calls of libhost.a (`rt staticlib host`) for Rust, and of libhost_plotter.a. `tools/house` looks that none is
-//! missing; nothing checks their types against crates/host/src and crates/host_plotter/src. Matrices stand by rows; the
-//! kinds and the order of their numbers are in larnt.h, and so is what a scene holds.
+//! The calls of libhost.a (`rt staticlib host`) for Rust, of libhost_preview.a and of libhost_plotter.a. `tools/house`
+//! looks that none is missing; nothing checks their types against crates/host/src, crates/host_preview/src and
+//! crates/host_plotter/src. Matrices stand by rows; the kinds and the order of their numbers are in larnt.h, and so is
+//! what a scene holds.
 
 /// The calls as they are.
 pub mod raw {
@@ -243,7 +244,33 @@ pub mod raw {
             points_out: &mut usize,
             paths_out: &mut usize,
         );
+        // of libhost_preview.a
+        fn larnt_preview(
+            view: &[f64; 22],
+            threshold: f64,
+            out_len: usize,
+            begins_len: usize,
+            work: *mut f64,
+            work_count: usize,
+            work_starts: *mut usize,
+            work_starts_count: usize,
+            chopped: *mut f64,
+            chopped_count: usize,
+            chopped_starts: *mut usize,
+            chopped_starts_count: usize,
+            node_boxes: *mut f64,
+            node_boxes_count: usize,
+            node_marks: *mut u32,
+            node_marks_count: usize,
+            order: *mut u32,
+            order_count: usize,
+            points_out: &mut usize,
+            paths_out: &mut usize,
+        );
     }
+
+    #[link(name = "host_preview", kind = "static")]
+    unsafe extern "C" {}
 }
 
 /// The root and its exact remainder: 0 where the root is exact, positive where it lies below the true one.
@@ -607,19 +634,15 @@ pub struct Work<'a> {
     pub order: &'a mut [u32],
 }
 
-/// A raw draw: what is asked, then the slices of the result and of the work. Answers how many points and
-/// paths there are.
+/// A raw draw or preview: what is asked, then the slices of the work. Answers how many points and paths there
+/// are.
 macro_rules! on_work {
-    ($call:ident, $s:expr, $out:expr, $begins:expr, $work:expr, $($asked:expr),*) => {{
+    ($call:ident, $s:expr, $work:expr, $($asked:expr),*) => {{
         let (mut n, mut m) = (0, 0);
         let number = on_scene!(
             $call,
             $s,
             $($asked,)*
-            $out.as_mut_ptr(),
-            $out.len(),
-            $begins.as_mut_ptr(),
-            $begins.len(),
             $work.work.as_mut_ptr(),
             $work.work.len(),
             $work.work_starts.as_mut_ptr(),
@@ -653,7 +676,8 @@ pub fn draw(
     begins: &mut [usize],
     work: Work,
 ) -> Result<(usize, usize), u32> {
-    on_work!(larnt_draw, s, out, begins, work, view)
+    let (p, q) = (out.as_mut_ptr(), begins.as_mut_ptr());
+    on_work!(larnt_draw, s, work, view, p, out.len(), q, begins.len())
 }
 
 /// The same simplified with a threshold; a sheet in fine detail passes 1e-6.
@@ -665,7 +689,20 @@ pub fn draw_with(
     begins: &mut [usize],
     work: Work,
 ) -> Result<(usize, usize), u32> {
-    on_work!(larnt_draw_with, s, out, begins, work, view, threshold)
+    let (p, q) = (out.as_mut_ptr(), begins.as_mut_ptr());
+    on_work!(larnt_draw_with, s, work, view, threshold, p, out.len(), q, begins.len())
+}
+
+/// How many points and paths `draw_with` would fill of `out` numbers and `begins` starts, or its number.
+pub fn preview(
+    s: Scene,
+    view: &[f64; 22],
+    threshold: f64,
+    out: usize,
+    begins: usize,
+    work: Work,
+) -> Result<(usize, usize), u32> {
+    on_work!(larnt_preview, s, work, view, threshold, out, begins)
 }
 
 /// The plotter's registers, which larnt.h describes: the calls of libhost_plotter.a (`rt staticlib host_plotter`),

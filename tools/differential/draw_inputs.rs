@@ -23,7 +23,7 @@ pub type Lengths = [usize; SLICES];
 pub type Threshold = Option<f64>;
 
 /// What larnt's `render` must simplify with.
-fn figure(threshold: Threshold) -> f64 {
+pub fn figure(threshold: Threshold) -> f64 {
     threshold.unwrap_or(COARSE)
 }
 

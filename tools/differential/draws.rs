@@ -77,6 +77,25 @@ impl Lent {
         Words(words)
     }
 
+    /// The same of a preview: no result slices, and something in each place of the work no more.
+    fn previewed(&self, number: u32) -> Words {
+        let mut words = self.words(number).0;
+        let clear = |xs: &[f64]| xs.iter().all(|x| x.to_bits() == 0);
+        let none = |xs: &[usize]| xs.iter().all(|x| *x == 0);
+        let blank = |xs: &[u32]| xs.iter().all(|x| *x == 0);
+        words.truncate(3);
+        words.push(u64::from(
+            clear(&self.work)
+                && none(&self.work_starts)
+                && clear(&self.chopped)
+                && none(&self.chopped_starts)
+                && clear(&self.node_boxes)
+                && blank(&self.node_marks)
+                && blank(&self.order),
+        ));
+        Words(words)
+    }
+
     /// What must be there afterwards: the drawing, then zeros; zeros alone in the work slices.
     fn told(lengths: &Lengths, answer: &Answer<Lines>) -> Words {
         let mut lent = Lent::new(lengths);
@@ -99,17 +118,13 @@ impl Lent {
     }
 }
 
-/// A draw, called as it is: what is asked, then the lent slices.
+/// A draw or a preview, called as it is: what is asked, then the lent slices of the work.
 macro_rules! on_lent {
     ($call:ident, $s:ident, $lent:ident, $($asked:expr),*) => {
         direct!(
             $call,
             $s,
             $($asked,)*
-            $lent.out.as_mut_ptr(),
-            $lent.out.len(),
-            $lent.begins.as_mut_ptr(),
-            $lent.begins.len(),
             $lent.work.as_mut_ptr(),
             $lent.work.len(),
             $lent.work_starts.as_mut_ptr(),
@@ -130,23 +145,44 @@ macro_rules! on_lent {
     };
 }
 
+/// The slices that a host in Rust lends.
+macro_rules! host_work {
+    ($lent:ident) => {
+        host::Work {
+            work: &mut $lent.work,
+            work_starts: &mut $lent.work_starts,
+            chopped: &mut $lent.chopped,
+            chopped_starts: &mut $lent.chopped_starts,
+            node_boxes: &mut $lent.node_boxes,
+            node_marks: &mut $lent.node_marks,
+            order: &mut $lent.order,
+        }
+    };
+}
+
 fn core_draw(s: &Scene, view: &[f64; 22], threshold: Threshold, lent: &mut Lent) -> u32 {
+    let (p, n) = (lent.out.as_mut_ptr(), lent.out.len());
+    let (q, m) = (lent.begins.as_mut_ptr(), lent.begins.len());
     match threshold {
-        None => on_lent!(larnt_draw, s, lent, view),
-        Some(t) => on_lent!(larnt_draw_with, s, lent, view, t),
+        None => on_lent!(larnt_draw, s, lent, view, p, n, q, m),
+        Some(t) => on_lent!(larnt_draw_with, s, lent, view, t, p, n, q, m),
     }
 }
 
+fn core_preview(s: &Scene, view: &[f64; 22], threshold: Threshold, lent: &mut Lent) -> u32 {
+    let (t, n, m) = (draw_inputs::figure(threshold), lent.out.len(), lent.begins.len());
+    on_lent!(larnt_preview, s, lent, view, t, n, m)
+}
+
+fn host_preview(s: &Scene, view: &[f64; 22], threshold: Threshold, lent: &mut Lent) -> u32 {
+    let (t, n, m) = (draw_inputs::figure(threshold), lent.out.len(), lent.begins.len());
+    let result = host::preview(core::lent(s), view, t, n, m, host_work!(lent));
+    (lent.points, lent.paths) = result.unwrap_or_default();
+    result.err().unwrap_or(0)
+}
+
 fn host_draw(s: &Scene, view: &[f64; 22], threshold: Threshold, lent: &mut Lent) -> u32 {
-    let work = host::Work {
-        work: &mut lent.work,
-        work_starts: &mut lent.work_starts,
-        chopped: &mut lent.chopped,
-        chopped_starts: &mut lent.chopped_starts,
-        node_boxes: &mut lent.node_boxes,
-        node_marks: &mut lent.node_marks,
-        order: &mut lent.order,
-    };
+    let work = host_work!(lent);
     let (s, out, begins) = (core::lent(s), &mut lent.out, &mut lent.begins);
     let result = match threshold {
         None => host::draw(s, view, out, begins, work),
@@ -198,6 +234,30 @@ impl Tally {
         self.core.set(self.core.get() + start.elapsed());
         self.calls.set(self.calls.get() + 1);
         lent.words(number)
+    }
+
+    /// The preview of the same draw, directly and as a host in Rust makes it, in turn.
+    fn preview(&self, scene: &Scene, view: &View, asked: Threshold, lengths: &Lengths) -> Words {
+        let mut lent = Lent::new(lengths);
+        let call = if self.calls.get().is_multiple_of(2) { core_preview } else { host_preview };
+        let start = Instant::now();
+        let number = call(scene, &view_numbers(view), asked, &mut lent);
+        self.core.set(self.core.get() + start.elapsed());
+        self.calls.set(self.calls.get() + 1);
+        lent.previewed(number)
+    }
+
+    /// What a preview must answer: the draw's number and counts, and zeros in the work slices.
+    fn counts(&self, answer: &Answer<Lines>) -> Words {
+        let number = number(answer);
+        if let Some(met) = self.met.borrow_mut().get_mut(number as usize) {
+            *met += 1;
+        }
+        let (points, paths) = match answer {
+            Ok(lines) => (lines.points.len() / 3, lines.starts.len()),
+            Err(_) => (0, 0),
+        };
+        Words(vec![u64::from(number), points as u64, paths as u64, 1])
     }
 
     fn rust(&self, lengths: &Lengths, answer: &Answer<Lines>) -> Words {
@@ -276,6 +336,7 @@ pub fn compare(run: &mut Run) {
     ];
     compare_one(run, "draw", |_| None, shares);
     compare_one(run, "draw_with", draw_inputs::threshold, &[shares, asked].concat());
+    preview_one(run, "preview", draw_inputs::threshold, &[shares, asked].concat());
 
     let shares: &[Part<Rooms, Words>] = &[
         ("drawn", &|_, _, a| a.0[0] == 0),
@@ -295,6 +356,40 @@ pub fn compare(run: &mut Run) {
     let (count, make) = (run.count.div_ceil(2), draw_inputs::rooms);
     run.compare_many("draw.rooms", count, make, Rooms::one, rust, &[&core], shares);
     tally.print("draw.rooms", 0, start.elapsed());
+
+    let tally = Tally::default();
+    let start = Instant::now();
+    let rust = |case: &Rooms| -> Vec<Words> {
+        case.lent.iter().map(|(_, answer)| tally.counts(answer)).collect()
+    };
+    let core = |case: &Rooms| -> Vec<Words> {
+        let lent = case.lent.iter();
+        lent.map(|(lengths, _)| tally.preview(&case.scene, &case.view, case.threshold, lengths))
+            .collect()
+    };
+    run.compare_many("preview.rooms", count, make, Rooms::one, rust, &[&core], shares);
+    tally.print("preview.rooms", 0, start.elapsed());
+}
+
+/// The preview of a draw with a threshold.
+fn preview_one(
+    run: &mut Run,
+    name: &str,
+    threshold: fn(&mut Rng) -> Threshold,
+    shares: &[Share<Draw, Words>],
+) {
+    let (tally, omitted) = (Tally::default(), Cell::new(0));
+    let make = |rng: &mut Rng| {
+        let mut count = omitted.get();
+        let case = draw_inputs::draw(rng, &mut count, threshold);
+        omitted.set(count);
+        case
+    };
+    let start = Instant::now();
+    let rust = |case: &Draw| tally.counts(&case.answer);
+    let core = |case: &Draw| tally.preview(&case.scene, &case.view, case.threshold, &case.lengths);
+    run.compare(name, run.count, make, rust, &[&core], shares);
+    tally.print(name, omitted.get(), start.elapsed());
 }
 
 /// One of the two draws: by default, or with a threshold.

@@ -66,8 +66,12 @@ module _ (t : Float) (s : Scene) (d : Verdict) (judged : d ≡ checkOf s) (v : V
       pub scene-listed : 6144 ≤ length bs → 1024 ≤ length ds → Listed bs ds n
       scene-listed long room = accepted-listed s n is M bs (left-is zeroF n h M (boxesOf s) lb) long ds (omega (arith, accepted-many s n is)) listed
 
+      pub drawn-as : (L : ℕ) (vs : List Float) → vs ≡ padded zeroF L (ifAccepted d (inversesOf s)) → {b c : Bool} → b ≡ viewOk v → b ≡ true → c ≡ thresholdOk t → c ≡ true
+          → drawWith t s v w ≡ rendered t v w (linedAt 8 (s .numbers) vs (s .marks) (s .points) (s .starts) (s .owners)) (boxAt bs) (take n ds)
+      drawn-as L vs lv e f g k =
+          draw-as e f g k
+          ∙ sym (rendered-is-render s n is t v w L vs (left-is zeroF n h L (inversesOf s) lv) M bs (left-is zeroF n h M (boxesOf s) lb) ds listed)
+
       pub scene-rendered : (L : ℕ) (vs : List Float) → vs ≡ padded zeroF L (ifAccepted d (inversesOf s)) → {b c : Bool} → b ≡ viewOk v → b ≡ true → c ≡ thresholdOk t → c ≡ true → (xs : List Float) (ss : List ℕ) {r : Counts}
           → EndsBoth (rendered t v w (linedAt 8 (s .numbers) vs (s .marks) (s .points) (s .starts) (s .owners)) (boxAt bs) (take n ds)) xs ss r → EndsBoth (drawWith t s v w) xs ss r
-      scene-rendered L vs lv e f g k xs ss r =
-          ends-both-as (draw-as e f g k
-          ∙ sym (rendered-is-render s n is t v w L vs (left-is zeroF n h L (inversesOf s) lv) M bs (left-is zeroF n h M (boxesOf s) lb) ds listed)) r
+      scene-rendered L vs lv e f g k xs ss r = ends-both-as (drawn-as L vs lv e f g k) r

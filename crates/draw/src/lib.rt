@@ -78,7 +78,7 @@ fn drawing(
 }
 
 // The work slices are left as zeros.
-fn clear_work(
+pub fn clear_work(
     work: &mut [f64],
     work_starts: &mut [usize],
     chopped: &mut [f64],

@@ -21,6 +21,7 @@ use Rattle.tree_sight.proofs.Answers.{sees-same}
 use Rattle.query_scene.specs.Queries.{plantedOf, ifBuilt}
 use Rattle.query_scene.specs.declared.Built.{Built}
 use Rattle.query_scene.specs.declared.Built.the-variants.{Nodes, Refused as NotBuilt}
+use Rattle.paths.specs.Answers.{refused}
 use Rattle.paths.specs.Paths.{pathsWith}
 use Rattle.paths.specs.Ends.{EndsBoth}
 use Rattle.paths.specs.declared.Counts.{Counts}
@@ -45,16 +46,26 @@ module _ (ns vs : List Float) (ms : List ℕ) (box : ℕ → BBox) (nodeBoxes : 
 -- ---- steps 3 and 4: each way out
 module _ (v : View) (ns vs : List Float) (ms : List ℕ) (box : ℕ → BBox) (ids : List ℕ) (nodes room : ℕ) (points : List Vector) (starts : List ℕ) (places startRoom : ℕ)
     {b : Built} (planted : b ≡ plantedOf box ids nodes room) where
+  -- there is no room for the tree
+  pub unplanted-is : {k : Refusal} → b ≡ NotBuilt k → seenLines v nodes room (decode 8 ns vs ms) box ids places startRoom (pathsWith points starts) ≡ refused k
+  unfolding seenLines onTree
+  unplanted-is h = rw (← planted, h)
+
   pub unplanted : {k : Refusal} → b ≡ NotBuilt k → (ys : List Float) (us : List ℕ)
       → EndsBoth (seenLines v nodes room (decode 8 ns vs ms) box ids places startRoom (pathsWith points starts)) ys us (Refused k)
-  unfolding seenLines onTree
-  unplanted h ys us = refuses-both ys us (rw (← planted, h))
+  unplanted h ys us = refuses-both ys us (unplanted-is h)
+
+  -- or the points are filtered on its rows
+  pub seen-is : {n : ℕ} → b ≡ Nodes n → (nodeBoxes : List Float) (nodeMarks order : List ℕ) (B M O : ℕ) → nodeBoxes ≡ padded zeroF B (boxRows (ifBuilt b (nodesFor box ids)))
+      → nodeMarks ≡ padded 0 M (markRows (ifBuilt b (nodesFor box ids))) → order ≡ padded 0 O (ifBuilt b (orderFor box ids))
+      → seenLines v nodes room (decode 8 ns vs ms) box ids places startRoom (pathsWith points starts) ≡ clipPaths (v .matrix) (seenFrom ns vs ms nodeBoxes nodeMarks order (v .eye)) points starts places startRoom
+  unfolding seenLines onTree ifBuilt
+  seen-is e nodeBoxes nodeMarks order B M O h m o =
+      let s = seen-on-rows ns vs ms box nodeBoxes nodeMarks order B M O ids (h ∙ rw e) (m ∙ rw e) (o ∙ rw e) (v .eye) in
+      rw (← planted, e, ← s)
 
   pub seen-lines : {n : ℕ} → b ≡ Nodes n → (nodeBoxes : List Float) (nodeMarks order : List ℕ) (B M O : ℕ) → nodeBoxes ≡ padded zeroF B (boxRows (ifBuilt b (nodesFor box ids)))
       → nodeMarks ≡ padded 0 M (markRows (ifBuilt b (nodesFor box ids))) → order ≡ padded 0 O (ifBuilt b (orderFor box ids)) → (ys : List Float) (us : List ℕ) {r : Counts}
       → EndsBoth (clipPaths (v .matrix) (seenFrom ns vs ms nodeBoxes nodeMarks order (v .eye)) points starts places startRoom) ys us r
       → EndsBoth (seenLines v nodes room (decode 8 ns vs ms) box ids places startRoom (pathsWith points starts)) ys us r
-  unfolding seenLines onTree ifBuilt
-  seen-lines e nodeBoxes nodeMarks order B M O h m o ys us f =
-      let s = seen-on-rows ns vs ms box nodeBoxes nodeMarks order B M O ids (h ∙ rw e) (m ∙ rw e) (o ∙ rw e) (v .eye) in
-      ends-both-as (rw (← planted, e, ← s)) f
+  seen-lines e nodeBoxes nodeMarks order B M O h m o ys us f = ends-both-as (seen-is e nodeBoxes nodeMarks order B M O h m o) f

@@ -15,7 +15,7 @@ use Rattle.scene.specs.Entries.{entryAt}
 use Rattle.refusals.specs.declared.Refusal.{Refusal}
 use Rattle.refusals.specs.declared.Refusal.the-variants.{Point}
 use Rattle.scene_shape.specs.Shapes.{Shape, decode}
-use Rattle.paths.specs.Answers.{Answer}
+use Rattle.paths.specs.Answers.{Answer, answered, refused, next}
 use Rattle.paths.specs.Paths.{Paths, pathsWith, noPaths}
 use Rattle.paths.specs.Ends.{allPoints, held, EndsBoth}
 use Rattle.paths.specs.Judged.{pointsOk}
@@ -40,14 +40,20 @@ use Rattle.draw_render.specs.Slices.{placesIn}
 
 -- ---- simplification
 module _ (t : Float) (path : List Float) (starts : List ℕ) (room startRoom : ℕ) {b : Bool} (e : b ≡ pointsOk (allPoints path)) where
-  pub simplify-far : b ≡ false → (ys : List Float) (us : List ℕ) → EndsBoth (simplifiedLines t room startRoom (pathsWith (allPoints path) starts)) ys us (Refused Point)
+  pub far-is : b ≡ false → simplifiedLines t room startRoom (pathsWith (allPoints path) starts) ≡ refused Point
   unfolding simplifiedLines
-  simplify-far h ys us = refuses-both ys us (rw (handed-far (pathsWith (allPoints path) starts) (sym e ∙ h)))
+  far-is h = rw (handed-far (pathsWith (allPoints path) starts) (sym e ∙ h))
+
+  pub simplify-far : b ≡ false → (ys : List Float) (us : List ℕ) → EndsBoth (simplifiedLines t room startRoom (pathsWith (allPoints path) starts)) ys us (Refused Point)
+  simplify-far h ys us = refuses-both ys us (far-is h)
+
+  pub near-is : b ≡ true → simplifiedLines t room startRoom (pathsWith (allPoints path) starts) ≡ simplifyPaths t (allPoints path) starts room startRoom
+  unfolding simplifiedLines
+  near-is h = rw (handed-on (pathsWith (allPoints path) starts) (sym e ∙ h))
 
   pub simplify-near : b ≡ true → (ys : List Float) (us : List ℕ) {r : Counts} → EndsBoth (simplifyPaths t (allPoints path) starts room startRoom) ys us r
       → EndsBoth (simplifiedLines t room startRoom (pathsWith (allPoints path) starts)) ys us r
-  unfolding simplifiedLines
-  simplify-near h ys us f = ends-both-as (rw (handed-on (pathsWith (allPoints path) starts) (sym e ∙ h))) f
+  simplify-near h ys us f = ends-both-as (near-is h) f
 
 -- ---- steps 2 to 5
 module _ (t : Float) (v : View) (w : Places) (solid : ℕ → Shape) (box : ℕ → BBox) (ids : List ℕ) (work : List Float) (ws : List ℕ) (n m : ℕ) (fit : n * 3 ≤ length work) where
@@ -58,10 +64,13 @@ module _ (t : Float) (v : View) (w : Places) (solid : ℕ → Shape) (box : ℕ 
   given = rw (part-all work n fit)
 
   module _ {b : Bool} (e : b ≡ stepping v) where
+    pub plain-is : b ≡ false → value ≡ seenLines v (w .nodes) (w .order) solid box ids (w .points) (w .starts) (pathsWith (allPoints (take (n * 3) work)) (take m ws))
+    unfolding staged
+    plain-is h = rw (← e, h, ← given)
+
     pub plain : b ≡ false → (ys : List Float) (us : List ℕ) {r : Counts}
         → EndsBoth (seenLines v (w .nodes) (w .order) solid box ids (w .points) (w .starts) (pathsWith (allPoints (take (n * 3) work)) (take m ws))) ys us r → EndsBoth value ys us r
-    unfolding staged
-    plain h ys us f = ends-both-as (rw (← e, h, ← given)) f
+    plain h ys us f = ends-both-as (plain-is h) f
 
     module _ (steps : b ≡ true) {a : RenderArgs} (args : a ≡ argsOf v) (ys : List Float) (us : List ℕ) {c : Counts}
         (chop : EndsBoth (choppedLines a (w .lines .chopped) (w .lines .begins) (pathsWith (allPoints (take (n * 3) work)) (take m ws))) ys us c) where
@@ -82,12 +91,15 @@ module _ (t : Float) (v : View) (w : Places) (solid : ℕ → Shape) (box : ℕ 
         unfolding staged
         seen-refused g xs ss = refuses-both xs ss (rw (← e, steps, chop-as, both-at chop h, seen-as, both-refused seen g))
 
+        pub simplified-is : {x y : ℕ} → d ≡ Both x y → value ≡ simplifiedLines t (w .points) (w .starts) (pathsWith (allPoints (take (x * 3) zs)) (take y vs))
+        unfolding staged
+        simplified-is {x} {y} g =
+            let i : pathsWith (allPoints (take (x * 3) zs)) (take y vs) ≡ held x zs y vs = rw (part-all zs x (seen .fits x y g .0)) in
+            rw (← e, steps, chop-as, both-at chop h, seen-as, both-at seen g, ← i)
+
         pub simplified : {x y : ℕ} → d ≡ Both x y → (xs : List Float) (ss : List ℕ) {r : Counts}
             → EndsBoth (simplifiedLines t (w .points) (w .starts) (pathsWith (allPoints (take (x * 3) zs)) (take y vs))) xs ss r → EndsBoth value xs ss r
-        unfolding staged
-        simplified {x} {y} g xs ss f =
-            let i : pathsWith (allPoints (take (x * 3) zs)) (take y vs) ≡ held x zs y vs = rw (part-all zs x (seen .fits x y g .0)) in
-            ends-both-as (rw (← e, steps, chop-as, both-at chop h, seen-as, both-at seen g, ← i)) f
+        simplified g xs ss f = ends-both-as (simplified-is g) f
 
 -- ---- all six
 module _ (t : Float) (v : View) (wide many : ℕ) (chopped : List Float) (choppedStarts : List ℕ) (nodeBoxes : List Float) (nodeMarks order : List ℕ) (out : List Float) (begins : List ℕ)
@@ -101,9 +113,7 @@ module _ (t : Float) (v : View) (wide many : ℕ) (chopped : List Float) (choppe
     unfolding rendered
     lines-refused h ys us = refuses-both ys us (rw (← args, both-refused lines h))
 
-    module _ {n m : ℕ} (h : c ≡ Both n m) (lx : wide ≤ length xs) (ls : many ≤ length ss) (chopped′ : List Float) (choppedStarts′ : List ℕ) (lc : length chopped′ ≡ length chopped) (lu : length choppedStarts′ ≡ length choppedStarts)
-        (ys : List Float) (us : List ℕ) {r : Counts}
-        (stages : EndsBoth (staged t v (placesIn (length (take wide xs)) (length (take many ss)) chopped′ choppedStarts′ nodeBoxes nodeMarks order out begins) (decode 8 ns vs ms) box ids (held n (take wide xs) m (take many ss))) ys us r) where
+    module _ {n m : ℕ} (h : c ≡ Both n m) (lx : wide ≤ length xs) (ls : many ≤ length ss) (chopped′ : List Float) (choppedStarts′ : List ℕ) (lc : length chopped′ ≡ length chopped) (lu : length choppedStarts′ ≡ length choppedStarts) where
       solids : decode 8 ns vs ms ≡ (λ (i : ℕ). bare (linedAt 8 ns vs ms ps starts owners i))
       solids = fun-ext (λ (i : ℕ). sym (bare-read (entryAt ns vs ms) (ownLines ms ps starts owners) 8 i))
 
@@ -114,13 +124,20 @@ module _ (t : Float) (v : View) (wide many : ℕ) (chopped : List Float) (choppe
           ≡ staged t v (placesIn (length (take wide xs)) (length (take many ss)) chopped′ choppedStarts′ nodeBoxes nodeMarks order out begins) (decode 8 ns vs ms) box ids (held n (take wide xs) m (take many ss))
       staged-as = rw (room-as, ← solids)
 
-      pub stages-refused : {k : Refusal} → r ≡ Refused k → (zs : List Float) (ws : List ℕ) → EndsBoth drawing zs ws (Refused k)
+      -- the lines go through the other steps
+      pub on-is : drawing ≡ next (staged t v (placesIn (length (take wide xs)) (length (take many ss)) chopped′ choppedStarts′ nodeBoxes nodeMarks order out begins) (decode 8 ns vs ms) box ids (held n (take wide xs) m (take many ss)))
+          (λ (p : Paths). answered (mapped (viewport (v .width) (v .height)) p))
       unfolding rendered
-      stages-refused g zs ws = refuses-both zs ws (rw (← args, both-at lines h, staged-as, both-refused stages g))
+      on-is = rw (← args, both-at lines h, staged-as)
 
-      pub on-sheet : {p q : ℕ} → r ≡ Both p q → {M : Matrix} → M ≡ viewport (v .width) (v .height) → (zs : List Float) → zs ≡ transformed M p ys → length zs ≡ length ys → EndsBoth drawing zs us (Both p q)
-      unfolding rendered mapped
-      on-sheet {p} {q} g {M} eM zs ez lz =
-          let f = stages .fits p q g in
-          let e : points p zs ≡ map (mulPosition (viewport (v .width) (v .height))) (points p ys) = ap (points p) ez ∙ transformed-points M p ys ∙ rw eM in
-          answers-both p q zs us (rw (← args, both-at lines h, staged-as, both-at stages g, e)) (omega (arith, f .0, lz)) (f .1)
+      module _ (ys : List Float) (us : List ℕ) {r : Counts}
+          (stages : EndsBoth (staged t v (placesIn (length (take wide xs)) (length (take many ss)) chopped′ choppedStarts′ nodeBoxes nodeMarks order out begins) (decode 8 ns vs ms) box ids (held n (take wide xs) m (take many ss))) ys us r) where
+        pub stages-refused : {k : Refusal} → r ≡ Refused k → (zs : List Float) (ws : List ℕ) → EndsBoth drawing zs ws (Refused k)
+        stages-refused g zs ws = refuses-both zs ws (on-is ∙ rw (both-refused stages g))
+
+        pub on-sheet : {p q : ℕ} → r ≡ Both p q → {M : Matrix} → M ≡ viewport (v .width) (v .height) → (zs : List Float) → zs ≡ transformed M p ys → length zs ≡ length ys → EndsBoth drawing zs us (Both p q)
+        unfolding mapped
+        on-sheet {p} {q} g {M} eM zs ez lz =
+            let f = stages .fits p q g in
+            let e : points p zs ≡ map (mulPosition (viewport (v .width) (v .height))) (points p ys) = ap (points p) ez ∙ transformed-points M p ys ∙ rw eM in
+            answers-both p q zs us (on-is ∙ rw (both-at stages g, e)) (omega (arith, f .0, lz)) (f .1)

@@ -38,7 +38,7 @@ fn simplify_lines(
 
 // The tree of the first `count` listed solids is built, and the points of the lines are filtered by the
 // clip box and the eye test on it.
-fn visible_lines(
+pub fn visible_lines(
     view: View,
     numbers: &[f64],
     inverses: &[f64],
@@ -81,7 +81,7 @@ fn visible_lines(
     }
 }
 
-fn stepping(view: View) -> bool
+pub fn stepping(view: View) -> bool
     ensures { λ r. ⌜ r ≡ Render.stepping view ⌝ }
 {
     0.0 < view.step

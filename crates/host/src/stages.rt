@@ -15,7 +15,7 @@ use matrix::Matrix;
 use paths::Counts;
 use view::View;
 
-fn counts_number(c: Counts) -> u32
+pub fn counts_number(c: Counts) -> u32
     ensures { λ r. ⌜ r ≡ StageCalls.countsNumber c ⌝ }
 {
     match c {
@@ -24,7 +24,7 @@ fn counts_number(c: Counts) -> u32
     }
 }
 
-fn point_count(c: Counts) -> usize
+pub fn point_count(c: Counts) -> usize
     ensures { λ r. ⌜ r ≡ StageCalls.pointsTold c ⌝ }
 {
     match c {
@@ -33,7 +33,7 @@ fn point_count(c: Counts) -> usize
     }
 }
 
-fn path_count(c: Counts) -> usize
+pub fn path_count(c: Counts) -> usize
     ensures { λ r. ⌜ r ≡ StageCalls.pathsTold c ⌝ }
 {
     match c {
@@ -42,7 +42,7 @@ fn path_count(c: Counts) -> usize
     }
 }
 
-fn view_from(v: &[f64; 22]) -> View
+pub fn view_from(v: &[f64; 22]) -> View
     ensures { λ r. ⌜ r ≡ StageCalls.viewOfRow (now (v .entry)) ⌝ }
 {
     View {

@@ -74,7 +74,7 @@ fn split(path: &[f64], a: usize, b: usize, threshold: f64, low: f64) -> usize
 // What is kept of the path from `from` up to `end` goes after the first n points. Whatever is before
 // place a is done; a itself and the places that wait, the last of them next, are kept and not yet
 // written. They wait at the end of `out`, one number each, where each will need three.
-fn path_simplify(
+pub fn path_simplify(
     path: &[f64],
     from: usize,
     end: usize,

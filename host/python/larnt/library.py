@@ -21,7 +21,7 @@ NUMBERS, MARKS, PLACES, BYTES = ([POINTER(kind), c_size_t] for kind in (c_double
 SCENE = NUMBERS + MARKS + NUMBERS + PLACES + MARKS
 TREE = NUMBERS + MARKS + MARKS
 COUNT, FLAG, ROW = POINTER(c_size_t), POINTER(c_bool), POINTER(c_double)
-FILLED = NUMBERS + PLACES + NUMBERS + PLACES + NUMBERS + PLACES + NUMBERS + MARKS + MARKS + [COUNT, COUNT]
+WORK = NUMBERS + PLACES + NUMBERS + PLACES + NUMBERS + MARKS + MARKS + [COUNT, COUNT]
 
 HOST = {
     "larnt_check": SCENE + [ROW, ROW, POINTER(c_uint32), COUNT],
@@ -30,8 +30,10 @@ HOST = {
     "larnt_visible": SCENE + TREE + [ROW, ROW, FLAG],
     "larnt_occluder": SCENE + TREE + [ROW, ROW, POINTER(c_uint32)],
     "larnt_covered_all": SCENE + TREE + [ROW] + NUMBERS + BYTES,
-    "larnt_draw_with": SCENE + [ROW, c_double] + FILLED,
+    "larnt_draw_with": SCENE + [ROW, c_double] + NUMBERS + PLACES + WORK,
 }
+
+PREVIEW = {"larnt_preview": SCENE + [ROW, c_double, c_size_t, c_size_t] + WORK}
 
 
 class Registers(ctypes.Structure):
@@ -92,6 +94,12 @@ def loaded(name: str, calls: dict) -> ctypes.CDLL:
 def host() -> ctypes.CDLL:
     """The calls on scenes, trees and draws."""
     return loaded("host", HOST)
+
+
+@functools.lru_cache(maxsize=None)
+def preview() -> ctypes.CDLL:
+    """The counts of a draw."""
+    return loaded("host_preview", PREVIEW)
 
 
 @functools.lru_cache(maxsize=None)

@@ -247,6 +247,18 @@ class Scene:
             raise diagnosis.refused(answer, made, view, threshold, most_points)
         return drawing
 
+    def preview(self, seen: Seen, *, threshold: float = FINE, most_points: int = MOST_POINTS) -> Tuple[int, int]:
+        """How many points and paths `draw` would answer, without the drawing; where `libhost_preview.a` is there."""
+        view = as_view(seen)
+        made = self.lined(view)
+        for points in rooms(made, most_points):
+            answer, counts = counted(made, view, threshold, points)
+            if answer != 13:
+                break
+        if answer:
+            raise diagnosis.refused(answer, made, view, threshold, most_points)
+        return counts
+
 
 def rooms(made: Slices, most: int) -> Iterator[int]:
     """The rooms to try, in points. Most draws that do not fit say so at the chop, before the eye tests, which take most
@@ -258,18 +270,32 @@ def rooms(made: Slices, most: int) -> Iterator[int]:
         yield points
 
 
+def slots(kind: type, count: int) -> list:
+    """A slice of zeros."""
+    return [(kind * count)(), count]
+
+
+def work(made: Slices, points: int) -> list:
+    """What a draw works in, with room for so many points."""
+    nodes = 2 * len(made.entries) + 1
+    lines = slots(c_double, 8 * 3 * points) + slots(c_size_t, 8 * points) + slots(c_double, 3 * points) + slots(c_size_t, points)
+    return lines + slots(c_double, 6 * nodes) + slots(c_uint32, 3 * nodes) + slots(c_uint32, nodes)
+
+
+def counted(made: Slices, view: View, threshold: float, points: int) -> Tuple[int, Tuple[int, int]]:
+    """The answer of `attempt` and its counts, without its drawing."""
+    points_out, paths_out = c_size_t(), c_size_t()
+    asked = (*made.arguments(), library.numbers(view.numbers()), threshold, 3 * points, points)
+    answer = library.preview().larnt_preview(*asked, *work(made, points), byref(points_out), byref(paths_out))
+    return answer, (points_out.value, paths_out.value)
+
+
 def attempt(made: Slices, view: View, threshold: float, points: int) -> Tuple[int, Drawing]:
     """One call of the library with room for so many points; its answer, and the drawing where that is 0."""
-    nodes = 2 * len(made.entries) + 1
-
-    def slots(kind: type, count: int) -> list:
-        return [(kind * count)(), count]
-
     out, begins = slots(c_double, 3 * points), slots(c_size_t, points)
-    work = slots(c_double, 8 * 3 * points) + slots(c_size_t, 8 * points) + slots(c_double, 3 * points) + slots(c_size_t, points)
-    tree = slots(c_double, 6 * nodes) + slots(c_uint32, 3 * nodes) + slots(c_uint32, nodes)
     points_out, paths_out = c_size_t(), c_size_t()
-    answer = library.host().larnt_draw_with(*made.arguments(), library.numbers(view.numbers()), threshold, *out, *begins, *work, *tree, byref(points_out), byref(paths_out))
+    asked = (*made.arguments(), library.numbers(view.numbers()), threshold)
+    answer = library.host().larnt_draw_with(*asked, *out, *begins, *work(made, points), byref(points_out), byref(paths_out))
     numbers, starts = out[0][: 3 * points_out.value], begins[0][: paths_out.value]
     rows = list(zip(numbers[0::3], numbers[1::3], numbers[2::3]))
     paths = [rows[a:b] for a, b in zip(starts, [*starts[1:], points_out.value])]

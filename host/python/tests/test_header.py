@@ -30,7 +30,7 @@ class Header(unittest.TestCase):
     def test_each_call_has_the_types_that_the_header_declares(self):
         header = declared()
         self.assertIn("larnt_draw_with", header)
-        for name, types in {**library.HOST, **library.PLOTTER}.items():
+        for name, types in {**library.HOST, **library.PREVIEW, **library.PLOTTER}.items():
             with self.subTest(name):
                 result, parameters = header[name]
                 self.assertEqual(types, [typed(p) for p in parameters])
