@@ -1,6 +1,6 @@
 /* The calls that libhost.a exports (`rt staticlib host`), the preview of libhost_preview.a, and at the end those of
-   libhost_plotter.a. `tools/house` holds these declarations to the crates of these names, type by type. The pointers must not be
-   null, not even those of no elements, and what is filled must overlap neither what is read nor anything else that
+   libhost_text.a, libhost_plotter.a and libhost_merge.a. `tools/house` holds these declarations to the crates of these
+   names, type by type. The pointers must not be null, not even those of no elements, and what is filled must overlap neither what is read nor anything else that
    is filled. Matrices stand by rows.
 
    Stack, measured (docs/MEASURES.md): larnt_draw and larnt_draw_with need about 214 KB for local arrays, larnt_build
@@ -171,6 +171,19 @@ uint32_t larnt_preview(LARNT_SCENE, const double view[22], double threshold, siz
                        double *node_boxes, size_t node_boxes_count, uint32_t *node_marks, size_t node_marks_count,
                        uint32_t *order, size_t order_count, size_t *points_out, size_t *paths_out);
 
+/* Canonical text: the calls that libhost_text.a exports (`rt staticlib host_text`).
+
+   Writes a view and a scene as forms: the view's line, then one line for each drawn entry in order; counts and
+   operations in decimal, every other number as # and 16 upper-case digits, a round solid's count of 0 left out. The text
+   is followed by zeros; `count` becomes how many bytes it has. Answers 0, or the number of the refusal: 2 to 7 or 14
+   for the scene, 8 for the view, 13 where `text` is too short; `text` is then zeros throughout, and `count` 0. */
+uint32_t larnt_write(LARNT_SCENE, const double view[22], uint8_t *text, size_t text_count, size_t *count);
+
+/* What the program `canonical` answers a yard's text: the same in canonical form, or "(refused N)" and a line feed,
+   followed by zeros. Answers how many bytes that is; N is 13 where `out` is too short for the text, and the answer 0
+   where it is too short for either. */
+size_t larnt_canonical(const uint8_t *text, size_t text_count, uint8_t *out, size_t out_count);
+
 /* The plotter's registers: the calls that libhost_plotter.a exports (`rt staticlib host_plotter`), declared in
    crates/host_plotter/src/registers.rt. No machine is behind them, and all state is in what is lent.
 
@@ -206,6 +219,20 @@ uint32_t larnt_pick(const double *yard, size_t yard_count, const size_t *yard_st
                     const double *lines, size_t lines_count, const size_t *line_starts, size_t line_starts_count,
                     const double pen[3], uint8_t *marks, size_t marks_count, bool *of_lines, size_t *path,
                     size_t *from, size_t *end);
+
+/* Two scenes merged into one, of libhost_merge.a (`rt staticlib host_merge`, declared in crates/host_merge/src/lib.rt):
+   the first scene's entries, then the second's with used part, owner and start indices raised; a scene without path
+   starts gives no points. The result slices hold the merged scene, then zeros, and the counts are its entries, points
+   and paths. Answers 0, or the number of the refusal: 2 to 7 or 14 for the first scene, then for the second, then 2 for
+   more than 1,024 entries together and 13 where a result slice is too short (16 numbers and 4 marks an entry, three
+   numbers a point, a start and an owner a path); the slices and the counts are then zeros. Needs about 200 KB of stack. */
+uint32_t larnt_merge(LARNT_SCENE, const double *more_numbers, size_t more_numbers_count, const uint32_t *more_marks,
+                     size_t more_marks_count, const double *more_points, size_t more_points_count,
+                     const size_t *more_starts, size_t more_starts_count, const uint32_t *more_owners,
+                     size_t more_owners_count, double *out_numbers, size_t out_numbers_count, uint32_t *out_marks,
+                     size_t out_marks_count, double *out_points, size_t out_points_count, size_t *out_starts,
+                     size_t out_starts_count, uint32_t *out_owners, size_t out_owners_count, size_t *entry_count,
+                     size_t *point_count, size_t *path_count);
 
 #ifdef __cplusplus
 }

@@ -1,6 +1,6 @@
-//! The calls of libhost.a (`rt staticlib host`) for Rust, of libhost_preview.a and of libhost_plotter.a. `tools/house`
-//! looks that none is missing; nothing checks their types against crates/host/src, crates/host_preview/src and
-//! crates/host_plotter/src. Matrices stand by rows; the kinds and the order of their numbers are in larnt.h, and so is
+//! The calls of libhost.a (`rt staticlib host`) for Rust, of libhost_preview.a of libhost_text.a and of libhost_plotter.a and libhost_merge.a. `tools/house`
+//! looks that none is missing; nothing checks their types against crates/host/src, crates/host_preview/src, crates/host_plotter/src and
+//! crates/host_merge/src. Matrices stand by rows; the kinds and the order of their numbers are in larnt.h, and so is
 //! what a scene holds.
 
 /// The calls as they are.
@@ -69,6 +69,16 @@ pub mod raw {
         ) -> u32;
     }
 
+    #[link(name = "host_text", kind = "static")]
+    unsafe extern "C" {
+        pub fn larnt_canonical(
+            text: *const u8,
+            text_count: usize,
+            out: *mut u8,
+            out_count: usize,
+        ) -> usize;
+    }
+
     // of libhost_plotter.a, as the calls on the registers below
     unsafe extern "C" {
         pub fn larnt_pick(
@@ -87,6 +97,46 @@ pub mod raw {
             path: &mut usize,
             from: &mut usize,
             end: &mut usize,
+        ) -> u32;
+    }
+
+    // of libhost_merge.a: two scenes, then the slices for a third and its counts
+    #[link(name = "host_merge", kind = "static")]
+    unsafe extern "C" {
+        pub fn larnt_merge(
+            numbers: *const f64,
+            numbers_count: usize,
+            marks: *const u32,
+            marks_count: usize,
+            points: *const f64,
+            points_count: usize,
+            starts: *const usize,
+            starts_count: usize,
+            owners: *const u32,
+            owners_count: usize,
+            more_numbers: *const f64,
+            more_numbers_count: usize,
+            more_marks: *const u32,
+            more_marks_count: usize,
+            more_points: *const f64,
+            more_points_count: usize,
+            more_starts: *const usize,
+            more_starts_count: usize,
+            more_owners: *const u32,
+            more_owners_count: usize,
+            out_numbers: *mut f64,
+            out_numbers_count: usize,
+            out_marks: *mut u32,
+            out_marks_count: usize,
+            out_points: *mut f64,
+            out_points_count: usize,
+            out_starts: *mut usize,
+            out_starts_count: usize,
+            out_owners: *mut u32,
+            out_owners_count: usize,
+            entry_count: &mut usize,
+            point_count: &mut usize,
+            path_count: &mut usize,
         ) -> u32;
     }
 
@@ -196,6 +246,12 @@ pub mod raw {
             tested_count: usize,
             told: *mut u8,
             told_count: usize,
+        );
+        fn larnt_write(
+            view: &[f64; 22],
+            text: *mut u8,
+            text_count: usize,
+            count: &mut usize,
         );
         fn larnt_draw(
             view: &[f64; 22],
@@ -680,6 +736,21 @@ pub fn draw(
     on_work!(larnt_draw, s, work, view, p, out.len(), q, begins.len())
 }
 
+/// Writes the canonical text of a view and a scene, then zeros; gives how many bytes it has.
+pub fn write(s: Scene, view: &[f64; 22], text: &mut [u8]) -> Result<usize, u32> {
+    let mut count = 0;
+    match on_scene!(larnt_write, s, view, text.as_mut_ptr(), text.len(), &mut count) {
+        0 => Ok(count),
+        number => Err(number),
+    }
+}
+
+/// Writes a yard's text in canonical form, or `(refused N)`, then zeros; gives how many bytes that is, 0 where
+/// there is no room for either.
+pub fn canonical(text: &[u8], out: &mut [u8]) -> usize {
+    unsafe { raw::larnt_canonical(text.as_ptr(), text.len(), out.as_mut_ptr(), out.len()) }
+}
+
 /// The same simplified with a threshold; a sheet in fine detail passes 1e-6.
 pub fn draw_with(
     s: Scene,
@@ -780,4 +851,61 @@ pub fn pick<'a>(
     }
     let points = if of_lines { lines.points } else { yard.points };
     Ok(&points[from * 3..end * 3])
+}
+
+/// The slices that a merged scene is written to.
+pub struct MergedSlices<'a> {
+    pub numbers: &'a mut [f64],
+    pub marks: &'a mut [u32],
+    pub points: &'a mut [f64],
+    pub starts: &'a mut [usize],
+    pub owners: &'a mut [u32],
+}
+
+/// Merges two scenes, the first's entries before the second's, and answers how many entries, points and paths the
+/// merged one has; zeros follow it in each slice.
+pub fn merge(a: Scene, b: Scene, out: MergedSlices) -> Result<(usize, usize, usize), u32> {
+    let (mut entries, mut points, mut paths) = (0, 0, 0);
+    let number = unsafe {
+        raw::larnt_merge(
+            a.numbers.as_ptr(),
+            a.numbers.len(),
+            a.marks.as_ptr(),
+            a.marks.len(),
+            a.points.as_ptr(),
+            a.points.len(),
+            a.starts.as_ptr(),
+            a.starts.len(),
+            a.owners.as_ptr(),
+            a.owners.len(),
+            b.numbers.as_ptr(),
+            b.numbers.len(),
+            b.marks.as_ptr(),
+            b.marks.len(),
+            b.points.as_ptr(),
+            b.points.len(),
+            b.starts.as_ptr(),
+            b.starts.len(),
+            b.owners.as_ptr(),
+            b.owners.len(),
+            out.numbers.as_mut_ptr(),
+            out.numbers.len(),
+            out.marks.as_mut_ptr(),
+            out.marks.len(),
+            out.points.as_mut_ptr(),
+            out.points.len(),
+            out.starts.as_mut_ptr(),
+            out.starts.len(),
+            out.owners.as_mut_ptr(),
+            out.owners.len(),
+            &mut entries,
+            &mut points,
+            &mut paths,
+        )
+    };
+    if number == 0 {
+        Ok((entries, points, paths))
+    } else {
+        Err(number)
+    }
 }

@@ -209,6 +209,18 @@ pub fn given(scene: &Scene, view: &View, room: &Room) -> Option<Lines> {
     }
 }
 
+/// What the core answers and leaves in slices of these lengths.
+pub fn core_words(scene: &Scene, view: &View, lengths: &Lengths) -> Words {
+    let mut lent = Lent::new(lengths);
+    let number = core_draw(scene, &view_numbers(view), None, &mut lent);
+    lent.words(number)
+}
+
+/// The same that the Rust's answer asks for.
+pub fn rust_words(lengths: &Lengths, answer: &Answer<Lines>) -> Words {
+    Lent::told(lengths, answer)
+}
+
 /// The same drawing, zeros and NaNs alike.
 pub fn alike(a: &Lines, b: &Lines) -> bool {
     let bits = |lines: &Lines| lines.points.iter().map(|x| calls::alike(*x)).collect::<Vec<u64>>();

@@ -21,6 +21,7 @@ mod harness;
 mod host;
 mod inputs;
 mod leaves;
+mod merges;
 mod registers;
 mod roots;
 mod names;
@@ -31,6 +32,7 @@ mod pens;
 mod scene_calls;
 mod scene_inputs;
 mod scenes;
+mod second_writer;
 mod stack;
 mod stage_inputs;
 mod stages;
@@ -38,6 +40,7 @@ mod stripes;
 mod tree_calls;
 mod tree_inputs;
 mod trees;
+mod writes;
 
 use harness::Run;
 use std::process::ExitCode;
@@ -55,8 +58,10 @@ const LAYERS: [Layer; 11] = [
     ("stripes", stripes::compare, || ()),
     ("outlines", outlines::compare, outlines::speed),
     ("draws", draws::compare, draws::speed),
+    ("writes", writes::compare, writes::speed),
     ("registers", registers::compare, registers::speed),
     ("pens", pens::compare, pens::speed),
+    ("merges", merges::compare, merges::speed),
 ];
 
 fn layers(named: &[&str]) -> Option<Vec<Layer>> {

@@ -1,6 +1,7 @@
 //! The program `yard` against the oracle's: seeded texts, good ones and spoilt ones, put to both.
 //!
-//!     texts SEED COUNT PROGRAM..   ends with 1 if any output differs by a byte
+//!     texts SEED COUNT PROGRAM..               ends with 1 if any output differs by a byte
+//!     texts SEED COUNT --canonical PROGRAM..   the program `canonical` against the second writer
 //!
 //! The shortest text that differs is left in target/differential/differing.yard.
 
@@ -16,6 +17,7 @@ mod inputs;
 mod scene_calls;
 #[allow(dead_code)]
 mod scene_inputs;
+mod second_writer;
 #[allow(dead_code)]
 mod stage_inputs;
 #[allow(dead_code)]
@@ -24,7 +26,7 @@ mod tree_inputs;
 use oracle::check::used_numbers;
 use oracle::generate::Rng;
 use oracle::stripes::striped;
-use oracle::{Scene, View};
+use oracle::{Scene, Trouble, View};
 use std::collections::BTreeMap;
 use std::io::Write;
 use std::process::{Command, ExitCode, Stdio};
@@ -44,19 +46,33 @@ fn main() -> ExitCode {
     }
 }
 
+/// The yard in canonical form, or its refusal.
+fn restated(text: &[u8]) -> String {
+    let read = oracle::yard::read(text);
+    match read.and_then(|(view, scene)| second_writer::judged(&scene, &view, usize::MAX)) {
+        Ok(text) => text,
+        Err(Trouble::Refused(number)) => format!("(refused {number})\n"),
+        Err(_) => "omitted\n".to_string(),
+    }
+}
+
 fn compare(seed: u64, count: u64, program: &[String]) -> u64 {
+    let canonical = program[0] == "--canonical";
+    let program = &program[usize::from(canonical)..];
     let mut rng = Rng::new(seed ^ harness::name_hash("texts"));
     let (mut answers, mut differ) = (BTreeMap::<String, u64>::new(), 0);
     let (mut omitted, mut longest, mut shortest) = (0, 0, usize::MAX);
     for _ in 0..count {
         let text = text(&mut rng);
-        let expected = oracle::yard::run(&text);
+        let expected = if canonical { restated(&text) } else { oracle::yard::run(&text) };
         if expected == "omitted\n" {
             omitted += 1;
             continue;
         }
         let first = expected.lines().next().unwrap_or("");
-        let answer = if first.starts_with("(drawing 0") {
+        let answer = if first.starts_with("(view") {
+            "canonical texts".to_string()
+        } else if first.starts_with("(drawing 0") {
             "empty drawings".to_string()
         } else if first.starts_with("(drawing") {
             "drawings".to_string()

@@ -41,7 +41,7 @@ fn digit_byte(d: u64) -> u8
 }
 
 // A byte after those that are there, unless there was trouble before.
-fn put_byte(text: &mut [u8], c: Count, b: u8) -> Count
+pub fn put_byte(text: &mut [u8], c: Count, b: u8) -> Count
     requires { ⌜ CountWithin c (length (now text)) ⌝ }
     ensures { λ r. ⌜ Writes (b ∷ []) (now (text .entry)) c (now (text .exit)) r ⌝ }
 {
@@ -57,7 +57,7 @@ fn put_byte(text: &mut [u8], c: Count, b: u8) -> Count
     }
 }
 
-fn put_word(text: &mut [u8], c: Count, word: &[u8]) -> Count
+pub fn put_word(text: &mut [u8], c: Count, word: &[u8]) -> Count
     requires { ⌜ CountWithin c (length (now text)) ⌝ }
     ensures { λ r. ⌜ Writes (now (word .entry)) (now (text .entry)) c (now (text .exit)) r ⌝ }
 {
@@ -71,7 +71,7 @@ fn put_word(text: &mut [u8], c: Count, word: &[u8]) -> Count
 }
 
 // The last k hexadecimal digits of v.
-fn put_hex(text: &mut [u8], c: Count, k: usize, v: u64) -> Count
+pub fn put_hex(text: &mut [u8], c: Count, k: usize, v: u64) -> Count
     requires { ⌜ CountWithin c (length (now text)) ⌝ }
     ensures { λ r. ⌜ Writes (hexWord k v) (now (text .entry)) c (now (text .exit)) r ⌝ }
 {
@@ -83,7 +83,7 @@ fn put_hex(text: &mut [u8], c: Count, k: usize, v: u64) -> Count
 }
 
 // The decimal digits of n, of which there are at most k.
-fn put_decimal(text: &mut [u8], c: Count, k: usize, n: u64) -> Count
+pub fn put_decimal(text: &mut [u8], c: Count, k: usize, n: u64) -> Count
     requires { ⌜ CountWithin c (length (now text)) ⌝ }
     ensures { λ r. ⌜ Writes (decimalWord k n) (now (text .entry)) c (now (text .exit)) r ⌝ }
 {
@@ -200,7 +200,7 @@ fn clear(text: &mut [u8], from: usize)
 }
 
 // The text and then zeros, or zeros throughout.
-fn finish(text: &mut [u8], c: Count) -> Count
+pub fn finish(text: &mut [u8], c: Count) -> Count
     requires { ⌜ CountWithin c (length (now text)) ⌝ }
     ensures answer { λ r. ⌜ r ≡ written (sofar c (now (text .entry))) ⌝ }
     ensures lent { λ _. ⌜ now (text .exit) ≡ laid (sofar c (now (text .entry))) (length (now (text .entry))) ⌝ }

@@ -171,7 +171,7 @@ fn closed_measures(kind: u32) -> usize
 }
 
 // How many numbers a form has.
-fn measures(kind: u32) -> usize
+pub fn measures(kind: u32) -> usize
     ensures { λ r. ⌜ (r ≡ Heads.measures kind) × (r ≤ 16) ⌝ }
 {
     if kind == 1 {

@@ -77,7 +77,7 @@ module _ (r r′ : List Float) where
   closed-agree k e false true e8 e9 = let q : k ≡ 9 = eqb-true k 9 e9 in rw q (closed-9 (rw q at e))
   closed-agree k e false false e8 e9 = rw (e8, e9)
 
-  all-agree : take 16 r ≡ take 16 r′ → numbersOf r ≡ numbersOf r′
+  pub all-agree : take 16 r ≡ take 16 r′ → numbersOf r ≡ numbersOf r′
   all-agree e =
       rw (
         cell 16 r r′ e 0 (omega arith),
@@ -98,7 +98,7 @@ module _ (r r′ : List Float) where
         cell 16 r r′ e 15 (omega arith),
       )
 
-  agree : (k : ℕ) → take (usedNumbers k) r ≡ take (usedNumbers k) r′ → (t1 t2 t3 t4 t5 : Bool) → eqb k 1 ≡ t1 → eqb k 2 ≡ t2 → eqb k 3 ≡ t3 → eqb k 4 ≡ t4 → eqb k 5 ≡ t5 → Agree k
+  pub agree : (k : ℕ) → take (usedNumbers k) r ≡ take (usedNumbers k) r′ → (t1 t2 t3 t4 t5 : Bool) → eqb k 1 ≡ t1 → eqb k 2 ≡ t2 → eqb k 3 ≡ t3 → eqb k 4 ≡ t4 → eqb k 5 ≡ t5 → Agree k
   unfolding simpleOf usedNumbers
   agree k e true t2 t3 t4 t5 e1 e2 e3 e4 e5 = let q : k ≡ 1 = eqb-true k 1 e1 in rw q (agree-1 (rw q at e))
   agree k e false true t3 t4 t5 e1 e2 e3 e4 e5 = let q : k ≡ 2 = eqb-true k 2 e2 in rw q (agree-2 (rw q at e))

@@ -1,42 +1,8 @@
 // The program `yard`: reads forms from standard input, and prints their drawing, or why they are refused.
-ghost use Prim.Native.Nat.{_≤_};
-ghost use lib.ListN.{length};
-ghost use Rattle.io.specs.Counts.{Counts};
-
-// One read into the text from place n on, and how far the text then goes: no farther at the end of the
-// input, and to the end of the slice where the read fails.
-fn read_some(text: &mut [u8], n: usize) -> usize
-    requires { ⌜ n ≤ length (now text) ⌝ }
-    ensures { λ r. ⌜ (n ≤ r) × (r ≤ length (now (text .entry))) ⌝ }
-{
-    let got = libc::read(0, &mut text[n..]);
-    if got < 0 {
-        return text.len();
-    }
-    n + io::count(got, &text[n..])
-}
-
-// Reads until the input ends, a read fails or the slice is full, and answers how far the text goes. A text
-// that could not be read to its end fills the slice, which has a byte more than a text may have: it meets
-// number 1, and is never drawn in part.
-fn read_text(text: &mut [u8]) -> usize
-    ensures { λ r. ⌜ Counts r (now (text .exit)) ⌝ }
-{
-    let mut n = 0;
-    while n < text.len() {
-        let m = read_some(text, n);
-        if m == n {
-            return n;
-        }
-        n = m;
-    }
-    n
-}
-
 fn main() {
     let mut text = [0u8; 65537];
     let mut out = [0u8; 131072];
-    let n = read_text(&mut text);
+    let n = text_input::read_text(0, &mut text);
     let k = text_reply::answer(&text[..n], &mut out);
     io::write_all(1, &out[..k]);
 }

@@ -8,6 +8,7 @@
 pub mod check;
 pub mod generate;
 pub mod outlines;
+pub mod merge;
 pub mod requests;
 pub mod stripes;
 pub mod yard;

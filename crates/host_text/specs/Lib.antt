@@ -1,0 +1,2 @@
+-- What the calls on text tell.
+pub mod TextCalls

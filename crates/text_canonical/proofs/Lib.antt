@@ -1,0 +1,10 @@
+pub mod Numerals
+pub mod Added
+pub mod Rereading
+pub mod Lexing
+pub mod Yards
+pub mod Readback
+pub mod Naming
+pub mod Again
+pub mod Owning
+pub mod Places

@@ -1,0 +1,2 @@
+-- What is asked of a scene whose entry is written.
+pub mod Entries

@@ -1,0 +1,2 @@
+-- What `canonical` answers a text.
+pub mod Restating

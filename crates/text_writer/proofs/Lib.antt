@@ -1,0 +1,3 @@
+pub mod Yards
+pub mod Written
+pub mod Fits

@@ -1,0 +1,2 @@
+-- What the canonical writer answers.
+pub mod Writer

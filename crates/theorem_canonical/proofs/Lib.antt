@@ -1,0 +1,7 @@
+pub mod Opened
+pub mod Values
+pub mod Judging
+pub mod Writing
+pub mod Passing
+pub mod Printed
+pub mod ReadBack

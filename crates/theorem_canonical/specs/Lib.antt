@@ -1,0 +1,3 @@
+-- Request (xii): what holds of the canonical text.
+pub mod ReadBack
+pub mod Printed
