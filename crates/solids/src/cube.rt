@@ -3,6 +3,7 @@ ghost use mathlib.Core.Path.{_≡_};
 ghost use mathlib.Core.Bool.{_&&_};
 ghost use lib.Ieee.{lt, le};
 ghost use Rattle.floats.specs.Arith.{thousandth};
+ghost use Rattle.geometry.specs.Rays.{rayOf};
 ghost use Rattle.solids.specs.Cubes.{cubeContains, cubeHit, outside};
 use geometry::hit::Hit;
 use geometry::ray::Ray;
@@ -47,8 +48,15 @@ fn enters(t0: f64, t1: f64) -> bool
 pub fn intersect(min: Vector, max: Vector, r: Ray) -> Hit
     ensures { λ h. ⌜ h ≡ cubeHit min max r ⌝ }
 {
-    let n = min.sub(r.origin).div(r.direction);
-    let f = max.sub(r.origin).div(r.direction);
+    hit(min, max, r.origin, r.direction)
+}
+
+// By origin and direction: as one struct they would be read back from memory in other pieces than were written.
+pub fn hit(min: Vector, max: Vector, o: Vector, d: Vector) -> Hit
+    ensures { λ h. ⌜ h ≡ cubeHit min max (rayOf o d) ⌝ }
+{
+    let n = min.sub(o).div(d);
+    let f = max.sub(o).div(d);
     let t0 = n.min(f).max_component();
     let t1 = n.max(f).min_component();
     if starts_inside(t0, t1) {

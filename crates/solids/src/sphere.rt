@@ -1,5 +1,6 @@
 // A sphere, by its centre and radius.
 ghost use mathlib.Core.Path.{_≡_};
+ghost use Rattle.geometry.specs.Rays.{rayOf};
 ghost use Rattle.solids.specs.Spheres.{sphereBox, sphereContains, sphereHit};
 use geometry::bounding_box::BBox;
 use geometry::hit::Hit;
@@ -21,12 +22,19 @@ pub fn contains(center: Vector, radius: f64, v: Vector, f: f64) -> bool
 pub fn intersect(center: Vector, radius: f64, r: Ray) -> Hit
     ensures { λ h. ⌜ h ≡ sphereHit center radius r ⌝ }
 {
-    let to = r.origin.sub(center);
-    let b = to.dot(r.direction);
+    hit(center, radius, r.origin, r.direction)
+}
+
+// By origin and direction: as one struct they would be read back from memory in other pieces than were written.
+pub fn hit(center: Vector, radius: f64, o: Vector, d: Vector) -> Hit
+    ensures { λ h. ⌜ h ≡ sphereHit center radius (rayOf o d) ⌝ }
+{
+    let to = o.sub(center);
+    let b = to.dot(d);
     let c = to.dot(to) - radius * radius;
-    let d = b * b - c;
-    if d > 0.0 {
-        let s = sqrt::root(d);
+    let q = b * b - c;
+    if q > 0.0 {
+        let s = sqrt::root(q);
         let t1 = -b - s;
         if t1 > 1e-2 {
             return Hit::new(t1);

@@ -3,6 +3,7 @@ ghost use mathlib.Core.Path.{_≡_};
 ghost use mathlib.Core.Bool.{_&&_, _||_};
 ghost use lib.Ieee.{lt, le, neg};
 ghost use Rattle.floats.specs.Arith.{_⊕_, zeroF, oneF, EPS};
+ghost use Rattle.geometry.specs.Rays.{rayOf};
 ghost use Rattle.solids.specs.Triangles.{triangleBox, triangleHit};
 use geometry::bounding_box::BBox;
 use geometry::hit::Hit;
@@ -36,25 +37,31 @@ fn is_beyond(u: f64, v: f64) -> bool
     v < 0.0 || u + v > 1.0
 }
 
-// Möller and Trumbore's test. The point at distance d along the ray is v1 + u e1 + v e2.
 pub fn intersect_vertices(v1: Vector, v2: Vector, v3: Vector, r: Ray) -> Hit
     ensures { λ h. ⌜ h ≡ triangleHit v1 v2 v3 r ⌝ }
 {
+    hit(v1, v2, v3, r.origin, r.direction)
+}
+
+// Möller and Trumbore's test, by origin and direction w. The point at distance d along the ray is v1 + u e1 + v e2.
+pub fn hit(v1: Vector, v2: Vector, v3: Vector, o: Vector, w: Vector) -> Hit
+    ensures { λ h. ⌜ h ≡ triangleHit v1 v2 v3 (rayOf o w) ⌝ }
+{
     let e1 = v2.sub(v1);
     let e2 = v3.sub(v1);
-    let p = r.direction.cross(e2);
+    let p = w.cross(e2);
     let det = e1.dot(p);
     if in_band(det) {
         return Hit::no_hit();
     }
     let inv = 1.0 / det;
-    let t = r.origin.sub(v1);
+    let t = o.sub(v1);
     let u = t.dot(p) * inv;
     if !in_unit(u) {
         return Hit::no_hit();
     }
     let q = t.cross(e1);
-    let v = r.direction.dot(q) * inv;
+    let v = w.dot(q) * inv;
     if is_beyond(u, v) {
         return Hit::no_hit();
     }

@@ -12,6 +12,7 @@ use geometry::bounding_box::BBox;
 use geometry::hit::Hit;
 use geometry::ray::Ray;
 use refusals::Refusal;
+use scene_plain::Plain;
 use scene_shape::Struck;
 
 // The best hit and the entry whose t last became the best: 0xffffffff, which no entry is, where none did.
@@ -45,11 +46,16 @@ pub fn nothing() -> Nearest
     }
 }
 
-// The hit that the solid at entry i gives the ray by itself.
+// The hit that the solid at entry i gives the ray by itself: a plain one, as most are, without an entry made of its
+// row.
 pub fn entry_hit(numbers: &[f64], inverses: &[f64], marks: &[u32], r: Ray, i: usize) -> Struck
     ensures { λ h. ⌜ h ≡ Walks.entryHit (now (numbers .entry)) (now (inverses .entry)) (now (marks .entry)) r i ⌝ }
 {
-    scene_shape::entry_hit(numbers, inverses, marks, i, r, 8)
+    let a = scene_plain::plain_hit(numbers, inverses, marks, i, r.origin, r.direction);
+    match a {
+        Plain::At(h) => Struck::At(h),
+        Plain::Other => scene_shape::entry_hit(numbers, inverses, marks, i, r, 8),
+    }
 }
 
 pub fn nearer(i: u32, h: Hit, best: Nearest) -> Nearest
