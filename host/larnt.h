@@ -19,6 +19,52 @@
 extern "C" {
 #endif
 
+/* Names for the numbers and lengths below. */
+enum { /* kinds of entries */
+    LARNT_SPHERE = 1,
+    LARNT_CYLINDER,
+    LARNT_CONE,
+    LARNT_CUBE,
+    LARNT_TRIANGLE,
+    LARNT_PLACED,
+    LARNT_CUT,
+    LARNT_CLOSED_CYLINDER,
+    LARNT_CLOSED_CONE
+};
+enum { /* operations of a cut: the Rust's two, and the two by the true distance */
+    LARNT_LAST_RAY_INTERSECTION,
+    LARNT_LAST_RAY_DIFFERENCE,
+    LARNT_INTERSECTION,
+    LARNT_DIFFERENCE
+};
+enum { /* what a call answers; README has the words of each refusal */
+    LARNT_DONE = 0,
+    LARNT_REFUSED_LENGTHS = 2,
+    LARNT_REFUSED_KIND = 3,
+    LARNT_REFUSED_PARTS = 4,
+    LARNT_REFUSED_MEASURE = 5,
+    LARNT_REFUSED_PLACING = 6,
+    LARNT_REFUSED_BOX = 7,
+    LARNT_REFUSED_VIEW = 8,
+    LARNT_REFUSED_POINT = 9,
+    LARNT_REFUSED_RESTARTS = 11,
+    LARNT_REFUSED_WAITING = 12,
+    LARNT_REFUSED_ROOM = 13,
+    LARNT_REFUSED_STRIPES = 14,
+    LARNT_REFUSED_USED_UP = 15,
+    LARNT_REFUSED_REGISTER = 16,
+    LARNT_REFUSED_COMMAND = 17
+};
+enum { /* how many places */
+    LARNT_POINT_NUMBERS = 3,
+    LARNT_ENTRY_NUMBERS = 16,
+    LARNT_ENTRY_MARKS = 4,
+    LARNT_VIEW_NUMBERS = 22,
+    LARNT_NODE_NUMBERS = 6,
+    LARNT_NODE_MARKS = 3,
+    LARNT_WORK_SLICES = 8 /* of a draw's `work` and `work_starts` */
+};
+
 /* The square root, correctly rounded: -0 for -0, a NaN for a negative and for a NaN. `rest` becomes its exact
    remainder: for a positive finite x the root is R * 2^k with R from 2^52 to 2^53 - 1, x is S * 4^k, and the
    remainder is S - R * R; else it is 0. So the root is exact where it is 0, below the true one where it is
@@ -233,6 +279,183 @@ uint32_t larnt_merge(LARNT_SCENE, const double *more_numbers, size_t more_number
                      size_t out_marks_count, double *out_points, size_t out_points_count, size_t *out_starts,
                      size_t out_starts_count, uint32_t *out_owners, size_t out_owners_count, size_t *entry_count,
                      size_t *point_count, size_t *path_count);
+
+/* Structs over the calls of ten and more arguments. A count is of entries, points, paths or nodes, not of numbers, and
+   NULL stands for what is empty, whatever its count. larnt_scene_X and larnt_lines_X hand over to larnt_X. */
+
+typedef struct {
+    const double *numbers;  /* 16 an entry */
+    const uint32_t *marks;  /* 4 an entry: kind, detail, first part, second part */
+    size_t entries;
+    const double *points;   /* 3 a point */
+    size_t points_count;
+    const size_t *starts;   /* where each path starts, in points, */
+    const uint32_t *owners; /* and the entry that owns it */
+    size_t paths;
+} larnt_scene;
+
+/* The places of a tree, which larnt_scene_build fills: `nodes` of them are enough if they are larnt_tree_nodes(entries). */
+typedef struct {
+    double *boxes;   /* 6 a node */
+    uint32_t *marks; /* 3 a node */
+    uint32_t *order; /* 1 a node */
+    size_t nodes;
+} larnt_tree;
+
+/* Paths that are read. */
+typedef struct {
+    const double *points; /* 3 a point */
+    size_t points_count;
+    const size_t *starts; /* 1 a path */
+    size_t paths;
+} larnt_lines;
+
+/* Room for paths, and then how many points and paths a call left in it. */
+typedef struct {
+    double *points; /* 3 a point */
+    size_t points_room;
+    size_t *starts; /* 1 a path */
+    size_t paths_room;
+    size_t points_count, paths;
+} larnt_paths;
+
+/* What a draw works in, for so many points and paths; zeros throughout afterwards. */
+typedef struct {
+    double *work;           /* 8 * 3 a point */
+    size_t *work_starts;    /* 8 a point */
+    double *chopped;        /* 3 a point */
+    size_t *chopped_starts; /* 1 a point */
+    size_t room;
+    larnt_tree tree;
+} larnt_work;
+
+/* A path that was picked: of which drawing, its place there, its first point and the one after its last. */
+typedef struct {
+    bool of_lines;
+    size_t path, from, end;
+} larnt_picked;
+
+/* The nodes of a tree with a leaf an entry. */
+static inline size_t larnt_tree_nodes(size_t entries)
+{
+    return 2 * entries + 1;
+}
+
+/* Handed over in place of NULL, with a count of 0: it is neither read nor written. */
+static inline void *larnt_nothing(void)
+{
+    static double nothing[1];
+    return nothing;
+}
+
+#define LARNT_SLICE(type, at, count) (at) ? (at) : (type *)larnt_nothing(), (at) ? (count) : 0
+#define LARNT_OF_SCENE(s) \
+    LARNT_SLICE(const double, (s)->numbers, LARNT_ENTRY_NUMBERS * (s)->entries), \
+    LARNT_SLICE(const uint32_t, (s)->marks, LARNT_ENTRY_MARKS * (s)->entries), \
+    LARNT_SLICE(const double, (s)->points, LARNT_POINT_NUMBERS * (s)->points_count), \
+    LARNT_SLICE(const size_t, (s)->starts, (s)->paths), LARNT_SLICE(const uint32_t, (s)->owners, (s)->paths)
+#define LARNT_OF_TREE(t) \
+    LARNT_SLICE(double, (t)->boxes, LARNT_NODE_NUMBERS * (t)->nodes), \
+    LARNT_SLICE(uint32_t, (t)->marks, LARNT_NODE_MARKS * (t)->nodes), LARNT_SLICE(uint32_t, (t)->order, (t)->nodes)
+#define LARNT_OF_LINES(l) \
+    LARNT_SLICE(const double, (l)->points, LARNT_POINT_NUMBERS * (l)->points_count), \
+    LARNT_SLICE(const size_t, (l)->starts, (l)->paths)
+#define LARNT_OF_ROOM(p) \
+    LARNT_SLICE(double, (p)->points, LARNT_POINT_NUMBERS * (p)->points_room), \
+    LARNT_SLICE(size_t, (p)->starts, (p)->paths_room)
+#define LARNT_OF_WORK(w) \
+    LARNT_SLICE(double, (w)->work, LARNT_WORK_SLICES * LARNT_POINT_NUMBERS * (w)->room), \
+    LARNT_SLICE(size_t, (w)->work_starts, LARNT_WORK_SLICES * (w)->room), \
+    LARNT_SLICE(double, (w)->chopped, LARNT_POINT_NUMBERS * (w)->room), \
+    LARNT_SLICE(size_t, (w)->chopped_starts, (w)->room), LARNT_OF_TREE(&(w)->tree)
+
+static inline uint32_t larnt_scene_check(const larnt_scene *scene, double inverses[16 * LARNT_ENTRIES],
+                                         double boxes[6 * LARNT_ENTRIES], uint32_t drawn[LARNT_ENTRIES], size_t *count)
+{
+    return larnt_check(LARNT_OF_SCENE(scene), inverses, boxes, drawn, count);
+}
+
+static inline uint32_t larnt_scene_own_hit(const larnt_scene *scene, size_t entry, const double ray[6], double *t,
+                                           bool *ok)
+{
+    return larnt_own_hit(LARNT_OF_SCENE(scene), entry, ray, t, ok);
+}
+
+static inline uint32_t larnt_scene_own_contains(const larnt_scene *scene, size_t entry, const double point[3], double f,
+                                                bool *inside)
+{
+    return larnt_own_contains(LARNT_OF_SCENE(scene), entry, point, f, inside);
+}
+
+static inline uint32_t larnt_scene_build(const larnt_scene *scene, larnt_tree *tree, size_t *count)
+{
+    return larnt_build(LARNT_OF_SCENE(scene), LARNT_OF_TREE(tree), count);
+}
+
+static inline uint32_t larnt_scene_intersect(const larnt_scene *scene, const larnt_tree *tree, const double ray[6],
+                                             double *t, bool *ok, uint32_t *entry)
+{
+    return larnt_intersect(LARNT_OF_SCENE(scene), LARNT_OF_TREE(tree), ray, t, ok, entry);
+}
+
+static inline uint32_t larnt_scene_visible(const larnt_scene *scene, const larnt_tree *tree, const double eye[3],
+                                           const double point[3], bool *seen)
+{
+    return larnt_visible(LARNT_OF_SCENE(scene), LARNT_OF_TREE(tree), eye, point, seen);
+}
+
+static inline uint32_t larnt_scene_occluder(const larnt_scene *scene, const larnt_tree *tree, const double eye[3],
+                                            const double point[3], uint32_t *entry)
+{
+    return larnt_occluder(LARNT_OF_SCENE(scene), LARNT_OF_TREE(tree), eye, point, entry);
+}
+
+static inline uint32_t larnt_scene_covered(const larnt_scene *scene, const larnt_tree *tree, const double eye[3],
+                                           const double point[3], bool *seen)
+{
+    return larnt_covered(LARNT_OF_SCENE(scene), LARNT_OF_TREE(tree), eye, point, seen);
+}
+
+/* A byte a point. */
+static inline uint32_t larnt_scene_covered_all(const larnt_scene *scene, const larnt_tree *tree, const double eye[3],
+                                               const double *points, size_t points_count, uint8_t *told)
+{
+    return larnt_covered_all(LARNT_OF_SCENE(scene), LARNT_OF_TREE(tree), eye,
+                             LARNT_SLICE(const double, points, LARNT_POINT_NUMBERS * points_count),
+                             LARNT_SLICE(uint8_t, told, points_count));
+}
+
+static inline uint32_t larnt_lines_chop(const double view[22], const larnt_lines *lines, larnt_paths *out)
+{
+    return larnt_chop(view, LARNT_OF_LINES(lines), LARNT_OF_ROOM(out), &out->points_count, &out->paths);
+}
+
+static inline uint32_t larnt_lines_simplify(const larnt_lines *lines, double threshold, larnt_paths *out)
+{
+    return larnt_simplify(LARNT_OF_LINES(lines), threshold, LARNT_OF_ROOM(out), &out->points_count, &out->paths);
+}
+
+static inline uint32_t larnt_scene_draw(const larnt_scene *scene, const double view[22], larnt_paths *out,
+                                        larnt_work *work)
+{
+    return larnt_draw(LARNT_OF_SCENE(scene), view, LARNT_OF_ROOM(out), LARNT_OF_WORK(work), &out->points_count, &out->paths);
+}
+
+static inline uint32_t larnt_scene_draw_with(const larnt_scene *scene, const double view[22], double threshold,
+                                             larnt_paths *out, larnt_work *work)
+{
+    return larnt_draw_with(LARNT_OF_SCENE(scene), view, threshold, LARNT_OF_ROOM(out), LARNT_OF_WORK(work),
+                           &out->points_count, &out->paths);
+}
+
+/* `marks` has one byte a path, the yard's first. */
+static inline uint32_t larnt_lines_pick(const larnt_lines *yard, const larnt_lines *lines, const double pen[3],
+                                        uint8_t *marks, larnt_picked *picked)
+{
+    return larnt_pick(LARNT_OF_LINES(yard), LARNT_OF_LINES(lines), pen,
+                      LARNT_SLICE(uint8_t, marks, (yard->starts ? yard->paths : 0) + (lines->starts ? lines->paths : 0)),
+                      &picked->of_lines, &picked->path, &picked->from, &picked->end);
+}
 
 #ifdef __cplusplus
 }

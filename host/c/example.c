@@ -35,7 +35,6 @@ static void *room_for(void *old, size_t count, size_t size)
     return taken;
 }
 
-/* A list is never NULL, since the library takes no null pointer. */
 #define LIST(type) struct { type *at; size_t count, room; }
 #define OPEN(list) ((list).at = room_for(NULL, (list).room = 64, sizeof *(list).at), (list).count = 0)
 #define PUSH(list, x) do { \
@@ -43,7 +42,6 @@ static void *room_for(void *old, size_t count, size_t size)
             (list).at = room_for((list).at, (list).room *= 2, sizeof *(list).at); \
         (list).at[(list).count++] = (x); \
     } while (0)
-#define SLICE(list) (list).at, (list).count
 
 static LIST(double) numbers, points;
 static LIST(uint32_t) marks, owners;
@@ -107,8 +105,9 @@ static double number(void)
 }
 
 static const struct { const char *head; uint32_t kind; int measures, parts; } forms[] = {
-    {"sphere", 1, 4, 0}, {"cylinder", 2, 3, 0}, {"cone", 3, 2, 0}, {"cube", 4, 6, 0}, {"triangle", 5, 9, 0},
-    {"place", 6, 16, 1}, {"cut", 7, 0, 2}, {"closed-cylinder", 8, 3, 0}, {"closed-cone", 9, 2, 0},
+    {"sphere", LARNT_SPHERE, 4, 0}, {"cylinder", LARNT_CYLINDER, 3, 0}, {"cone", LARNT_CONE, 2, 0},
+    {"cube", LARNT_CUBE, 6, 0}, {"triangle", LARNT_TRIANGLE, 9, 0}, {"place", LARNT_PLACED, 16, 1},
+    {"cut", LARNT_CUT, 0, 2}, {"closed-cylinder", LARNT_CLOSED_CYLINDER, 3, 0}, {"closed-cone", LARNT_CLOSED_CONE, 2, 0},
 };
 
 /* The (line ..) forms of a round solid at an entry. */
@@ -133,12 +132,12 @@ static void lines(uint32_t entry)
 static uint32_t form(int depth)
 {
     char w[24];
-    double row[16] = {0};
+    double row[LARNT_ENTRY_NUMBERS] = {0};
     uint32_t detail = 0, parts[2] = {0, 0}, entry;
     size_t f = 0;
 
     if (depth > DEEPEST)
-        refuse(4);
+        refuse(LARNT_REFUSED_PARTS);
     bracket('(');
     word(w);
     while (f < sizeof forms / sizeof *forms && strcmp(w, forms[f].head) != 0)
@@ -146,82 +145,87 @@ static uint32_t form(int depth)
     if (f == sizeof forms / sizeof *forms)
         refuse(1);
     uint32_t kind = forms[f].kind;
-    if (kind == 4 || kind == 7) /* a cube's stripes, a cut's operation */
+    if (kind == LARNT_CUBE || kind == LARNT_CUT) /* a cube's stripes, a cut's operation */
         detail = count();
     for (int k = 0; k < forms[f].measures; k++)
         row[k] = number();
-    int striped = kind == 2 || kind == 3 || kind >= 8;
+    int striped = kind == LARNT_CYLINDER || kind == LARNT_CONE || kind >= LARNT_CLOSED_CYLINDER;
     if (striped && next() != '(' && next() != ')')
         detail = count();
     for (int k = 0; k < forms[f].parts; k++)
         parts[k] = form(depth + 1);
     entry = (uint32_t)(marks.count / 4);
-    for (int k = 0; k < 16; k++)
+    for (int k = 0; k < LARNT_ENTRY_NUMBERS; k++)
         PUSH(numbers, row[k]);
     PUSH(marks, kind);
     PUSH(marks, detail);
     PUSH(marks, parts[0]);
     PUSH(marks, parts[1]);
-    if (striped || kind == 1)
+    if (striped || kind == LARNT_SPHERE)
         lines(entry);
     bracket(')');
     return entry;
 }
 
 /* (view width height step, eye, matrix) in the order of the library: matrix, eye, width, height, step. */
-static void read_view(double view[22])
+static void read_view(double view[LARNT_VIEW_NUMBERS])
 {
     char w[24];
     bracket('(');
     word(w);
     if (strcmp(w, "view") != 0)
         refuse(1);
-    for (int k = 0; k < 22; k++)
+    for (int k = 0; k < LARNT_VIEW_NUMBERS; k++)
         view[k < 3 ? 19 + k : k < 6 ? 13 + k : k - 6] = number();
     bracket(')');
 }
 
 /* ---- drawing */
 
-static void say(const double *out, const size_t *begins, size_t points_out, size_t paths_out)
+static void say(const larnt_paths *drawing)
 {
-    printf("(drawing %zu)\n", paths_out);
-    for (size_t i = 0; i < paths_out; i++) {
-        size_t end = i + 1 < paths_out ? begins[i + 1] : points_out;
+    printf("(drawing %zu)\n", drawing->paths);
+    for (size_t i = 0; i < drawing->paths; i++) {
+        size_t end = i + 1 < drawing->paths ? drawing->starts[i + 1] : drawing->points_count;
         printf("(path");
-        for (size_t k = 3 * begins[i]; k < 3 * end; k++) {
+        for (size_t k = 3 * drawing->starts[i]; k < 3 * end; k++) {
+            double x = drawing->points[k];
             uint64_t bits;
-            memcpy(&bits, &out[k], sizeof bits);
-            printf("%s#%016" PRIX64 "%s", k % 3 == 0 ? " (" : " ", out[k] == 0 ? 0 : bits, k % 3 == 2 ? ")" : "");
+            memcpy(&bits, &x, sizeof bits);
+            printf("%s#%016" PRIX64 "%s", k % 3 == 0 ? " (" : " ", x == 0 ? 0 : bits, k % 3 == 2 ? ")" : "");
         }
         printf(")\n");
     }
 }
 
 /* One draw with room for n points; answers as the library does. */
-static uint32_t draw(const double view[22], size_t n)
+static uint32_t draw(const larnt_scene *scene, const double view[LARNT_VIEW_NUMBERS], size_t n)
 {
-    size_t nodes = 2 * (marks.count / 4) + 1, points_out, paths_out;
-    double *out = room_for(NULL, 3 * n, sizeof *out), *work = room_for(NULL, 8 * 3 * n, sizeof *work);
-    double *chopped = room_for(NULL, 3 * n, sizeof *chopped), *boxes = room_for(NULL, 6 * nodes, sizeof *boxes);
-    size_t *begins = room_for(NULL, n, sizeof *begins), *work_starts = room_for(NULL, 8 * n, sizeof *work_starts);
-    size_t *chopped_starts = room_for(NULL, n, sizeof *chopped_starts);
-    uint32_t *node_marks = room_for(NULL, 3 * nodes, sizeof *node_marks), *order = room_for(NULL, nodes, sizeof *order);
-    uint32_t answer = larnt_draw_with(SLICE(numbers), SLICE(marks), SLICE(points), SLICE(starts), SLICE(owners), view,
-                                      FINE, out, 3 * n, begins, n, work, 8 * 3 * n, work_starts, 8 * n, chopped, 3 * n,
-                                      chopped_starts, n, boxes, 6 * nodes, node_marks, 3 * nodes, order, nodes,
-                                      &points_out, &paths_out);
-    if (answer == 0)
-        say(out, begins, points_out, paths_out);
-    free(out), free(work), free(chopped), free(boxes), free(begins), free(work_starts), free(chopped_starts);
-    free(node_marks), free(order);
+    larnt_paths drawing = {.points_room = n, .paths_room = n};
+    larnt_work work = {.room = n, .tree = {.nodes = larnt_tree_nodes(scene->entries)}};
+    uint32_t answer;
+
+    drawing.points = room_for(NULL, LARNT_POINT_NUMBERS * n, sizeof *drawing.points);
+    drawing.starts = room_for(NULL, n, sizeof *drawing.starts);
+    work.work = room_for(NULL, LARNT_WORK_SLICES * LARNT_POINT_NUMBERS * n, sizeof *work.work);
+    work.work_starts = room_for(NULL, LARNT_WORK_SLICES * n, sizeof *work.work_starts);
+    work.chopped = room_for(NULL, LARNT_POINT_NUMBERS * n, sizeof *work.chopped);
+    work.chopped_starts = room_for(NULL, n, sizeof *work.chopped_starts);
+    work.tree.boxes = room_for(NULL, LARNT_NODE_NUMBERS * work.tree.nodes, sizeof *work.tree.boxes);
+    work.tree.marks = room_for(NULL, LARNT_NODE_MARKS * work.tree.nodes, sizeof *work.tree.marks);
+    work.tree.order = room_for(NULL, work.tree.nodes, sizeof *work.tree.order);
+    answer = larnt_scene_draw_with(scene, view, FINE, &drawing, &work);
+    if (answer == LARNT_DONE)
+        say(&drawing);
+    free(drawing.points), free(drawing.starts), free(work.work), free(work.work_starts), free(work.chopped);
+    free(work.chopped_starts), free(work.tree.boxes), free(work.tree.marks), free(work.tree.order);
     return answer;
 }
 
 int main(void)
 {
-    double view[22];
-    uint32_t answer = 13;
+    double view[LARNT_VIEW_NUMBERS];
+    uint32_t answer = LARNT_REFUSED_ROOM;
     int c;
 
     OPEN(numbers), OPEN(points), OPEN(marks), OPEN(owners), OPEN(starts), OPEN(text);
@@ -234,9 +238,11 @@ int main(void)
         (void)form(1);
     if (at != text.at + text.count - 1) /* a byte 0 within the text */
         refuse(1);
-    for (size_t n = FIRST; answer == 13 && n <= MOST; n *= 2) /* 13: the drawing does not fit */
-        answer = draw(view, n);
-    if (answer != 0)
+    larnt_scene scene = {numbers.at, marks.at, marks.count / LARNT_ENTRY_MARKS, points.at, points.count / LARNT_POINT_NUMBERS,
+                         starts.at, owners.at, starts.count};
+    for (size_t n = FIRST; answer == LARNT_REFUSED_ROOM && n <= MOST; n *= 2)
+        answer = draw(&scene, view, n);
+    if (answer != LARNT_DONE)
         refuse(answer);
     return 0;
 }

@@ -12,7 +12,7 @@
 Nothing but Python and the library is needed to draw (library.py). `forms.read` and `forms.write` are the texts of the
 program `yard`; `python3 -m larnt sheet` makes sheets.
 """
-from . import forms, matrices, sheets
+from . import forms, hidden, matrices, sheets
 from .camera import Camera, View
 from .drawing import Drawing
 from .library import Missing
@@ -23,5 +23,5 @@ from .solids import DIFFERENCE, INTERSECTION, Cone, Cube, Cut, Cylinder, Operati
 
 __all__ = (
     "COARSE DIFFERENCE FINE INTERSECTION MOST_POINTS WORDS Camera Cone Cube Cut Cylinder Drawing Missing Operation Part "
-    "Placed Plotter Refused Scene Solid Sphere Triangle View forms matrices pick pipe sheets ways"
+    "Placed Plotter Refused Scene Solid Sphere Triangle View forms hidden matrices pick pipe sheets ways"
 ).split()

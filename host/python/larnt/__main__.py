@@ -1,28 +1,30 @@
-"""python3 -m larnt sheet YARD SHEET..: from the text of a yard to sheets."""
+"""python3 -m larnt sheet YARD SHEET..: from the text of a yard to sheets; python3 -m larnt turn YARD: a page that turns it."""
 from __future__ import annotations
 
 import argparse
 import dataclasses
 import math
 import pathlib
+import shlex
 import sys
 import time
+import webbrowser
 from typing import List, Optional, Sequence, Tuple
 
-from . import forms, matrices, plotter, progress, scene, sheets, solids
+from . import forms, matrices, plotter, progress, scene, sheets, solids, turn
 from .camera import Camera, View
 from .drawing import Drawing
 from .library import Missing
 from .refusals import Refused
 from .scene import Scene
 from .sheets import Sheet
-from .solids import Cut, Placed, Solid
+from .solids import Solid
 
 COARSER = 8  # the draw that guesses the time has a step so many times as long
 
 
-def note(words: str) -> None:
-    print(f"sheet: {words}", file=sys.stderr)
+def note(words: str, command: str = "sheet") -> None:
+    print(f"{command}: {words}", file=sys.stderr)
 
 
 def arguments(given: Optional[Sequence[str]]) -> argparse.Namespace:
@@ -49,6 +51,15 @@ def arguments(given: Optional[Sequence[str]]) -> argparse.Namespace:
     add("--note", action="append", default=[], help="a note in the title block; at most two (default: the yard and the eye)")
     add("--parts", action="store_true", help="numbers the parts on the sheet, and lists them")
     add("--dpi", type=float, default=150.0, help="of a PNG (default 150)")
+    turning = commands.add_parser("turn", help="a page in the browser that turns a yard", description="Serves a page on this machine alone (127.0.0.1): drag to turn, wheel to "
+                                  "come nearer, click where a line is missing to be told which part hides it, save as a sheet. Ctrl-C ends it.")
+    add = turning.add_argument
+    add("yard", help="the text, or - for standard input")
+    add("--port", type=int, default=0, help="where to serve (default: any that is free)")
+    add("--open", action="store_true", help="opens the page in the browser")
+    add("--step", type=float, default=0.5, metavar="MM", help="at rest, the longest piece between two tested points, on an A4 sheet (default %(default)g)")
+    add("--outlines", choices=("kept", "missing", "all"), default="all", help="round solids: an outline for all in place of their lines (default), an outline "
+        "where there are none, or the lines of the text as they stand")
     return parser.parse_args(given)
 
 
@@ -117,13 +128,7 @@ def middle(of: Scene) -> List[float]:
 
 def outlined(solid: Solid, every: bool) -> Solid:
     """The solid with outlines by the host, for every round part of it or for those without lines and stripes."""
-    if isinstance(solid, Placed):
-        return dataclasses.replace(solid, part=outlined(solid.part, every))
-    if isinstance(solid, Cut):
-        return dataclasses.replace(solid, first=outlined(solid.first, every), second=outlined(solid.second, every))
-    if isinstance(solid, solids.Round) and (every or bare(solid)):
-        return dataclasses.replace(solid, lines=None)
-    return solid
+    return solids.changed(solid, lambda inner: dataclasses.replace(inner, lines=None) if every or bare(inner) else inner)
 
 
 def bare(solid: Solid) -> bool:
@@ -186,17 +191,38 @@ def made(options: argparse.Namespace, text: str, sheet: Sheet) -> None:
     if options.parts:
         for part in of.parts:
             line = f", text line {part.solid.source[0]}" if part.solid.source else ""
-            print(f"part {part.number}: {described(part.solid)}{line}{', not seen from here' if part in unseen else ''}")
+            print(f"part {part.number}: {solids.described(part.solid)}{line}{', not seen from here' if part in unseen else ''}")
     if any(path.endswith((".hpgl", ".plt")) for path in options.sheets) and not plotter.there():
         notes.append("the pen goes in the drawing's order: its way is picked where libhost_plotter.a is at hand (rt staticlib host_plotter)")
     for said in notes:
         note(said)
 
 
-def described(solid: Solid) -> str:
-    word = ("closed " if getattr(solid, "closed", False) else "") + type(solid).__name__.lower()
-    inner = [described(part) for part in solids.parts(solid)]
-    return f"{word} {' and '.join(inner)}" if inner else word
+def turned(options: argparse.Namespace, text: str) -> None:
+    """Serves the page until it is ended."""
+    yard, sheet = forms.read(text), Sheet()
+    options.eye = options.target = None
+    of, notes = with_outlines(options, yard.scene)
+    _, _, wide, high = sheet.area()
+    width, height = (yard.view.width, yard.view.height) if yard.view else (wide, high)
+    if not (0 < width < math.inf and 0 < height < math.inf):
+        raise ValueError("the sheet of the text's view has no size")
+    camera = turn.starting(of, yard.view, wide, high, options.step / sheet.scale(width, height))
+    name = pathlib.Path(options.yard).name if options.yard != "-" else "yard"
+    outlines = "" if options.outlines == "all" else f" --outlines {options.outlines}"
+    command = f"python3 -m larnt sheet {shlex.quote(options.yard)} sheet.svg --step {options.step:g}{outlines}"
+    turning = turn.Turning(of, camera, sheet, name, command)
+    try:
+        server = turn.Server(turning, options.port)
+    except (OSError, OverflowError) as error:
+        raise ValueError(f"--port {options.port}: {getattr(error, 'strerror', None) or error}") from None
+    with server:
+        for said in notes:
+            note(said, "turn")
+        print(f"{name}: {server.address()} (Ctrl-C ends it)", flush=True)
+        if options.open:
+            webbrowser.open(server.address())
+        server.serve_forever()
 
 
 def excerpt(line: str, column: int) -> List[str]:
@@ -207,9 +233,9 @@ def excerpt(line: str, column: int) -> List[str]:
     return [f"    {shown}", "    " + " " * (len(before) + column - 1 - first) + "^"]
 
 
-def refusal_said(refusal: Refused, name: str, text: str) -> str:
+def refusal_said(refusal: Refused, name: str, text: str, command: str) -> str:
     where = f"{name}, line {refusal.line}, column {refusal.column}" if refusal.line else name
-    rows = [f"sheet: {where}: {refusal.wrong or refusal.words}"]
+    rows = [f"{command}: {where}: {refusal.wrong or refusal.words}"]
     if refusal.line and refusal.column:
         rows += excerpt(text.split("\n")[refusal.line - 1], refusal.column)
     return "\n".join(rows + ([f"refusal {refusal.number}: {refusal.words}"] if refusal.wrong else [f"refusal {refusal.number}"]))
@@ -219,23 +245,29 @@ def main(given: Optional[Sequence[str]] = None) -> int:
     options = arguments(given)
     name = "standard input" if options.yard == "-" else options.yard
     text = ""
+
+    def told(words: str) -> int:
+        note(words, options.command)
+        return 1
+
     try:
-        sheet = laid_out(options)
+        sheet = laid_out(options) if options.command == "sheet" else None
         text = (sys.stdin.buffer.read() if options.yard == "-" else pathlib.Path(options.yard).read_bytes()).decode("utf-8", "replace")
-        made(options, text, sheet)
+        if sheet:
+            made(options, text, sheet)
+        else:
+            turned(options, text)
     except Refused as refusal:
-        print(refusal_said(refusal, name, text), file=sys.stderr)
+        print(refusal_said(refusal, name, text, options.command), file=sys.stderr)
         return 1
     except BrokenPipeError:  # nobody reads what is said
         return 1
     except OSError as error:
-        note(f"{error.filename or name}: {error.strerror}")
-        return 1
+        return told(f"{error.filename or name}: {error.strerror}")
     except (ValueError, Missing, sheets.NoConverter) as error:
-        note(str(error))
-        return 1
+        return told(str(error))
     except KeyboardInterrupt:
-        note("stopped")
+        told("stopped")
         return 130
     return 0
 

@@ -52,22 +52,23 @@ def checked(drawn: Iterable[Solid], made: "Slices") -> int:
     """What the check of a scene answers these solids."""
     other = type(made)()
     for solid in drawn:
-        other.enter(solid, None)
+        other.enter(solid)
     inverses, boxes = (c_double * (16 * library.ENTRIES))(), (c_double * (6 * library.ENTRIES))()
     return library.host().larnt_check(*other.arguments(), inverses, boxes, (c_uint32 * library.ENTRIES)(), byref(c_size_t()))
 
 
 def alone_refused(made: "Slices", entry: int, view: View) -> bool:
     """Whether a draw needs a 65th restart with this cut alone among solids without one."""
-    from .scene import FINE, FIRST_POINTS, attempt
+    from .scene import FINE, FIRST_POINTS, Room
 
     if not has_cut(made.entries[entry]):
         return False
     other = type(made)()
     for e in made.drawn:
         if e == entry or not has_cut(made.entries[e]):
-            other.enter(made.entries[e], view)
-    return attempt(other, view, FINE, max(FIRST_POINTS, 16 * len(made.points)))[0] == 11
+            other.enter(made.entries[e])
+    other.outline(view)
+    return Room(other, max(FIRST_POINTS, 16 * len(made.points))).draw(other, view, FINE) == 11
 
 
 def has_cut(solid: Solid) -> bool:

@@ -10,6 +10,7 @@ import functools
 import os
 import pathlib
 import subprocess
+from array import array
 from ctypes import POINTER, c_bool, c_double, c_size_t, c_uint8, c_uint16, c_uint32
 from typing import Sequence
 
@@ -25,6 +26,7 @@ WORK = NUMBERS + PLACES + NUMBERS + PLACES + NUMBERS + MARKS + MARKS + [COUNT, C
 
 HOST = {
     "larnt_check": SCENE + [ROW, ROW, POINTER(c_uint32), COUNT],
+    "larnt_own_contains": SCENE + [c_size_t, ROW, c_double, FLAG],
     "larnt_build": SCENE + TREE + [COUNT],
     "larnt_intersect": SCENE + TREE + [ROW, ROW, FLAG, POINTER(c_uint32)],
     "larnt_visible": SCENE + TREE + [ROW, ROW, FLAG],
@@ -112,7 +114,7 @@ def plotter() -> ctypes.CDLL:
 
 def numbers(values: Sequence[float]) -> "ctypes.Array[c_double]":
     """An array that is never empty: the calls take no null pointer."""
-    return (c_double * max(1, len(values)))(*values)
+    return (c_double * max(1, len(values))).from_buffer(array("d", values or [0.0]))
 
 
 def marks(values: Sequence[int]) -> "ctypes.Array[c_uint32]":

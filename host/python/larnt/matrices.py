@@ -1,6 +1,7 @@
 """Vectors of three numbers, and matrices of four rows. Angles are degrees."""
 from __future__ import annotations
 
+import functools
 import math
 from typing import Sequence, Tuple
 
@@ -87,6 +88,7 @@ def towards(start: Sequence[float], end: Sequence[float]) -> Matrix:
     return matrix([[s[i], u[i], f[i], start[i]] for i in range(3)] + [IDENTITY[3]])
 
 
+@functools.lru_cache(maxsize=2048)
 def inverse(m: Matrix) -> Matrix:
     """By elimination; a ValueError where there is none."""
     rows = [[*map(float, m[i]), *IDENTITY[i]] for i in range(4)]
@@ -102,13 +104,16 @@ def inverse(m: Matrix) -> Matrix:
     return matrix([row[4:] for row in rows])
 
 
+def applied(row: Row, x: float, y: float, z: float) -> float:
+    """`dot` of a row and a point with 1.0 for its fourth, written out: frames ask it of every point."""
+    return 0.0 + row[0] * x + row[1] * y + row[2] * z + row[3]
+
+
 def placed(m: Matrix, p: Sequence[float]) -> Vector:
     """A point, by a matrix whose last row is that of the identity."""
-    x, y, z = (dot(row, (*p, 1.0)) for row in m[:3])
-    return (x, y, z)
+    return (applied(m[0], *p), applied(m[1], *p), applied(m[2], *p))
 
 
 def projected(m: Matrix, p: Sequence[float]) -> Tuple[float, float, float, float]:
     """A point by all four rows: the fourth is what the first three are divided by."""
-    x, y, z, w = (dot(row, (*p, 1.0)) for row in m)
-    return (x, y, z, w)
+    return (applied(m[0], *p), applied(m[1], *p), applied(m[2], *p), applied(m[3], *p))

@@ -13,8 +13,9 @@ turns away.
 """
 from __future__ import annotations
 
+import functools
 import math
-from typing import List, Optional, Sequence, Union
+from typing import List, Optional, Sequence, Tuple, Union
 
 from . import matrices
 from .camera import View
@@ -28,11 +29,23 @@ FINEST = 6144  # the most points of a ring in a cut
 Line = List[Vector]
 
 
+@functools.lru_cache(maxsize=256)
+def turns(points: int) -> List[Tuple[float, float]]:
+    """Cosine and sine of each of so many angles, evenly spread."""
+    angles = [2 * math.pi * k / points for k in range(points)]
+    return [(math.cos(t), math.sin(t)) for t in angles]
+
+
 def circle(centre: Sequence[float], u: Sequence[float], v: Sequence[float], r: float, points: int) -> Line:
     """About a centre, by two directions of length 1; its first point comes again."""
-    turns = [2 * math.pi * k / points for k in range(points)]
-    ring = [matrices.along(matrices.along(centre, u, r * math.cos(t)), v, r * math.sin(t)) for t in turns]
+    ring = [matrices.along(matrices.along(centre, u, r * c), v, r * s) for c, s in turns(points)]
     return ring + ring[:1]
+
+
+@functools.lru_cache(maxsize=4096)
+def level(r: float, z: float, points: int) -> Line:
+    """A ring about the Z axis. No eye changes it, so a yard that is turned makes it once."""
+    return circle((0, 0, z), (1, 0, 0), (0, 1, 0), r, points)
 
 
 def off(r: float, points: int) -> float:
@@ -64,7 +77,7 @@ class Outliner:
         return made
 
     def level(self, r: float, z: float, points: int) -> Line:
-        return self.ring((0, 0, z), (1, 0, 0), (0, 1, 0), r, points)
+        return self.ring((0, 0, z), (1, 0, 0), (0, 1, 0), r, points) if self.in_cut else level(off(r, points), z, points)
 
     def edges(self, cosine: float) -> List[float]:
         """The angles at which a wall turns away from the eye; none where all of it, or nothing, is turned to it."""

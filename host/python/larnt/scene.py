@@ -1,8 +1,10 @@
 """A scene: solids as one thinks of them, handed to the proved library, which draws them and answers for them."""
 from __future__ import annotations
 
+from array import array
 from ctypes import byref, c_bool, c_double, c_size_t, c_uint8, c_uint32
 from dataclasses import dataclass
+from itertools import chain
 from typing import Dict, Iterator, List, Optional, Sequence, Tuple, Union
 
 from . import diagnosis, library, matrices, solids
@@ -25,33 +27,40 @@ class Slices:
     def __init__(self) -> None:
         self.numbers: List[float] = []
         self.marks: List[int] = []
-        self.points: List[float] = []
+        self.points = array("d")
         self.starts: List[int] = []
         self.owners: List[int] = []
         self.entries: List[Solid] = []
         self.worlds: List[Matrix] = []  # what takes an entry's coordinates to the scene's
+        self.in_cut: List[bool] = []  # whether an entry is part of a cut
         self.drawn: Dict[int, "Part"] = {}  # the parts by their entries
 
-    def enter(self, solid: Solid, view: Optional[View], world: Matrix = IDENTITY, in_cut: bool = False) -> int:
-        """Adds a solid, its parts first; answers its entry. Without a view there are no lines."""
+    def enter(self, solid: Solid, world: Matrix = IDENTITY, in_cut: bool = False) -> int:
+        """Adds a solid, its parts first; answers its entry. It has no lines until `outline`."""
         inner = matrices.product(world, solid.matrix) if isinstance(solid, Placed) else world
-        named = [self.enter(part, view, inner, in_cut or isinstance(solid, Cut)) for part in solids.parts(solid)]
+        named = [self.enter(part, inner, in_cut or isinstance(solid, Cut)) for part in solids.parts(solid)]
         entry, used = len(self.entries), solids.measures(solid)
         self.entries.append(solid)
         self.worlds.append(world)
+        self.in_cut.append(in_cut)
         self.numbers += [*used, *[0.0] * (16 - len(used))]
         self.marks += [solids.kind(solid), solids.detail(solid), *named, *[0] * (2 - len(named))]
-        if isinstance(solid, solids.Round):
-            for line in Outliner(view, world, in_cut).lines(solid) if view else ():
-                self.starts.append(len(self.points) // 3)
-                self.owners.append(entry)
-                self.points += [x for p in line for x in p]
         return entry
+
+    def outline(self, view: View) -> None:
+        """Hands in the lines of the round solids as a view sees them, in place of those there were."""
+        self.points, self.starts, self.owners = array("d"), [], []
+        for entry, solid in enumerate(self.entries):
+            if isinstance(solid, solids.Round):
+                for line in Outliner(view, self.worlds[entry], self.in_cut[entry]).lines(solid):
+                    self.starts.append(len(self.points) // 3)
+                    self.owners.append(entry)
+                    self.points.extend(chain.from_iterable(line))
 
     def arguments(self) -> list:
         """The five slices, each a pointer and a count."""
         made = [library.numbers(self.numbers), library.marks(self.marks), library.numbers(self.points), library.places(self.starts), library.marks(self.owners)]
-        counts = map(len, (self.numbers, self.marks, self.points, self.starts, self.owners))
+        counts = [len(self.numbers), len(self.marks), len(self.points), len(self.starts), len(self.owners)]
         return [x for pair in zip(made, counts) for x in pair]
 
 
@@ -173,7 +182,9 @@ class Scene:
         """Without a view, the solids alone."""
         made = Slices()
         for part in self.parts:
-            made.drawn[made.enter(part.solid, view)] = part
+            made.drawn[made.enter(part.solid)] = part
+        if view:
+            made.outline(view)
         return made
 
     def tree(self) -> Tree:
@@ -240,29 +251,31 @@ class Scene:
         view = as_view(seen)
         made = self.lined(view)
         for points in rooms(made, most_points):
-            answer, drawing = attempt(made, view, threshold, points)
+            room = Room(made, points)
+            answer = room.draw(made, view, threshold)
             if answer != 13:
                 break
         if answer:
             raise diagnosis.refused(answer, made, view, threshold, most_points)
-        return drawing
+        return room.drawing(view)
 
     def preview(self, seen: Seen, *, threshold: float = FINE, most_points: int = MOST_POINTS) -> Tuple[int, int]:
         """How many points and paths `draw` would answer, without the drawing; where `libhost_preview.a` is there."""
         view = as_view(seen)
         made = self.lined(view)
         for points in rooms(made, most_points):
-            answer, counts = counted(made, view, threshold, points)
+            room = Room(made, points)
+            answer = room.preview(made, view, threshold)
             if answer != 13:
                 break
         if answer:
             raise diagnosis.refused(answer, made, view, threshold, most_points)
-        return counts
+        return room.points_out.value, room.paths_out.value
 
 
 def rooms(made: Slices, most: int) -> Iterator[int]:
     """The rooms to try, in points. Most draws that do not fit say so at the chop, before the eye tests, which take most
-    of the time. A call that counts before drawing would leave one room to try."""
+    of the time. A preview counts what a draw answers, not the room that it works in, so it would leave as many to try."""
     points = max(1, min(most, max(FIRST_POINTS, len(made.points) // 3)))
     yield points
     while points < most:
@@ -270,33 +283,40 @@ def rooms(made: Slices, most: int) -> Iterator[int]:
         yield points
 
 
-def slots(kind: type, count: int) -> list:
-    """A slice of zeros."""
-    return [(kind * count)(), count]
+class Room:
+    """What a draw is lent: room for so many points, and for the tree of a scene. It may be lent again and again."""
 
+    def __init__(self, made: Slices, points: int) -> None:
+        def slots(kind: type, count: int) -> list:
+            return [(kind * count)(), count]
 
-def work(made: Slices, points: int) -> list:
-    """What a draw works in, with room for so many points."""
-    nodes = 2 * len(made.entries) + 1
-    lines = slots(c_double, 8 * 3 * points) + slots(c_size_t, 8 * points) + slots(c_double, 3 * points) + slots(c_size_t, points)
-    return lines + slots(c_double, 6 * nodes) + slots(c_uint32, 3 * nodes) + slots(c_uint32, nodes)
+        nodes = 2 * len(made.entries) + 1
+        self.points, self.out, self.begins = points, slots(c_double, 3 * points), slots(c_size_t, points)
+        self.work = slots(c_double, 8 * 3 * points) + slots(c_size_t, 8 * points) + slots(c_double, 3 * points) + slots(c_size_t, points)
+        self.tree = slots(c_double, 6 * nodes) + slots(c_uint32, 3 * nodes) + slots(c_uint32, nodes)
+        self.points_out, self.paths_out = c_size_t(), c_size_t()
 
+    def draw(self, made: Slices, view: View, threshold: float) -> int:
+        """One call of the library; its answer."""
+        filled = [*self.out, *self.begins, *self.work, *self.tree, byref(self.points_out), byref(self.paths_out)]
+        return library.host().larnt_draw_with(*made.arguments(), library.numbers(view.numbers()), threshold, *filled)
 
-def counted(made: Slices, view: View, threshold: float, points: int) -> Tuple[int, Tuple[int, int]]:
-    """The answer of `attempt` and its counts, without its drawing."""
-    points_out, paths_out = c_size_t(), c_size_t()
-    asked = (*made.arguments(), library.numbers(view.numbers()), threshold, 3 * points, points)
-    answer = library.preview().larnt_preview(*asked, *work(made, points), byref(points_out), byref(paths_out))
-    return answer, (points_out.value, paths_out.value)
+    def preview(self, made: Slices, view: View, threshold: float) -> int:
+        """The answer of `draw` with its counts, without its drawing."""
+        asked = (*made.arguments(), library.numbers(view.numbers()), threshold, 3 * self.points, self.points)
+        return library.preview().larnt_preview(*asked, *self.work, *self.tree, byref(self.points_out), byref(self.paths_out))
 
+    def starts(self) -> List[int]:
+        """Where each path of the last draw starts, in points."""
+        return self.begins[0][: self.paths_out.value]
 
-def attempt(made: Slices, view: View, threshold: float, points: int) -> Tuple[int, Drawing]:
-    """One call of the library with room for so many points; its answer, and the drawing where that is 0."""
-    out, begins = slots(c_double, 3 * points), slots(c_size_t, points)
-    points_out, paths_out = c_size_t(), c_size_t()
-    asked = (*made.arguments(), library.numbers(view.numbers()), threshold)
-    answer = library.host().larnt_draw_with(*asked, *out, *begins, *work(made, points), byref(points_out), byref(paths_out))
-    numbers, starts = out[0][: 3 * points_out.value], begins[0][: paths_out.value]
-    rows = list(zip(numbers[0::3], numbers[1::3], numbers[2::3]))
-    paths = [rows[a:b] for a, b in zip(starts, [*starts[1:], points_out.value])]
-    return answer, Drawing(view.width, view.height, paths)
+    def numbers(self) -> bytes:
+        """The points of the last draw, three numbers each, as the library left them."""
+        return bytes(memoryview(self.out[0]).cast("B")[: 24 * self.points_out.value])
+
+    def drawing(self, view: View) -> Drawing:
+        """The last draw's, which was by this view."""
+        numbers, starts = self.out[0][: 3 * self.points_out.value], self.starts()
+        rows = list(zip(numbers[0::3], numbers[1::3], numbers[2::3]))
+        paths = [rows[a:b] for a, b in zip(starts, [*starts[1:], self.points_out.value])]
+        return Drawing(view.width, view.height, paths)

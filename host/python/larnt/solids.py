@@ -6,9 +6,9 @@ stands in a text (line and column from 1).
 """
 from __future__ import annotations
 
-from dataclasses import dataclass, field
+from dataclasses import dataclass, field, replace
 from enum import IntEnum
-from typing import Optional, Sequence, Tuple, Union
+from typing import Callable, Optional, Sequence, Tuple, Union
 
 from . import matrices
 from .matrices import Matrix, Vector
@@ -160,6 +160,22 @@ def parts(solid: Solid) -> list[Solid]:
     if isinstance(solid, Placed):
         return [solid.part]
     return [solid.first, solid.second] if isinstance(solid, Cut) else []
+
+
+def changed(solid: Solid, change: Callable[[Solid], Solid]) -> Solid:
+    """The solid with each round one in it changed."""
+    if isinstance(solid, Placed):
+        return replace(solid, part=changed(solid.part, change))
+    if isinstance(solid, Cut):
+        return replace(solid, first=changed(solid.first, change), second=changed(solid.second, change))
+    return change(solid) if isinstance(solid, Round) else solid
+
+
+def described(solid: Solid) -> str:
+    """In a few words: "placed closed cylinder"."""
+    word = ("closed " if getattr(solid, "closed", False) else "") + type(solid).__name__.lower()
+    inner = [described(part) for part in parts(solid)]
+    return f"{word} {' and '.join(inner)}" if inner else word
 
 
 def pipe(

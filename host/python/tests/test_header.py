@@ -1,9 +1,11 @@
-"""The types of the calls in library.py are those of host/larnt.h."""
+"""The types of the calls in library.py are those of host/larnt.h, and its calls are those that the archives have."""
 import re
+import shutil
+import subprocess
 import unittest
 from ctypes import POINTER, c_bool, c_double, c_size_t, c_uint8, c_uint16, c_uint32
 
-from larnt import library
+from larnt import library, plotter
 
 from . import ROOT
 
@@ -35,6 +37,11 @@ class Header(unittest.TestCase):
                 result, parameters = header[name]
                 self.assertEqual(types, [typed(p) for p in parameters])
                 self.assertEqual(result, "void" if name == "larnt_plotter_step" else "uint32_t")
+
+    @unittest.skipUnless(shutil.which("nm") and plotter.there(), "there is no nm, or libhost_plotter.a is not there")
+    def test_the_archives_have_each_call_and_no_other(self):
+        listed = [subprocess.run(["nm", "-g", library.folder() / f"lib{name}.a"], capture_output=True, text=True, check=True).stdout for name in ("host", "host_plotter")]
+        self.assertEqual(set(re.findall(r" T (larnt_\w+)$", "\n".join(listed), re.M)), set(declared()))
 
 
 if __name__ == "__main__":

@@ -143,9 +143,9 @@ class Drawing(unittest.TestCase):
     def test_room_grows_and_changes_nothing(self):
         made, view = yard(), CAMERA.view()
         whole = made.draw(view).text()
-        with mock.patch.object(scene, "FIRST_POINTS", 1), mock.patch.object(scene, "attempt", wraps=scene.attempt) as calls:
+        with mock.patch.object(scene, "FIRST_POINTS", 1), mock.patch.object(scene, "Room", wraps=scene.Room) as calls:
             self.assertEqual(made.draw(view).text(), whole)
-        rooms = [call.args[3] for call in calls.call_args_list]
+        rooms = [call.args[1] for call in calls.call_args_list]
         self.assertGreater(len(rooms), 1)
         self.assertEqual([b / a for a, b in zip(rooms, rooms[1:])], [2] * (len(rooms) - 1))
 
