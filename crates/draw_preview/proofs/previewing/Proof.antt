@@ -41,9 +41,10 @@ render-counts-requires c κs =
     let at20 = at15 .before .before .before .before .before in let check = at20 .check in
     let at36 = at20 .before .before .before .before .before .before .before .before .before .before .before .before .before .before .before .before in let args = at36 .args in
     let s = sceneOf (args .numbers .now) (args .marks .now) (args .points .now) (args .starts .now) (args .owners .now) in
-    let w = placesFor (length (args .work .now) / 24 * 3) (length (args .work-starts .now) / 8) (args .chopped .now) (args .chopped-starts .now) (args .node-boxes .now) (args .node-marks .now) (args .order .now) (args .out) (args .begins) in
-    (threshold-fine (args .threshold) (threshold-ok .ensures) (not-false _ (if2 .left)),
-    scene-listed (args .threshold) s _ (check .ensures .verdict) (args .view) w (v2 .given .1) 6144 1024 (check .last .1 .1 .1 .1 .1 .1 .0) (check .ensures .boxes-are) (check .last .1 .1 .1 .1 .1 .1 .1 .0) (check .ensures .drawn-are) (omega (arith, check .kept .1 .1 .1 .1 .1 .1 .0)) (omega (arith, check .kept .1 .1 .1 .1 .1 .1 .1 .0)))
+    let w = placesFor (length (args .work .now) / 24 * 3) (length (args .work-starts .now) / 8) (args .chopped .now) (args .chopped-starts .now) (args .node-boxes .now) (args .node-marks .now) (args .order .now) (args .out) (args .begins) in (
+      threshold-fine (args .threshold) (threshold-ok .ensures) (not-false _ (if2 .left)),
+      scene-listed (args .threshold) s _ (check .ensures .verdict) (args .view) w (v2 .given .1) 6144 1024 (check .last .1 .1 .1 .1 .1 .1 .0) (check .ensures .boxes-are) (check .last .1 .1 .1 .1 .1 .1 .1 .0) (check .ensures .drawn-are) (omega (arith, check .kept .1 .1 .1 .1 .1 .1 .0)) (omega (arith, check .kept .1 .1 .1 .1 .1 .1 .1 .0)),
+    )
 
 returns-3 : tie.Need-returns-3
 returns-3 c =
