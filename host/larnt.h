@@ -1,13 +1,15 @@
 /* The calls that libhost.a exports (`rt staticlib host`), the preview of libhost_preview.a, and at the end those of
    libhost_text.a, libhost_plotter.a and libhost_merge.a. `tools/house` holds these declarations to the crates of these
-   names, type by type. The pointers must not be null, not even those of no elements, and what is filled must overlap neither what is read nor anything else that
-   is filled. Matrices stand by rows.
+   names, type by type. The pointers must not be null, not even those of no elements, and what is filled must overlap
+   neither what is read nor anything else that is filled. Matrices stand by rows.
 
-   Stack, measured (docs/MEASURES.md): larnt_draw and larnt_draw_with need about 214 KB for local arrays, larnt_build
+   Stack, measured (docs/MEASURES.md): larnt_draw and larnt_draw_with need about 215 KB for local arrays, larnt_build
    198 KB, and 512 bytes for each level of the tree, at most 1,023 levels, so 740 KB at most.
    larnt_own_hit, larnt_own_contains, larnt_intersect, larnt_visible, larnt_occluder, larnt_covered and
    larnt_covered_all need about 200 KB, larnt_check 10 KB.
-   larnt_chop needs 25 KB and larnt_simplify 4 KB, however long the paths are. */
+   larnt_chop needs 25 KB, larnt_outline 13 KB and larnt_simplify 4 KB, however long the paths are. larnt_preview,
+   larnt_merge, larnt_write and larnt_canonical were not measured: the first works as larnt_draw_with does, the others
+   have the local arrays of a check, about 200 KB, and larnt_canonical those of a yard's text besides. */
 #ifndef LARNT_H
 #define LARNT_H
 
@@ -271,7 +273,7 @@ uint32_t larnt_pick(const double *yard, size_t yard_count, const size_t *yard_st
    starts gives no points. The result slices hold the merged scene, then zeros, and the counts are its entries, points
    and paths. Answers 0, or the number of the refusal: 2 to 7 or 14 for the first scene, then for the second, then 2 for
    more than 1,024 entries together and 13 where a result slice is too short (16 numbers and 4 marks an entry, three
-   numbers a point, a start and an owner a path); the slices and the counts are then zeros. Needs about 200 KB of stack. */
+   numbers a point, a start and an owner a path); the slices and the counts are then zeros. */
 uint32_t larnt_merge(LARNT_SCENE, const double *more_numbers, size_t more_numbers_count, const uint32_t *more_marks,
                      size_t more_marks_count, const double *more_points, size_t more_points_count,
                      const size_t *more_starts, size_t more_starts_count, const uint32_t *more_owners,

@@ -12,16 +12,16 @@
 Nothing but Python and the library is needed to draw (library.py). `forms.read` and `forms.write` are the texts of the
 program `yard`; `python3 -m larnt sheet` makes sheets.
 """
-from . import forms, hidden, matrices, sheets
+from . import forms, hidden, matrices, sheets, texts
 from .camera import Camera, View
 from .drawing import Drawing
 from .library import Missing
 from .plotter import Plotter, pick, ways
 from .refusals import WORDS, Refused
 from .scene import COARSE, FINE, MOST_POINTS, Part, Scene
-from .solids import DIFFERENCE, INTERSECTION, Cone, Cube, Cut, Cylinder, Operation, Placed, Solid, Sphere, Triangle, pipe
+from .solids import BY_CORE, DIFFERENCE, INTERSECTION, NO_LINES, Cone, Cube, Cut, Cylinder, Operation, Placed, Solid, Sphere, Triangle, pipe
 
 __all__ = (
-    "COARSE DIFFERENCE FINE INTERSECTION MOST_POINTS WORDS Camera Cone Cube Cut Cylinder Drawing Missing Operation Part "
-    "Placed Plotter Refused Scene Solid Sphere Triangle View forms hidden matrices pick pipe sheets ways"
+    "BY_CORE COARSE DIFFERENCE FINE INTERSECTION MOST_POINTS NO_LINES WORDS Camera Cone Cube Cut Cylinder Drawing Missing Operation Part "
+    "Placed Plotter Refused Scene Solid Sphere Triangle View forms hidden matrices pick pipe sheets texts ways"
 ).split()

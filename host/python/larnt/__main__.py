@@ -1,4 +1,5 @@
-"""python3 -m larnt sheet YARD SHEET..: from the text of a yard to sheets; python3 -m larnt turn YARD: a page that turns it."""
+"""python3 -m larnt sheet YARD SHEET..: from the text of a yard to sheets; turn YARD: a page that turns it; canonical YARD:
+its text in canonical form; merge FIRST SECOND: one yard of two."""
 from __future__ import annotations
 
 import argparse
@@ -11,7 +12,7 @@ import time
 import webbrowser
 from typing import List, Optional, Sequence, Tuple
 
-from . import forms, matrices, plotter, progress, scene, sheets, solids, turn
+from . import forms, matrices, plotter, progress, scene, sheets, solids, texts, turn
 from .camera import Camera, View
 from .drawing import Drawing
 from .library import Missing
@@ -60,6 +61,13 @@ def arguments(given: Optional[Sequence[str]]) -> argparse.Namespace:
     add("--step", type=float, default=0.5, metavar="MM", help="at rest, the longest piece between two tested points, on an A4 sheet (default %(default)g)")
     add("--outlines", choices=("kept", "missing", "all"), default="all", help="round solids: an outline for all in place of their lines (default), an outline "
         "where there are none, or the lines of the text as they stand")
+    rewriting = commands.add_parser("canonical", help="the text of a yard in canonical form", description="Prints a yard one form a line, counts in decimal and every other "
+                                    "number by its bits, as the core writes it; what is drawn of it stays the same, bit for bit.")
+    rewriting.add_argument("yard", help="the text, or - for standard input")
+    merging = commands.add_parser("merge", help="one yard of two texts", description="Prints one yard of two, in canonical form: the solids of the first, then those of the "
+                                  "second, seen by the first's view, or by the second's where the first has none.")
+    merging.add_argument("yard", metavar="first", help="a text, or - for standard input")
+    merging.add_argument("second", help="a text")
     return parser.parse_args(given)
 
 
@@ -147,7 +155,7 @@ def with_outlines(options: argparse.Namespace, of: Scene) -> Tuple[Scene, List[s
     if how == "kept":
         lines = sorted({solid.source[0] for solid in every_solid(drawn) if bare(solid) and solid.source})
         some = ", ".join(map(str, lines[:8])) + (", .." if len(lines) > 8 else "")
-        said = f"round solids without lines of their own, so nothing is drawn of them (text line {some}); --outlines missing draws them"
+        said = f"the core draws the outlines of round solids without lines, in their surface, where they may hide parts of them (text line {some}); --outlines missing draws them off it"
         return of, [said] if lines else []
     anew = moved and not options.outlines and any(isinstance(s, solids.Round) and s.lines for s in every_solid(drawn))
     said = "the eye is moved, so the outlines of round solids are made anew and the text's lines for them left out; --outlines kept keeps these"
@@ -241,6 +249,24 @@ def refusal_said(refusal: Refused, name: str, text: str, command: str) -> str:
     return "\n".join(rows + ([f"refusal {refusal.number}: {refusal.words}"] if refusal.wrong else [f"refusal {refusal.number}"]))
 
 
+def read(path: str) -> str:
+    return (sys.stdin.buffer.read() if path == "-" else pathlib.Path(path).read_bytes()).decode("utf-8", "replace")
+
+
+def merged(options: argparse.Namespace, text: str) -> int:
+    """Prints one yard of two; what is wrong with the second is told of it."""
+    first, other = forms.read(text), read(options.second)
+    first.scene.boxes()
+    try:
+        second = forms.read(other)
+        second.scene.boxes()
+    except Refused as refusal:
+        print(refusal_said(refusal, options.second, other, options.command), file=sys.stderr)
+        return 1
+    sys.stdout.write(texts.merged(first, second))
+    return 0
+
+
 def main(given: Optional[Sequence[str]] = None) -> int:
     options = arguments(given)
     name = "standard input" if options.yard == "-" else options.yard
@@ -252,11 +278,15 @@ def main(given: Optional[Sequence[str]] = None) -> int:
 
     try:
         sheet = laid_out(options) if options.command == "sheet" else None
-        text = (sys.stdin.buffer.read() if options.yard == "-" else pathlib.Path(options.yard).read_bytes()).decode("utf-8", "replace")
+        text = read(options.yard)
         if sheet:
             made(options, text, sheet)
-        else:
+        elif options.command == "turn":
             turned(options, text)
+        elif options.command == "canonical":
+            sys.stdout.write(texts.canonical(forms.read(text)))
+        else:
+            return merged(options, text)
     except Refused as refusal:
         print(refusal_said(refusal, name, text, options.command), file=sys.stderr)
         return 1

@@ -36,6 +36,8 @@ HOST = {
 }
 
 PREVIEW = {"larnt_preview": SCENE + [ROW, c_double, c_size_t, c_size_t] + WORK}
+MERGE = {"larnt_merge": SCENE + SCENE + SCENE + [COUNT, COUNT, COUNT]}
+TEXT = {"larnt_write": SCENE + [ROW] + BYTES + [COUNT]}
 
 
 class Registers(ctypes.Structure):
@@ -102,6 +104,18 @@ def host() -> ctypes.CDLL:
 def preview() -> ctypes.CDLL:
     """The counts of a draw."""
     return loaded("host_preview", PREVIEW)
+
+
+@functools.lru_cache(maxsize=None)
+def merging() -> ctypes.CDLL:
+    """Two scenes made one."""
+    return loaded("host_merge", MERGE)
+
+
+@functools.lru_cache(maxsize=None)
+def text() -> ctypes.CDLL:
+    """Scenes as canonical text."""
+    return loaded("host_text", TEXT)
 
 
 @functools.lru_cache(maxsize=None)

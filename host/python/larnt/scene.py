@@ -5,7 +5,7 @@ from array import array
 from ctypes import byref, c_bool, c_double, c_size_t, c_uint8, c_uint32
 from dataclasses import dataclass
 from itertools import chain
-from typing import Dict, Iterator, List, Optional, Sequence, Tuple, Union
+from typing import Callable, Dict, Iterator, List, Optional, Sequence, Tuple, Union
 
 from . import diagnosis, library, matrices, solids
 from .camera import Camera, View, as_view
@@ -246,30 +246,26 @@ class Scene:
 
     # ---- drawing
 
+    def fitted(self, ask: Callable[["Room", Slices, View, float], int], view: View, threshold: float, most_points: int) -> "Room":
+        """A room that is large enough, after a draw or a preview in it."""
+        made = self.lined(view)
+        for points in rooms(made, most_points):
+            room = Room(made, points)
+            answer = ask(room, made, view, threshold)
+            if answer != 13:
+                break
+        if answer:
+            raise diagnosis.refused(answer, made, view, threshold, most_points)
+        return room
+
     def draw(self, seen: Seen, *, threshold: float = FINE, most_points: int = MOST_POINTS) -> Drawing:
         """The lines that the view sees. The room lent to the core grows until the drawing fits, up to `most_points`."""
         view = as_view(seen)
-        made = self.lined(view)
-        for points in rooms(made, most_points):
-            room = Room(made, points)
-            answer = room.draw(made, view, threshold)
-            if answer != 13:
-                break
-        if answer:
-            raise diagnosis.refused(answer, made, view, threshold, most_points)
-        return room.drawing(view)
+        return self.fitted(Room.draw, view, threshold, most_points).drawing(view)
 
     def preview(self, seen: Seen, *, threshold: float = FINE, most_points: int = MOST_POINTS) -> Tuple[int, int]:
         """How many points and paths `draw` would answer, without the drawing; where `libhost_preview.a` is there."""
-        view = as_view(seen)
-        made = self.lined(view)
-        for points in rooms(made, most_points):
-            room = Room(made, points)
-            answer = room.preview(made, view, threshold)
-            if answer != 13:
-                break
-        if answer:
-            raise diagnosis.refused(answer, made, view, threshold, most_points)
+        room = self.fitted(Room.preview, as_view(seen), threshold, most_points)
         return room.points_out.value, room.paths_out.value
 
 

@@ -1,7 +1,8 @@
 """The solids of a scene, one class a kind. Each is a value: what places or cuts it makes a new one.
 
 `lines` of a round solid are handed to the core as they stand, in its own coordinates; None, the default, has the
-host make its outline as the eye sees it (outlines.py), and an empty tuple is none at all. `source` is where a solid
+host make its outline as the eye sees it (outlines.py), a little off the surface. BY_CORE leaves it to the core, whose
+outlines lie in the surface, where the solid may hide parts of them; NO_LINES is none at all. `source` is where a solid
 stands in a text (line and column from 1).
 """
 from __future__ import annotations
@@ -17,6 +18,9 @@ POINTS = 72  # of a ring
 
 Lines = Tuple[Tuple[Vector, ...], ...]
 Source = Optional[Tuple[int, int]]
+
+BY_CORE: Lines = ()
+NO_LINES: Lines = ((),)  # a line without points
 
 
 class Operation(IntEnum):

@@ -5,10 +5,11 @@ import subprocess
 import unittest
 from ctypes import POINTER, c_bool, c_double, c_size_t, c_uint8, c_uint16, c_uint32
 
-from larnt import library, plotter
+from larnt import library
 
 from . import ROOT
 
+ARCHIVES = ("host", "host_preview", "host_text", "host_merge", "host_plotter")
 TYPES = {"double": c_double, "size_t": c_size_t, "uint32_t": c_uint32, "uint8_t": c_uint8, "uint16_t": c_uint16, "bool": c_bool, "larnt_registers": library.Registers}
 
 
@@ -24,7 +25,7 @@ def declared():
     text = re.sub(r"/\*.*?\*/", "", (ROOT / "host/larnt.h").read_text(), flags=re.S).replace("\\\n", " ")
     for name, body in re.findall(r"^#define (LARNT_[A-Z]+) +(\S.*)$", text, re.M):
         text = re.sub(rf"\b{name}\b", lambda _: body, text)
-    calls = re.findall(r"^(uint32_t|void|double) (larnt_\w+)\((.*?)\);", text, re.M | re.S)
+    calls = re.findall(r"^(uint32_t|size_t|void|double) (larnt_\w+)\((.*?)\);", text, re.M | re.S)
     return {name: (result, parameters.split(",")) for result, name, parameters in calls}
 
 
@@ -32,15 +33,15 @@ class Header(unittest.TestCase):
     def test_each_call_has_the_types_that_the_header_declares(self):
         header = declared()
         self.assertIn("larnt_draw_with", header)
-        for name, types in {**library.HOST, **library.PREVIEW, **library.PLOTTER}.items():
+        for name, types in {**library.HOST, **library.PREVIEW, **library.MERGE, **library.TEXT, **library.PLOTTER}.items():
             with self.subTest(name):
                 result, parameters = header[name]
                 self.assertEqual(types, [typed(p) for p in parameters])
                 self.assertEqual(result, "void" if name == "larnt_plotter_step" else "uint32_t")
 
-    @unittest.skipUnless(shutil.which("nm") and plotter.there(), "there is no nm, or libhost_plotter.a is not there")
+    @unittest.skipUnless(shutil.which("nm") and all((library.folder() / f"lib{name}.a").exists() for name in ARCHIVES), "there is no nm, or an archive is not there")
     def test_the_archives_have_each_call_and_no_other(self):
-        listed = [subprocess.run(["nm", "-g", library.folder() / f"lib{name}.a"], capture_output=True, text=True, check=True).stdout for name in ("host", "host_plotter")]
+        listed = [subprocess.run(["nm", "-g", library.folder() / f"lib{name}.a"], capture_output=True, text=True, check=True).stdout for name in ARCHIVES]
         self.assertEqual(set(re.findall(r" T (larnt_\w+)$", "\n".join(listed), re.M)), set(declared()))
 
 

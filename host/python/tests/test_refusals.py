@@ -10,7 +10,7 @@ import tempfile
 import unittest
 from unittest import mock
 
-from larnt import WORDS, Camera, Cone, Cube, Cut, Cylinder, Placed, Refused, Scene, Sphere, View, forms, library, matrices
+from larnt import BY_CORE, NO_LINES, WORDS, Camera, Cone, Cube, Cut, Cylinder, Placed, Refused, Scene, Sphere, View, forms, library, matrices
 
 from . import ROOT, wrong
 
@@ -117,8 +117,9 @@ class Stripes(unittest.TestCase):
 
     def test_stripes_are_drawn(self):
         view = Camera((9, -9, 9), (0, 0, 0), step=4).view()
-        for solid in (Cylinder(1.0, 0.0, 2.0, lines=()), Cone(1.0, 2.0, lines=())):
-            self.assertEqual(Scene([solid]).draw(view).paths, [])
+        for solid in (Cylinder(1.0, 0.0, 2.0, lines=BY_CORE), Cone(1.0, 2.0, lines=BY_CORE)):
+            self.assertEqual(Scene([dataclasses.replace(solid, lines=NO_LINES)]).draw(view).paths, [])
+            self.assertGreater(len(Scene([solid]).draw(view).paths), 0)
             striped = dataclasses.replace(solid, stripes=24)
             text = forms.write(Scene([striped]), view)
             self.assertIn(" 24)", text)

@@ -134,7 +134,7 @@ class Command(Typed):
         yard = self.folder / "a.yard"
         yard.write_text(f"{wrong.VIEW}\n(cylinder 2 0 7)\n")
         out, err = self.run_sheet(yard, self.folder / "a.svg")
-        self.assertIn("0 lines", out)
+        self.assertNotIn(" 0 lines", out)
         self.assertIn("(text line 2); --outlines missing", err)
         out, err = self.run_sheet(yard, self.folder / "a.svg", "--outlines", "missing")
         self.assertNotIn(" 0 lines", out)

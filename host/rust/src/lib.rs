@@ -19,7 +19,8 @@
 //! ```
 //!
 //! The calls themselves, on slices that the caller lends, are in [`calls`]. What a draw is lent here grows until the
-//! drawing fits. Angles are no business of the core: cameras and outlines of round solids are made by the host.
+//! drawing fits. Angles are no business of the core: cameras are made by the host, and outlines that
+//! stand off the surface; a round solid that is handed no lines has the core's own, which lie in it.
 
 #![deny(unsafe_code)]
 

@@ -135,7 +135,7 @@ fn every_solid_has_its_lines() {
         scene.draw(&VIEW).unwrap().paths().count()
     };
     let ball = |scene: &mut Scene| _ = scene.sphere([0.0; 3], 1.0);
-    assert_eq!(lines(&ball), 0);
+    assert!(lines(&ball) >= 1);
     let triangle =
         |scene: &mut Scene| _ = scene.triangle([0.0; 3], [1.0, 0.0, 0.0], [0.0, 0.0, 1.0]);
     assert_eq!(lines(&triangle), 1);
