@@ -48,7 +48,7 @@ use std::process::ExitCode;
 /// Its name, what it compares, and what it times.
 type Layer = (&'static str, fn(&mut Run), fn());
 
-const LAYERS: [Layer; 11] = [
+const LAYERS: [Layer; 13] = [
     ("roots", roots::compare, roots::speed),
     ("leaves", leaves::compare, leaves::speed),
     ("scenes", scenes::compare, scenes::speed),

@@ -41,7 +41,7 @@ impl Run {
         cores: &[&dyn Fn(&I) -> A],
         shares: &[Share<I, A>],
     ) {
-        let mut rng = Rng::new(self.seed ^ name_hash(name));
+        let mut rng = Rng::new(self.seed ^ name_hash(cases_of(name)));
         let (mut differ, mut counted) = (0, vec![0; shares.len()]);
         let mut smallest: Option<(u32, String)> = None;
         for _ in 0..count {
@@ -77,7 +77,7 @@ impl Run {
         cores: &[&dyn Fn(&I) -> Vec<A>],
         shares: &[Part<I, A>],
     ) {
-        let mut rng = Rng::new(self.seed ^ name_hash(name));
+        let mut rng = Rng::new(self.seed ^ name_hash(cases_of(name)));
         let (mut done, mut differ, mut counted) = (0, 0, vec![0; shares.len()]);
         let mut smallest: Option<(u32, String)> = None;
         while done < count {
@@ -144,6 +144,15 @@ impl<const N: usize> Shown for [u64; N] {
             write!(text, "{gap}{word:016X}").unwrap();
             text
         })
+    }
+}
+
+/// Whose cases a function is put: the preview those of the draws, else its own.
+fn cases_of(name: &str) -> &str {
+    match name {
+        "preview" => "draw_with",
+        "preview.rooms" => "draw.rooms",
+        _ => name,
     }
 }
 

@@ -1,6 +1,7 @@
 //! One yard from two files: document 02's paragraph (xii) a second time, entry by entry and path by path.
 
 use crate::check::parts;
+use crate::outlines::with_outlines;
 use crate::{Answer, Lines, Room, Scene, Trouble, View, accepted, check, limited, within};
 
 /// The most numbers, marks, numbers of points, path starts and owners that the result may have.
@@ -42,16 +43,18 @@ fn append(merged: &mut Scene, scene: &Scene) {
     }
 }
 
-/// larnt's draw of the solids of both scenes, which it takes as one list.
+/// larnt's draw of the solids of both scenes, which it takes as one list. Outlines stand among the lines that are handed in.
 pub fn draw_both(
     [first, second]: [&Scene; 2],
     view: &View,
     threshold: f64,
     room: Room,
 ) -> Answer<Lines> {
-    let (mut solids, more) = (accepted(first)?, accepted(second)?);
+    accepted(first)?;
+    accepted(second)?;
     check::view(view)?;
     check::threshold(threshold)?;
+    let [mut solids, more] = [first, second].map(|s| limited::entries(&with_outlines(s, view)));
     solids.solids.extend(more.solids);
     within(room, || limited::draw(&solids, view, threshold))
 }
