@@ -51,7 +51,7 @@ none-left : (x D : ℕ) → 0 < D → x * D ≡ 0 → x ≡ 0
 none-left zero D h e = refl
 none-left (suc k) D h e = absurd (omega (arith, suc-mul k D, e, h))
 
-is-zero : (x : Float) (s : Bool) (D : ℕ) → 0 < D → HasValue x s 0 D → T (le x zeroF) × T (le zeroF x)
+pub is-zero : (x : Float) (s : Bool) (D : ℕ) → 0 < D → HasValue x s 0 D → T (le x zeroF) × T (le zeroF x)
 unfolding ofBits
 is-zero nan s D h v = absurd v
 is-zero (inf r) s D h v = absurd v
@@ -135,7 +135,7 @@ above-none (fin s m e) (inf true) h = le-top zeroF tt
 above-none (fin s m e) (fin t n d) h = fin-above (fin s m e) (fin t n d) tt tt h
 
 -- ---- the quotient of what lies behind
-over-ahead : (x d : Float) → T (positive d) → T (le x zeroF) → T (le (x ⊘ d) zeroF)
+pub over-ahead : (x d : Float) → T (positive d) → T (le x zeroF) → T (le (x ⊘ d) zeroF)
 over-ahead x d q h = le-trans (x ⊘ d) (zeroF ⊘ d) zeroF (div-mono x zeroF d q h) (zero-over d q .0)
 
 over-astern : (x d : Float) → T (positive (neg d)) → T (le zeroF x) → T (le (x ⊘ d) zeroF)
@@ -184,15 +184,15 @@ module _ (a b c : Span) where
   abbrev two : Float
   two = minOf (a .tmax) (b .tmax)
 
-  overlap-first : T (le (a .tmax) zeroF) → T (le (overlap a b c .tmax) zeroF)
+  pub overlap-first : T (le (a .tmax) zeroF) → T (le (overlap a b c .tmax) zeroF)
   unfolding overlap
   overlap-first h = least-behind (minOf two (c .tmax)) two (minOf-left two (c .tmax)) (least-behind two (a .tmax) (minOf-left (a .tmax) (b .tmax)) h)
 
-  overlap-second : T (le (b .tmax) zeroF) → T (le (overlap a b c .tmax) zeroF)
+  pub overlap-second : T (le (b .tmax) zeroF) → T (le (overlap a b c .tmax) zeroF)
   unfolding overlap
   overlap-second h = least-behind (minOf two (c .tmax)) two (minOf-left two (c .tmax)) (least-behind two (b .tmax) (minOf-right (a .tmax) (b .tmax)) h)
 
-  overlap-third : T (le (c .tmax) zeroF) → T (le (overlap a b c .tmax) zeroF)
+  pub overlap-third : T (le (c .tmax) zeroF) → T (le (overlap a b c .tmax) zeroF)
   unfolding overlap
   overlap-third h = least-behind (minOf two (c .tmax)) (c .tmax) (minOf-right two (c .tmax)) h
 

@@ -1,0 +1,173 @@
+-- A box fails the test where one of its slabs is left at or before the origin, or before another is entered, by the products. Assumes nothing.
+use mathlib.Core.Path.{_≡_, refl, sym, subst, ap, _∙_}
+use mathlib.Core.List.{List}
+use mathlib.Core.Logic.{_⊎_, inl, inr}
+use mathlib.Core.Bool.{Bool, true, false, not, _&&_}
+use Prim.Native.Nat.{ℕ, _+_, _-_, _*_, _≤_}
+use native.Mathlib.Omega.{arith}
+use lib.ListN.{length, getD}
+use lib.Dec.{T, not-T}
+use lib.Ieee.{Float, nan, ofBits, lt, le}
+use Rattle.floats.specs.Arith.{_⊖_, _⊗_, zeroF}
+use Rattle.floats.specs.Numbers.{within, minOf, maxOf}
+use Rattle.floats.proofs.Order.{le-trans, le-lt-trans, lt-le-trans, lt-trans, le-number-l, le-number-r, lt-number-l, le-or-gt}
+use Rattle.floats.proofs.Extremes.{orTop, orBot, orTop-id, orBot-id, minOf-left, minOf-right, maxOf-left, maxOf-right}
+use Rattle.geometry.specs.declared.bounding_box.Span.{Span}
+use Rattle.geometry.specs.declared.bounding_box.BBox.{BBox}
+use Rattle.geometry.specs.declared.vector.Vector.{Vector}
+use Rattle.geometry.specs.Boxes.{slab, overlap, boxTest, passes}
+use Rattle.geometry.specs.Limits.{Sound, Within}
+use Rattle.geometry.specs.Rays.{rayOf}
+use Rattle.geometry.proofs.Nested.{orTop-lt, lt-orBot}
+use Rattle.rows.specs.Rows.{row}
+use Rattle.rows.specs.Points.{boxOfRow}
+use Rattle.rows.proofs.Rows.{cells, row-cells}
+use Rattle.tree_behind.proofs.Rejects.{overlap-first, overlap-second, overlap-third}
+use Rattle.tree_beams.specs.Beams.{Shown, Bounded, Aimed}
+use Rattle.tree_beams.specs.declared.Bounds.{Bounds}
+use Rattle.tree_beams.specs.declared.Beam.{Beam}
+use Rattle.tree_beams.proofs.Axes.{Told, slab-forward, slab-backward}
+
+-- ---- one of three
+abbrev pub OneOf : Float → Float → Float → Float → Type 0
+OneOf x a b c = (x ≡ a) ⊎ ((x ≡ b) ⊎ (x ≡ c))
+
+pub one-of : (m x a b c : Float) → (m ≡ a) ⊎ (m ≡ b) → (x ≡ m) ⊎ (x ≡ c) → OneOf x a b c
+one-of m x a b c (inl p) (inl q) = inl (q ∙ p)
+one-of m x a b c (inr p) (inl q) = inr (inl (q ∙ p))
+one-of m x a b c p (inr q) = inr (inr q)
+
+fails-behind : (s : Span) → T (le (s .tmax) zeroF) → T (not (passes s))
+fails-behind s h = go (not (lt (s .tmax) (s .tmin))) (le (s .tmax) zeroF) h
+  where
+    go : (a b : Bool) → T b → T (not (a && not b))
+    go true true h = tt
+    go false true h = tt
+    go a false h = absurd h
+
+fails-apart : (s : Span) → T (lt (s .tmax) (s .tmin)) → T (not (passes s))
+fails-apart s h = go (lt (s .tmax) (s .tmin)) (le (s .tmax) zeroF) h
+  where
+    go : (a b : Bool) → T a → T (not (not a && not b))
+    go true b h = tt
+    go false b h = absurd h
+
+module _ (a b c : Span) (ea eb ec la lb lc : Float) (A : Told a ea la) (B : Told b eb lb) (C : Told c ec lc) where
+  left-behind : (l : Float) → OneOf l la lb lc → T (le l zeroF) → T (le (overlap a b c .tmax) zeroF)
+  left-behind l (inl p) h = overlap-first a b c (A .behind (subst (λ (x : Float). T (le x zeroF)) p h))
+  left-behind l (inr (inl p)) h = overlap-second a b c (B .behind (subst (λ (x : Float). T (le x zeroF)) p h))
+  left-behind l (inr (inr p)) h = overlap-third a b c (C .behind (subst (λ (x : Float). T (le x zeroF)) p h))
+
+  abbrev two : Float
+  two = minOf (a .tmax) (b .tmax)
+
+  abbrev last : Float
+  last = maxOf (a .tmin) (b .tmin)
+
+  -- the placed ends: a NaN counts for nothing
+  left-by : (l : Float) → OneOf l la lb lc → T (lt zeroF l) → T (le (orTop (overlap a b c .tmax)) l)
+  unfolding overlap
+  left-by l (inl p) h =
+      let k = A .leaves (subst (λ (x : Float). T (lt zeroF x)) p h) in
+      subst (λ (x : Float). T (le (orTop (minOf two (c .tmax))) x)) (sym p)
+      (le-trans (orTop (minOf two (c .tmax))) (orTop two) la (minOf-left two (c .tmax)) (le-trans (orTop two) (orTop (a .tmax)) la (minOf-left (a .tmax) (b .tmax)) (rw (orTop-id (a .tmax) (le-number-l (a .tmax) la k)) k)))
+  left-by l (inr (inl p)) h =
+      let k = B .leaves (subst (λ (x : Float). T (lt zeroF x)) p h) in
+      subst (λ (x : Float). T (le (orTop (minOf two (c .tmax))) x)) (sym p)
+      (le-trans (orTop (minOf two (c .tmax))) (orTop two) lb (minOf-left two (c .tmax)) (le-trans (orTop two) (orTop (b .tmax)) lb (minOf-right (a .tmax) (b .tmax)) (rw (orTop-id (b .tmax) (le-number-l (b .tmax) lb k)) k)))
+  left-by l (inr (inr p)) h =
+      let k = C .leaves (subst (λ (x : Float). T (lt zeroF x)) p h) in
+      subst (λ (x : Float). T (le (orTop (minOf two (c .tmax))) x)) (sym p)
+      (le-trans (orTop (minOf two (c .tmax))) (orTop (c .tmax)) lc (minOf-right two (c .tmax)) (rw (orTop-id (c .tmax) (le-number-l (c .tmax) lc k)) k))
+
+  entered-by : (e : Float) → OneOf e ea eb ec → T (lt zeroF e) → T (le e (orBot (overlap a b c .tmin)))
+  unfolding overlap
+  entered-by e (inl p) h =
+      let k = A .enters (subst (λ (x : Float). T (lt zeroF x)) p h) in
+      subst (λ (x : Float). T (le x (orBot (maxOf last (c .tmin))))) (sym p)
+      (le-trans ea (orBot last) (orBot (maxOf last (c .tmin))) (le-trans ea (orBot (a .tmin)) (orBot last) (rw (orBot-id (a .tmin) (le-number-r ea (a .tmin) k)) k) (maxOf-left (a .tmin) (b .tmin))) (maxOf-left last (c .tmin)))
+  entered-by e (inr (inl p)) h =
+      let k = B .enters (subst (λ (x : Float). T (lt zeroF x)) p h) in
+      subst (λ (x : Float). T (le x (orBot (maxOf last (c .tmin))))) (sym p)
+      (le-trans eb (orBot last) (orBot (maxOf last (c .tmin))) (le-trans eb (orBot (b .tmin)) (orBot last) (rw (orBot-id (b .tmin) (le-number-r eb (b .tmin) k)) k) (maxOf-right (a .tmin) (b .tmin))) (maxOf-left last (c .tmin)))
+  entered-by e (inr (inr p)) h =
+      let k = C .enters (subst (λ (x : Float). T (lt zeroF x)) p h) in
+      subst (λ (x : Float). T (le x (orBot (maxOf last (c .tmin))))) (sym p)
+      (le-trans ec (orBot (c .tmin)) (orBot (maxOf last (c .tmin))) (rw (orBot-id (c .tmin) (le-number-r ec (c .tmin) k)) k) (maxOf-right last (c .tmin)))
+
+  pub behind-fails : (l : Float) → OneOf l la lb lc → T (le l zeroF) → T (not (passes (overlap a b c)))
+  behind-fails l o h = fails-behind (overlap a b c) (left-behind l o h)
+
+  -- left by l before it is entered at e
+  pub apart-fails : (e l : Float) → OneOf e ea eb ec → OneOf l la lb lc → T (lt l e) → T (not (passes (overlap a b c)))
+  unfolding ofBits
+  apart-fails e l oe ol h = elim (le-or-gt l zeroF (lt-number-l l e h) tt) [
+    | inl p ↦ behind-fails l ol p
+    | inr p ↦ fails-apart (overlap a b c) (orTop-lt (overlap a b c .tmax) (overlap a b c .tmin) (lt-orBot (orTop (overlap a b c .tmax)) (overlap a b c .tmin)
+        (le-lt-trans (orTop (overlap a b c .tmax)) l (orBot (overlap a b c .tmin)) (left-by l ol p) (lt-le-trans l e (orBot (overlap a b c .tmin)) h (entered-by e oe (lt-trans zeroF l e p h))))))
+  ]
+
+-- ---- a slab of a box in a row: its planes stand at k and three places on, at h
+told-axis : (xs : List Float) (k h : ℕ) → h ≡ k + 3 → (o d : Float) (b : Bounds) → Bounded d b → T (within (getD xs k nan)) → T (within (getD xs h nan)) → T (within o) → T (le (getD xs k nan) (getD xs h nan))
+    → Told (slab (getD xs k nan) (getD xs h nan) o d) ((getD xs (k + b .near) nan ⊖ o) ⊗ b .low) ((getD xs (k + 3 - b .near) nan ⊖ o) ⊗ b .high)
+told-axis xs k h eh o d b (inl (s, e)) lo-in hi-in o-in fair =
+    let p : k + b .near ≡ k = omega (arith, e) in
+    let q : k + 3 - b .near ≡ h = omega (arith, e, eh) in
+    rw (p, q) (slab-forward (getD xs k nan) (getD xs h nan) o d b lo-in hi-in o-in fair s)
+told-axis xs k h eh o d b (inr (s, e)) lo-in hi-in o-in fair =
+    let p : k + b .near ≡ h = omega (arith, e, eh) in
+    let q : k + 3 - b .near ≡ k = omega (arith, e) in
+    rw (p, q) (slab-backward (getD xs k nan) (getD xs h nan) o d b lo-in hi-in o-in fair s)
+
+pub bounded-near : (d : Float) (b : Bounds) → Bounded d b → b .near ≤ 3
+bounded-near d b (inl (s, e)) = omega (arith, e)
+bounded-near d b (inr (s, e)) = omega (arith, e)
+
+-- ---- the box in a row
+module _ (xs : List Float) (i : ℕ) (b : Beam) (fits : i * 6 + 6 ≤ length xs) (A : Aimed b) (fine : Sound (boxOfRow (row 6 i xs))) where
+  abbrev at : ℕ
+  at = i * 6
+
+  abbrev bx : BBox
+  bx = boxOfRow (cells nan xs at 6)
+
+  sound : Sound bx
+  sound = subst (λ (l : List Float). Sound (boxOfRow l)) (row-cells 6 i xs nan fits) fine
+
+  by-cells : T (not (passes (boxTest bx (rayOf (b .origin) (b .direction))))) → T (not (passes (boxTest (boxOfRow (row 6 i xs)) (rayOf (b .origin) (b .direction)))))
+  by-cells = subst (λ (l : List Float). T (not (passes (boxTest (boxOfRow l) (rayOf (b .origin) (b .direction)))))) (sym (row-cells 6 i xs nan fits))
+
+  abbrev enter : ℕ → Bounds → Float → Float
+  enter k c o = (getD xs (k + c .near) nan ⊖ o) ⊗ c .low
+
+  abbrev leave : ℕ → Bounds → Float → Float
+  leave k c o = (getD xs (k + 3 - c .near) nan ⊖ o) ⊗ c .high
+
+  abbrev sx : Span
+  sx = slab (getD xs at nan) (getD xs (at + 3) nan) (b .origin .x) (b .direction .x)
+
+  abbrev sy : Span
+  sy = slab (getD xs (at + 1) nan) (getD xs (at + 4) nan) (b .origin .y) (b .direction .y)
+
+  abbrev sz : Span
+  sz = slab (getD xs (at + 2) nan) (getD xs (at + 5) nan) (b .origin .z) (b .direction .z)
+
+  told-x : Told sx (enter at (b .x) (b .origin .x)) (leave at (b .x) (b .origin .x))
+  told-x = told-axis xs at (at + 3) refl (b .origin .x) (b .direction .x) (b .x) (A .x) (sound .min .x) (sound .max .x) (A .from .x) (sound .fair .x)
+
+  told-y : Told sy (enter (at + 1) (b .y) (b .origin .y)) (leave (at + 1) (b .y) (b .origin .y))
+  told-y = told-axis xs (at + 1) (at + 4) (omega arith) (b .origin .y) (b .direction .y) (b .y) (A .y) (sound .min .y) (sound .max .y) (A .from .y) (sound .fair .y)
+
+  told-z : Told sz (enter (at + 2) (b .z) (b .origin .z)) (leave (at + 2) (b .z) (b .origin .z))
+  told-z = told-axis xs (at + 2) (at + 5) (omega arith) (b .origin .z) (b .direction .z) (b .z) (A .z) (sound .min .z) (sound .max .z) (A .from .z) (sound .fair .z)
+
+  pub row-behind : (l : Float) → OneOf l (leave at (b .x) (b .origin .x)) (leave (at + 1) (b .y) (b .origin .y)) (leave (at + 2) (b .z) (b .origin .z))
+      → T (le l zeroF) → T (not (passes (boxTest (boxOfRow (row 6 i xs)) (rayOf (b .origin) (b .direction)))))
+  unfolding boxTest
+  row-behind l o h = by-cells (behind-fails sx sy sz _ _ _ _ _ _ told-x told-y told-z l o h)
+
+  pub row-apart : (e l : Float) → OneOf e (enter at (b .x) (b .origin .x)) (enter (at + 1) (b .y) (b .origin .y)) (enter (at + 2) (b .z) (b .origin .z))
+      → OneOf l (leave at (b .x) (b .origin .x)) (leave (at + 1) (b .y) (b .origin .y)) (leave (at + 2) (b .z) (b .origin .z))
+      → T (lt l e) → T (not (passes (boxTest (boxOfRow (row 6 i xs)) (rayOf (b .origin) (b .direction)))))
+  unfolding boxTest
+  row-apart e l oe ol h = by-cells (apart-fails sx sy sz _ _ _ _ _ _ told-x told-y told-z e l oe ol h)

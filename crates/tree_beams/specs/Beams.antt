@@ -1,0 +1,30 @@
+-- Bounds on the reciprocals of a ray's direction, shown by products.
+use mathlib.Core.Path.{_≡_}
+use mathlib.Core.Logic.{_⊎_}
+use Prim.Native.Nat.{_≤_}
+use lib.Dec.{T}
+use lib.Ieee.{Float, neg, lt}
+use lib.Ieee.Positive.{positive}
+use Rattle.floats.specs.Arith.{_⊗_, oneF}
+use Rattle.geometry.specs.Limits.{Within}
+use Rattle.tree_beams.specs.declared.Bounds.{Bounds}
+use Rattle.tree_beams.specs.declared.Beam.{Beam}
+
+-- low is below 1 / d and high above it, by their rounded products with d
+pub record Shown (d low high : Float) : Type 0 where
+  pub ahead : T (positive d)
+  pub low-positive : T (positive low)
+  pub high-positive : T (positive high)
+  pub below : T (lt (low ⊗ d) oneF)
+  pub above : T (lt oneF (high ⊗ d))
+
+-- the same for a direction component of either sign; the nearer plane is the lower one where the ray runs forward, the upper one where it runs backward
+abbrev pub Bounded : Float → Bounds → Type 0
+Bounded d b = (Shown d (b .low) (b .high) × (b .near ≡ 0)) ⊎ (Shown (neg d) (neg (b .low)) (neg (b .high)) × (b .near ≡ 3))
+
+-- a beam with bounds on each axis, from an accepted point
+pub record Aimed (b : Beam) : Type 0 where
+  pub from : Within (b .origin)
+  pub x : Bounded (b .direction .x) (b .x)
+  pub y : Bounded (b .direction .y) (b .y)
+  pub z : Bounded (b .direction .z) (b .z)

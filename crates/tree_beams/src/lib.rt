@@ -1,0 +1,148 @@
+// Boxes that a ray misses, shown by products with bounds on the reciprocals of its direction, in place of the six divisions of the box test.
+ghost use mathlib.Core.Path.{_≡_};
+ghost use mathlib.Core.Logic.{_⊎_};
+ghost use mathlib.Core.Bool.{true, not};
+ghost use Prim.Native.Nat.{_+_, _-_, _*_, _≤_};
+ghost use lib.ListN.{length, getD};
+ghost use lib.Dec.{T};
+ghost use lib.Ieee.{nan};
+ghost use Rattle.floats.specs.Arith.{_⊖_, _⊗_};
+ghost use Rattle.geometry.specs.Boxes.{boxTest, passes};
+ghost use Rattle.geometry.specs.Limits.{Sound};
+ghost use Rattle.geometry.specs.Rays.{rayOf};
+ghost use Rattle.rows.specs.Rows.{row};
+ghost use Rattle.rows.specs.Points.{boxOfRow};
+ghost use Rattle.tree_beams.specs.Beams.{Shown, Bounded, Aimed};
+use geometry::vector::Vector;
+
+// Bounds on 1 / d: `low` is nearer to 0, `high` farther. The nearer plane of a slab stands at `near` in a box's row, 0 or 3 places on.
+pub struct Bounds {
+    pub low: f64,
+    pub high: f64,
+    pub near: usize,
+    pub sure: bool,
+}
+
+// A ray with bounds on each axis.
+pub struct Beam {
+    pub origin: Vector,
+    pub direction: Vector,
+    pub x: Bounds,
+    pub y: Bounds,
+    pub z: Bounds,
+}
+
+// Whether products show that low is below 1 / d and high above it, all of them above 0.
+fn shown(d: f64, low: f64, high: f64) -> bool
+    ensures { λ r. ⌜ (r ≡ true → Shown d low high) ⌝ }
+{
+    if 0.0 < d {
+        if d < 2.0 {
+            if 0.0 < low {
+                if low < 1e18 {
+                    if 0.0 < high {
+                        if high < 1e18 {
+                            if low * d < 1.0 {
+                                return 1.0 < high * d;
+                            }
+                        }
+                    }
+                }
+            }
+        }
+    }
+    false
+}
+
+// Bounds on 1 / d, sure where products show them. That they are is tested and not proved, so nothing is said of the quotient and of the factors.
+fn bound(d: f64) -> Bounds
+    ensures { λ r. ⌜ (r .sure ≡ true → Bounded d r) ⌝ }
+{
+    let i = 1.0 / d;
+    let low = i * 0.9999999999999996;
+    let high = i * 1.0000000000000004;
+    if 0.0 < d {
+        return Bounds {
+            low,
+            high,
+            near: 0,
+            sure: shown(d, low, high),
+        };
+    }
+    Bounds {
+        low,
+        high,
+        near: 3,
+        sure: shown(-d, -low, -high),
+    }
+}
+
+pub fn aim(o: Vector, d: Vector) -> Beam
+    ensures { λ r. ⌜ (r .origin ≡ o) × (r .direction ≡ d) × (r .x .sure ≡ true → Bounded (d .x) (r .x)) × (r .y .sure ≡ true → Bounded (d .y) (r .y)) × (r .z .sure ≡ true → Bounded (d .z) (r .z)) ⌝ }
+{
+    let x = bound(d.x);
+    let y = bound(d.y);
+    let z = bound(d.z);
+    Beam {
+        origin: o,
+        direction: d,
+        x,
+        y,
+        z,
+    }
+}
+
+// One of two numbers: the greater, if neither is a NaN. Nothing rests on which.
+fn greater(a: f64, b: f64) -> f64
+    ensures { λ r. ⌜ (r ≡ a) ⊎ (r ≡ b) ⌝ }
+{
+    if a > b {
+        return a;
+    }
+    b
+}
+
+fn lesser(a: f64, b: f64) -> f64
+    ensures { λ r. ⌜ (r ≡ a) ⊎ (r ≡ b) ⌝ }
+{
+    if a < b {
+        return a;
+    }
+    b
+}
+
+// The nearer plane of a slab times the lower bound. The slab's planes stand at `at` and three places on.
+fn entered(xs: &[f64], at: usize, near: usize, o: f64, low: f64) -> f64
+    requires { ⌜ (near ≤ 3) × (at + 4 ≤ length (now xs)) ⌝ }
+    ensures { λ r. ⌜ r ≡ (getD (now (xs .entry)) (at + near) nan ⊖ o) ⊗ low ⌝ }
+{
+    (xs[at + near] - o) * low
+}
+
+// The farther plane times the upper bound.
+fn left(xs: &[f64], at: usize, near: usize, o: f64, high: f64) -> f64
+    requires { ⌜ (near ≤ 3) × (at + 4 ≤ length (now xs)) ⌝ }
+    ensures { λ r. ⌜ r ≡ (getD (now (xs .entry)) (at + 3 - near) nan ⊖ o) ⊗ high ⌝ }
+{
+    (xs[at + 3 - near] - o) * high
+}
+
+// Whether the box in row i is shown to fail the box test.
+pub fn misses(xs: &[f64], i: usize, b: Beam) -> bool
+    requires { ⌜ (i * 6 + 6 ≤ length (now xs)) × Aimed b × Sound (boxOfRow (row 6 i (now xs))) ⌝ }
+    ensures { λ r. ⌜ (r ≡ true → T (not (passes (boxTest (boxOfRow (row 6 i (now (xs .entry)))) (rayOf (b .origin) (b .direction)))))) ⌝ }
+{
+    let at = i * 6;
+    let ex = entered(xs, at, b.x.near, b.origin.x, b.x.low);
+    let ey = entered(xs, at + 1, b.y.near, b.origin.y, b.y.low);
+    let ez = entered(xs, at + 2, b.z.near, b.origin.z, b.z.low);
+    let lx = left(xs, at, b.x.near, b.origin.x, b.x.high);
+    let ly = left(xs, at + 1, b.y.near, b.origin.y, b.y.high);
+    let lz = left(xs, at + 2, b.z.near, b.origin.z, b.z.high);
+    let e = greater(greater(ex, ey), ez);
+    let l = lesser(lesser(lx, ly), lz);
+    if l <= 0.0 {
+        return true;
+    }
+    l < e
+}
