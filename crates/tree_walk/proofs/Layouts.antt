@@ -23,6 +23,7 @@ use Rattle.tree_nodes.specs.declared.Node.{Node}
 use Rattle.scene_shape.specs.declared.Struck.{Struck}
 use Rattle.tree_walk.specs.declared.Nearest.{Nearest}
 use Rattle.tree_walk.specs.declared.Found.the-variants.{Best}
+use Rattle.tree_walk.specs.Standing.{Stands}
 use Rattle.tree_walk.specs.Walks.{nothing, scan, backward, childrenOf, leafEntries, visit, walkOn, walkRows}
 use Rattle.tree_nodes.specs.Members.{Sensible}
 use Rattle.tree_nodes.proofs.Nodes.{node-at}
@@ -30,12 +31,7 @@ use Rattle.tree_walk.proofs.Rounds.{round-gone, round-skip, round-leaf}
 use Rattle.tree_walk.proofs.Turns.{walk-none, walk-rounds}
 use Rattle.tree_walk.proofs.Stacks.{visits, visits-leaf, visits-split, onward-same, onward-best}
 
--- ---- a tree that stands among the nodes
--- the node at place i is the tree
-abbrev pub Stands : (ℕ → Node) → ℕ → List ℕ → ℕ → Tree ℕ → Type 0
-Stands N places order i (leaf b a is) = record { there : ltb i places ≡ true; box : N i .bx ≡ b; kind : isLeaf (N i) ≡ true; solids : leafEntries order (N i) ≡ is }
-Stands N places order i (split b a u v) = record { there : ltb i places ≡ true; box : N i .bx ≡ b; kind : isLeaf (N i) ≡ false; axis : N i .axis ≡ a; one : Stands N places order (N i .first) u; two : Stands N places order (N i .first + 1) v }
-
+-- ---- trees that stand among the nodes
 -- the places are those of the trees
 abbrev pub Stack : (ℕ → Node) → ℕ → List ℕ → List ℕ → List (Tree ℕ) → Type 0
 Stack N places order [] [] = Unit {0}

@@ -1,0 +1,6 @@
+// The eye test by a glance.
+pub enum Glance {
+    Hidden,
+    Visible,
+    Unsure,
+}
