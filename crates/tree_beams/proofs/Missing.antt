@@ -17,7 +17,6 @@ use Rattle.geometry.specs.declared.bounding_box.BBox.{BBox}
 use Rattle.geometry.specs.declared.vector.Vector.{Vector}
 use Rattle.geometry.specs.Boxes.{slab, overlap, boxTest, passes}
 use Rattle.geometry.specs.Limits.{Sound, Within}
-use Rattle.geometry.specs.Rays.{rayOf}
 use Rattle.geometry.proofs.Nested.{orTop-lt, lt-orBot}
 use Rattle.rows.specs.Rows.{row}
 use Rattle.rows.specs.Points.{boxOfRow}
@@ -134,8 +133,8 @@ module _ (xs : List Float) (i : ℕ) (b : Beam) (fits : i * 6 + 6 ≤ length xs)
   sound : Sound bx
   sound = subst (λ (l : List Float). Sound (boxOfRow l)) (row-cells 6 i xs nan fits) fine
 
-  by-cells : T (not (passes (boxTest bx (rayOf (b .origin) (b .direction))))) → T (not (passes (boxTest (boxOfRow (row 6 i xs)) (rayOf (b .origin) (b .direction)))))
-  by-cells = subst (λ (l : List Float). T (not (passes (boxTest (boxOfRow l) (rayOf (b .origin) (b .direction)))))) (sym (row-cells 6 i xs nan fits))
+  by-cells : T (not (passes (boxTest bx (b .ray)))) → T (not (passes (boxTest (boxOfRow (row 6 i xs)) (b .ray))))
+  by-cells = subst (λ (l : List Float). T (not (passes (boxTest (boxOfRow l) (b .ray))))) (sym (row-cells 6 i xs nan fits))
 
   abbrev enter : ℕ → Bounds → Float → Float
   enter k c o = (getD xs (k + c .near) nan ⊖ o) ⊗ c .low
@@ -144,30 +143,30 @@ module _ (xs : List Float) (i : ℕ) (b : Beam) (fits : i * 6 + 6 ≤ length xs)
   leave k c o = (getD xs (k + 3 - c .near) nan ⊖ o) ⊗ c .high
 
   abbrev sx : Span
-  sx = slab (getD xs at nan) (getD xs (at + 3) nan) (b .origin .x) (b .direction .x)
+  sx = slab (getD xs at nan) (getD xs (at + 3) nan) (b .ray .origin .x) (b .ray .direction .x)
 
   abbrev sy : Span
-  sy = slab (getD xs (at + 1) nan) (getD xs (at + 4) nan) (b .origin .y) (b .direction .y)
+  sy = slab (getD xs (at + 1) nan) (getD xs (at + 4) nan) (b .ray .origin .y) (b .ray .direction .y)
 
   abbrev sz : Span
-  sz = slab (getD xs (at + 2) nan) (getD xs (at + 5) nan) (b .origin .z) (b .direction .z)
+  sz = slab (getD xs (at + 2) nan) (getD xs (at + 5) nan) (b .ray .origin .z) (b .ray .direction .z)
 
-  told-x : Told sx (enter at (b .x) (b .origin .x)) (leave at (b .x) (b .origin .x))
-  told-x = told-axis xs at (at + 3) refl (b .origin .x) (b .direction .x) (b .x) (A .x) (sound .min .x) (sound .max .x) (A .from .x) (sound .fair .x)
+  told-x : Told sx (enter at (b .x) (b .ray .origin .x)) (leave at (b .x) (b .ray .origin .x))
+  told-x = told-axis xs at (at + 3) refl (b .ray .origin .x) (b .ray .direction .x) (b .x) (A .x) (sound .min .x) (sound .max .x) (A .from .x) (sound .fair .x)
 
-  told-y : Told sy (enter (at + 1) (b .y) (b .origin .y)) (leave (at + 1) (b .y) (b .origin .y))
-  told-y = told-axis xs (at + 1) (at + 4) (omega arith) (b .origin .y) (b .direction .y) (b .y) (A .y) (sound .min .y) (sound .max .y) (A .from .y) (sound .fair .y)
+  told-y : Told sy (enter (at + 1) (b .y) (b .ray .origin .y)) (leave (at + 1) (b .y) (b .ray .origin .y))
+  told-y = told-axis xs (at + 1) (at + 4) (omega arith) (b .ray .origin .y) (b .ray .direction .y) (b .y) (A .y) (sound .min .y) (sound .max .y) (A .from .y) (sound .fair .y)
 
-  told-z : Told sz (enter (at + 2) (b .z) (b .origin .z)) (leave (at + 2) (b .z) (b .origin .z))
-  told-z = told-axis xs (at + 2) (at + 5) (omega arith) (b .origin .z) (b .direction .z) (b .z) (A .z) (sound .min .z) (sound .max .z) (A .from .z) (sound .fair .z)
+  told-z : Told sz (enter (at + 2) (b .z) (b .ray .origin .z)) (leave (at + 2) (b .z) (b .ray .origin .z))
+  told-z = told-axis xs (at + 2) (at + 5) (omega arith) (b .ray .origin .z) (b .ray .direction .z) (b .z) (A .z) (sound .min .z) (sound .max .z) (A .from .z) (sound .fair .z)
 
-  pub row-behind : (l : Float) → OneOf l (leave at (b .x) (b .origin .x)) (leave (at + 1) (b .y) (b .origin .y)) (leave (at + 2) (b .z) (b .origin .z))
-      → T (le l zeroF) → T (not (passes (boxTest (boxOfRow (row 6 i xs)) (rayOf (b .origin) (b .direction)))))
+  pub row-behind : (l : Float) → OneOf l (leave at (b .x) (b .ray .origin .x)) (leave (at + 1) (b .y) (b .ray .origin .y)) (leave (at + 2) (b .z) (b .ray .origin .z))
+      → T (le l zeroF) → T (not (passes (boxTest (boxOfRow (row 6 i xs)) (b .ray))))
   unfolding boxTest
   row-behind l o h = by-cells (behind-fails sx sy sz _ _ _ _ _ _ told-x told-y told-z l o h)
 
-  pub row-apart : (e l : Float) → OneOf e (enter at (b .x) (b .origin .x)) (enter (at + 1) (b .y) (b .origin .y)) (enter (at + 2) (b .z) (b .origin .z))
-      → OneOf l (leave at (b .x) (b .origin .x)) (leave (at + 1) (b .y) (b .origin .y)) (leave (at + 2) (b .z) (b .origin .z))
-      → T (lt l e) → T (not (passes (boxTest (boxOfRow (row 6 i xs)) (rayOf (b .origin) (b .direction)))))
+  pub row-apart : (e l : Float) → OneOf e (enter at (b .x) (b .ray .origin .x)) (enter (at + 1) (b .y) (b .ray .origin .y)) (enter (at + 2) (b .z) (b .ray .origin .z))
+      → OneOf l (leave at (b .x) (b .ray .origin .x)) (leave (at + 1) (b .y) (b .ray .origin .y)) (leave (at + 2) (b .z) (b .ray .origin .z))
+      → T (lt l e) → T (not (passes (boxTest (boxOfRow (row 6 i xs)) (b .ray))))
   unfolding boxTest
   row-apart e l oe ol h = by-cells (apart-fails sx sy sz _ _ _ _ _ _ told-x told-y told-z e l oe ol h)

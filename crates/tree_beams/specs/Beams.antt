@@ -24,7 +24,7 @@ Bounded d b = (Shown d (b .low) (b .high) × (b .near ≡ 0)) ⊎ (Shown (neg d)
 
 -- a beam with bounds on each axis, from an accepted point
 pub record Aimed (b : Beam) : Type 0 where
-  pub from : Within (b .origin)
-  pub x : Bounded (b .direction .x) (b .x)
-  pub y : Bounded (b .direction .y) (b .y)
-  pub z : Bounded (b .direction .z) (b .z)
+  pub from : Within (b .ray .origin)
+  pub x : Bounded (b .ray .direction .x) (b .x)
+  pub y : Bounded (b .ray .direction .y) (b .y)
+  pub z : Bounded (b .ray .direction .z) (b .z)

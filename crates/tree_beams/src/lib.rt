@@ -9,11 +9,10 @@ ghost use lib.Ieee.{nan};
 ghost use Rattle.floats.specs.Arith.{_⊖_, _⊗_};
 ghost use Rattle.geometry.specs.Boxes.{boxTest, passes};
 ghost use Rattle.geometry.specs.Limits.{Sound};
-ghost use Rattle.geometry.specs.Rays.{rayOf};
 ghost use Rattle.rows.specs.Rows.{row};
 ghost use Rattle.rows.specs.Points.{boxOfRow};
 ghost use Rattle.tree_beams.specs.Beams.{Shown, Bounded, Aimed};
-use geometry::vector::Vector;
+use geometry::ray::Ray;
 
 // Bounds on 1 / d: `low` is nearer to 0, `high` farther. The nearer plane of a slab stands at `near` in a box's row, 0 or 3 places on.
 pub struct Bounds {
@@ -25,8 +24,7 @@ pub struct Bounds {
 
 // A ray with bounds on each axis.
 pub struct Beam {
-    pub origin: Vector,
-    pub direction: Vector,
+    pub ray: Ray,
     pub x: Bounds,
     pub y: Bounds,
     pub z: Bounds,
@@ -77,19 +75,13 @@ fn bound(d: f64) -> Bounds
     }
 }
 
-pub fn aim(o: Vector, d: Vector) -> Beam
-    ensures { λ r. ⌜ (r .origin ≡ o) × (r .direction ≡ d) × (r .x .sure ≡ true → Bounded (d .x) (r .x)) × (r .y .sure ≡ true → Bounded (d .y) (r .y)) × (r .z .sure ≡ true → Bounded (d .z) (r .z)) ⌝ }
+pub fn aim(r: Ray) -> Beam
+    ensures { λ b. ⌜ (b .ray ≡ r) × (b .x .sure ≡ true → Bounded (r .direction .x) (b .x)) × (b .y .sure ≡ true → Bounded (r .direction .y) (b .y)) × (b .z .sure ≡ true → Bounded (r .direction .z) (b .z)) ⌝ }
 {
-    let x = bound(d.x);
-    let y = bound(d.y);
-    let z = bound(d.z);
-    Beam {
-        origin: o,
-        direction: d,
-        x,
-        y,
-        z,
-    }
+    let x = bound(r.direction.x);
+    let y = bound(r.direction.y);
+    let z = bound(r.direction.z);
+    Beam { ray: r, x, y, z }
 }
 
 // One of two numbers: the greater, if neither is a NaN. Nothing rests on which.
@@ -130,15 +122,15 @@ fn left(xs: &[f64], at: usize, near: usize, o: f64, high: f64) -> f64
 // Whether the box in row i is shown to fail the box test.
 pub fn misses(xs: &[f64], i: usize, b: Beam) -> bool
     requires { ⌜ (i * 6 + 6 ≤ length (now xs)) × Aimed b × Sound (boxOfRow (row 6 i (now xs))) ⌝ }
-    ensures { λ r. ⌜ (r ≡ true → T (not (passes (boxTest (boxOfRow (row 6 i (now (xs .entry)))) (rayOf (b .origin) (b .direction)))))) ⌝ }
+    ensures { λ r. ⌜ (r ≡ true → T (not (passes (boxTest (boxOfRow (row 6 i (now (xs .entry)))) (b .ray))))) ⌝ }
 {
     let at = i * 6;
-    let ex = entered(xs, at, b.x.near, b.origin.x, b.x.low);
-    let ey = entered(xs, at + 1, b.y.near, b.origin.y, b.y.low);
-    let ez = entered(xs, at + 2, b.z.near, b.origin.z, b.z.low);
-    let lx = left(xs, at, b.x.near, b.origin.x, b.x.high);
-    let ly = left(xs, at + 1, b.y.near, b.origin.y, b.y.high);
-    let lz = left(xs, at + 2, b.z.near, b.origin.z, b.z.high);
+    let ex = entered(xs, at, b.x.near, b.ray.origin.x, b.x.low);
+    let ey = entered(xs, at + 1, b.y.near, b.ray.origin.y, b.y.low);
+    let ez = entered(xs, at + 2, b.z.near, b.ray.origin.z, b.z.low);
+    let lx = left(xs, at, b.x.near, b.ray.origin.x, b.x.high);
+    let ly = left(xs, at + 1, b.y.near, b.ray.origin.y, b.y.high);
+    let lz = left(xs, at + 2, b.z.near, b.ray.origin.z, b.z.high);
     let e = greater(greater(ex, ey), ez);
     let l = lesser(lesser(lx, ly), lz);
     if l <= 0.0 {

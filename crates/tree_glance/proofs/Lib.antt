@@ -1,1 +1,5 @@
 pub mod Leaves
+pub mod Glancing
+pub mod Spots
+pub mod Endings
+pub mod Looking

@@ -1,13 +1,14 @@
 -- The eye test by a glance: what is asked of a tree, of the solids and of what is kept, and what a glance's answer says of the full walk.
 use mathlib.Core.Path.{_≡_}
 use mathlib.Core.Logic.{_⊎_}
-use mathlib.Core.Bool.{Bool, true, false, cond}
-use mathlib.Core.List.{List}
+use mathlib.Core.Bool.{Bool, true, false, not, cond}
+use mathlib.Core.List.{List, [], _∷_}
 use Prim.Native.Nat.{ℕ, zero, suc, _+_, _*_, _≤_, _<_}
 use lib.ListN.{length, getD}
 use lib.Dec.{T}
 use lib.Ieee.{Float, lt, le}
 use Rattle.floats.specs.Arith.{INF}
+use Rattle.geometry.specs.Boxes.{boxTest, passes}
 use Rattle.geometry.specs.Limits.{Sound, Inside}
 use Rattle.geometry.specs.declared.ray.Ray.{Ray}
 use Rattle.geometry.specs.declared.hit.Hit.{Hit}
@@ -18,7 +19,8 @@ use Rattle.lists.specs.Lists.{Member}
 use Rattle.tree_nodes.specs.Trees.{Tree, leaf, split, belowRoot}
 use Rattle.tree_nodes.specs.Nodes.{nodeAt, placesOf, isLeaf}
 use Rattle.tree_nodes.specs.declared.Node.{Node}
-use Rattle.scene_shape.specs.declared.Struck.the-variants.{At}
+use Rattle.scene_shape.specs.declared.Struck.{Struck}
+use Rattle.scene_shape.specs.declared.Struck.the-variants.{At, Refused as NotStruck}
 use Rattle.tree_walk.specs.Walks.{leafEntries, entryHit}
 use Rattle.tree_walk.specs.Standing.{Stands}
 use Rattle.tree_walk.specs.declared.Nearest.{Nearest}
@@ -26,6 +28,8 @@ use Rattle.tree_walk.specs.declared.Found.{Found}
 use Rattle.tree_walk.specs.declared.Found.the-variants.{Best}
 use Rattle.tree_glance.specs.declared.Glance.{Glance}
 use Rattle.tree_glance.specs.declared.Glance.the-variants.{Hidden, Visible, Unsure}
+use Rattle.tree_glance.specs.declared.Spotted.{Spotted}
+use Rattle.tree_glance.specs.declared.Spotted.the-variants.{Clear, Short, Unknown}
 
 -- ---- trees in slices
 -- the tree at place i, where at most so many splits stand above a leaf
@@ -86,6 +90,50 @@ pub record Kept (boxes : List Float) (links order cover stack : List ℕ) : Type
   pub wide : length cover ≡ 2
   pub wide-stack : length stack ≡ 64
   pub last : (getD cover 0 0 ≡ noPlace) ⊎ ((getD cover 0 0 * 6 + 6 ≤ length boxes) × LeafIn (boxOfRow (row 6 (getD cover 0 0) boxes)) (getD cover 1 0) (wholeTree boxes links order))
+
+-- ---- what the entries of a leaf say of the distance
+abbrev pub clear : Spotted
+clear = Clear
+
+-- once entry i has answered
+unfoldable pub judgedOf : Float → ℕ → Struck → Spotted → Spotted
+judgedOf distance i (At h) found = cond (lt (h .t) distance) (Short i) found
+judgedOf distance i (NotStruck n) found = Unknown
+
+-- on from there: a refusal ends it, and so does one that falls short, where every solid answers
+unfoldable pub spotOn : Bool → Spotted → (Spotted → Spotted) → Spotted
+spotOn calm Clear next = next Clear
+spotOn calm (Short i) next = cond calm (Short i) (next (Short i))
+spotOn calm Unknown next = Unknown
+
+unfoldable pub spottedOf : Float → Bool → (ℕ → Struck) → List ℕ → Spotted → Spotted
+spottedOf distance calm hit [] found = found
+spottedOf distance calm hit (i ∷ is) found = spotOn calm (judgedOf distance i (hit i) found) (spottedOf distance calm hit is)
+
+-- the box in row i passes the test and is entered before the distance
+pub record EnteredBefore (boxes : List Float) (i : ℕ) (r : Ray) (distance : Float) : Type 0 where
+  pub passed : T (passes (boxTest (boxOfRow (row 6 i boxes)) r))
+  pub before : T (lt (boxTest (boxOfRow (row 6 i boxes)) r .tmin) distance)
+
+-- every entry answers
+abbrev pub AllAnswer : (ℕ → Struck) → List ℕ → Type 0
+AllAnswer hit is = (i : ℕ) → Member i is → (h : Hit) × (hit i ≡ At h)
+
+-- an entry that falls short, in a leaf whose box is entered before the distance
+pub record Shorter (hit : ℕ → Struck) (r : Ray) (distance : Float) (calm : Bool) (boxes : List Float) (i : ℕ) (is : List ℕ) (cover : List ℕ) : Type 0 where
+  pub entered : EnteredBefore boxes i r distance
+  pub own : Hit
+  pub among : Member (getD cover 1 0) is
+  pub returned : hit (getD cover 1 0) ≡ At own
+  pub short : T (lt (own .t) distance)
+  pub answered : calm ≡ false → AllAnswer hit is
+  pub place : getD cover 0 0 ≡ i
+  pub wide : length cover ≡ 2
+
+abbrev pub LeafTold : (ℕ → Struck) → Ray → Float → Bool → List Float → ℕ → List ℕ → List ℕ → List ℕ → Glance → Type 0
+LeafTold hit r distance calm boxes i is cover cover′ Hidden = Shorter hit r distance calm boxes i is cover′
+LeafTold hit r distance calm boxes i is cover cover′ Visible = (cover′ ≡ cover) × ((s : ℕ) → Member s is → (h : Hit) × (hit s ≡ At h) × T (not (lt (h .t) distance)))
+LeafTold hit r distance calm boxes i is cover cover′ Unsure = cover′ ≡ cover
 
 -- ---- what a glance says of the walk
 abbrev pub Tells : Glance → Found → Float → Type 0

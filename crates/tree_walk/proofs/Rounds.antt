@@ -31,11 +31,11 @@ pub length-piled : (s : List ℕ) (k : ℕ) → length (piled s k) ≡ k
 length-piled s zero = refl
 length-piled s (suc k) = ap suc (length-piled s k)
 
-piled-set : (s : List ℕ) (j v k : ℕ) → k ≤ j → piled (set s j v) k ≡ piled s k
+pub piled-set : (s : List ℕ) (j v k : ℕ) → k ≤ j → piled (set s j v) k ≡ piled s k
 piled-set s j v zero h = refl
 piled-set s j v (suc k) h = ap₂ (λ (x : ℕ) (l : List ℕ). x ∷ l) (getD-set-other s j k v 0 (omega arith)) (piled-set s j v k (omega arith))
 
-piled-top : (s : List ℕ) (k sp : ℕ) → sp ≡ suc k → piled s sp ≡ getD s k 0 ∷ piled s k
+pub piled-top : (s : List ℕ) (k sp : ℕ) → sp ≡ suc k → piled s sp ≡ getD s k 0 ∷ piled s k
 piled-top s k sp e = rw e
 
 piled-push : (s : List ℕ) (sp far near : ℕ) → sp + 1 < length s → piled (set (set s sp far) (sp + 1) near) (sp + 2) ≡ near ∷ far ∷ piled s sp

@@ -6,22 +6,22 @@ use Rattle.tree_beams.proofs.misses.Statement.{statement}
 use Rattle.tree_beams.proofs.misses.Tie as tie
 
 entered-requires : tie.Need-entered-requires
-entered-requires c κs = (bounded-near (c .before .args .b .direction .x) (c .before .args .b .x) (c .before .pre .1 .x), omega (arith, c .before .pre .0))
+entered-requires c κs = (bounded-near (c .before .args .b .ray .direction .x) (c .before .args .b .x) (c .before .pre .1 .x), omega (arith, c .before .pre .0))
 
 entered-requires-2 : tie.Need-entered-requires-2
-entered-requires-2 c κs = (bounded-near (c .before .before .args .b .direction .y) (c .before .before .args .b .y) (c .before .before .pre .1 .y), omega (arith, c .before .before .pre .0))
+entered-requires-2 c κs = (bounded-near (c .before .before .args .b .ray .direction .y) (c .before .before .args .b .y) (c .before .before .pre .1 .y), omega (arith, c .before .before .pre .0))
 
 entered-requires-3 : tie.Need-entered-requires-3
-entered-requires-3 c κs = (bounded-near (c .before .before .before .args .b .direction .z) (c .before .before .before .args .b .z) (c .before .before .before .pre .1 .z), omega (arith, c .before .before .before .pre .0))
+entered-requires-3 c κs = (bounded-near (c .before .before .before .args .b .ray .direction .z) (c .before .before .before .args .b .z) (c .before .before .before .pre .1 .z), omega (arith, c .before .before .before .pre .0))
 
 left-requires : tie.Need-left-requires
-left-requires c κs = (bounded-near (c .before .before .before .before .args .b .direction .x) (c .before .before .before .before .args .b .x) (c .before .before .before .before .pre .1 .x), omega (arith, c .before .before .before .before .pre .0))
+left-requires c κs = (bounded-near (c .before .before .before .before .args .b .ray .direction .x) (c .before .before .before .before .args .b .x) (c .before .before .before .before .pre .1 .x), omega (arith, c .before .before .before .before .pre .0))
 
 left-requires-2 : tie.Need-left-requires-2
-left-requires-2 c κs = (bounded-near (c .before .before .before .before .before .args .b .direction .y) (c .before .before .before .before .before .args .b .y) (c .before .before .before .before .before .pre .1 .y), omega (arith, c .before .before .before .before .before .pre .0))
+left-requires-2 c κs = (bounded-near (c .before .before .before .before .before .args .b .ray .direction .y) (c .before .before .before .before .before .args .b .y) (c .before .before .before .before .before .pre .1 .y), omega (arith, c .before .before .before .before .before .pre .0))
 
 left-requires-3 : tie.Need-left-requires-3
-left-requires-3 c κs = (bounded-near (c .before .before .before .before .before .before .args .b .direction .z) (c .before .before .before .before .before .before .args .b .z) (c .before .before .before .before .before .before .pre .1 .z), omega (arith, c .before .before .before .before .before .before .pre .0))
+left-requires-3 c κs = (bounded-near (c .before .before .before .before .before .before .args .b .ray .direction .z) (c .before .before .before .before .before .before .args .b .z) (c .before .before .before .before .before .before .pre .1 .z), omega (arith, c .before .before .before .before .before .before .pre .0))
 
 returns : tie.Need-returns
 returns c =
