@@ -33,7 +33,8 @@ use Rattle.tree_walk.proofs.Visits.{visit-le}
 use Rattle.tree_walk.proofs.Layouts.{walk-is-visit}
 use Rattle.tree_glance.specs.declared.Glance.{Glance}
 use Rattle.tree_glance.specs.declared.Glance.the-variants.{Hidden, Visible}
-use Rattle.tree_glance.specs.Glances.{wholeTree, Trusted, Kept, LeafIn, Tells, endedOf}
+use Rattle.tree_trust.specs.Trust.{wholeTree, Trusted}
+use Rattle.tree_glance.specs.Glances.{Kept, LeafIn, Tells, endedOf}
 use Rattle.tree_glance.proofs.Leaves.{Found-best, Answering, Clear, visit-answered, leaf-falls-short, clear-reaches}
 use Rattle.tree_glance.proofs.Glancing.{Hides, Whole}
 

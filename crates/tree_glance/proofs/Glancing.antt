@@ -27,7 +27,8 @@ use Rattle.tree_walk.specs.Walks.{childrenOf, leafEntries}
 use Rattle.tree_walk.specs.Standing.{Stands}
 use Rattle.tree_walk.proofs.Rounds.{piled, piled-set, piled-top}
 use Rattle.tree_walk.proofs.Layouts.{Stack}
-use Rattle.tree_glance.specs.Glances.{treeBox, Nests, LeafIn}
+use Rattle.tree_trust.specs.Trust.{treeBox, Nests}
+use Rattle.tree_glance.specs.Glances.{LeafIn}
 use Rattle.tree_glance.proofs.Leaves.{Answering, Clear, Far}
 
 true≢false : {A : Type 0} → true ≡ false → A

@@ -27,7 +27,8 @@ use Rattle.tree_walk.specs.declared.Found.{Found}
 use Rattle.tree_walk.specs.declared.Found.the-variants.{Best, Refused}
 use Rattle.tree_walk.specs.Walks.{nearer, tried, onward, scan, backward, visit}
 use Rattle.tree_walk.proofs.Visits.{refused≢best, best-same, onward-found, scan-hit, visit-le}
-use Rattle.tree_glance.specs.Glances.{Shallow, treeBox, Nests, LeafIn}
+use Rattle.tree_trust.specs.Trust.{Shallow, treeBox, Nests}
+use Rattle.tree_glance.specs.Glances.{LeafIn}
 
 abbrev pub Found-best : Found → Type 0
 Found-best f = (b : Nearest) × (f ≡ Best b)

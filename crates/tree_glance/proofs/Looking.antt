@@ -31,7 +31,8 @@ use Rattle.tree_walk.specs.Walks.{childrenOf, leafEntries, walkRows}
 use Rattle.tree_walk.specs.Standing.{Stands}
 use Rattle.tree_walk.proofs.Rounds.{places-box}
 use Rattle.tree_glance.specs.declared.Glance.the-variants.{Hidden, Visible, Unsure}
-use Rattle.tree_glance.specs.Glances.{wholeTree, treeBox, Trusted, Kept, AllAnswer, Shorter, Tells, endedOf}
+use Rattle.tree_trust.specs.Trust.{wholeTree, treeBox, Trusted}
+use Rattle.tree_glance.specs.Glances.{Kept, AllAnswer, Shorter, Tells, endedOf}
 use Rattle.tree_glance.proofs.Leaves.{Answering, Clear}
 use Rattle.tree_glance.proofs.Glancing.{Hides, Done, failed-done, Part, Glancing, Fork, fork, tree-sound, there, leaf-answers, leaf-clear, leaf-in, glancing-start, glancing-end, answers-end, glancing-back, glancing-hidden, go-near, go-far, go-neither, go-both}
 use Rattle.tree_glance.proofs.Endings.{whole-tells, hides-tells, clear-tells, all-answering, kept-cover}
