@@ -84,6 +84,18 @@ pub fn aim(r: Ray) -> Beam
     Beam { ray: r, x, y, z }
 }
 
+// Whether the bounds on every axis are sure.
+pub fn sure(b: Beam) -> bool
+    ensures { λ r. ⌜ (r ≡ true → (b .x .sure ≡ true) × (b .y .sure ≡ true) × (b .z .sure ≡ true)) ⌝ }
+{
+    if b.x.sure {
+        if b.y.sure {
+            return b.z.sure;
+        }
+    }
+    false
+}
+
 // One of two numbers: the greater, if neither is a NaN. Nothing rests on which.
 fn greater(a: f64, b: f64) -> f64
     ensures { λ r. ⌜ (r ≡ a) ⊎ (r ≡ b) ⌝ }

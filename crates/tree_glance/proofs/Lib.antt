@@ -3,3 +3,4 @@ pub mod Glancing
 pub mod Spots
 pub mod Endings
 pub mod Looking
+pub mod Sighting

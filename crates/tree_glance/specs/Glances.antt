@@ -27,6 +27,8 @@ use Rattle.tree_walk.specs.Standing.{Stands}
 use Rattle.tree_walk.specs.declared.Nearest.{Nearest}
 use Rattle.tree_walk.specs.declared.Found.{Found}
 use Rattle.tree_walk.specs.declared.Found.the-variants.{Best}
+use Rattle.tree_sight.specs.declared.Sight.{Sight}
+use Rattle.tree_sight.specs.declared.Sight.the-variants.{Visible as Seen, Hidden as NotSeen}
 use Rattle.tree_glance.specs.declared.Glance.{Glance}
 use Rattle.tree_glance.specs.declared.Glance.the-variants.{Hidden, Visible, Unsure}
 use Rattle.tree_glance.specs.declared.Spotted.{Spotted}
@@ -88,6 +90,14 @@ pub record Shorter (hit : ℕ → Struck) (r : Ray) (distance : Float) (calm : B
   pub place : getD cover 0 0 ≡ i
   pub wide : length cover ≡ 2
 
+-- the leaf and the entry that are kept hide the ray's origin
+pub record Covering (hit : ℕ → Struck) (r : Ray) (distance : Float) (boxes : List Float) (cover : List ℕ) : Type 0 where
+  pub held : getD cover 0 0 ≡ noPlace → ⊥
+  pub entered : EnteredBefore boxes (getD cover 0 0) r distance
+  pub own : Hit
+  pub returned : hit (getD cover 1 0) ≡ At own
+  pub short : T (lt (own .t) distance)
+
 abbrev pub LeafTold : (ℕ → Struck) → Ray → Float → Bool → List Float → ℕ → List ℕ → List ℕ → List ℕ → Glance → Type 0
 LeafTold hit r distance calm boxes i is cover cover′ Hidden = Shorter hit r distance calm boxes i is cover′
 LeafTold hit r distance calm boxes i is cover cover′ Visible = (cover′ ≡ cover) × ((s : ℕ) → Member s is → (h : Hit) × (hit s ≡ At h) × T (not (lt (h .t) distance)))
@@ -101,3 +111,9 @@ Tells Unsure f distance = Unit
 
 unfoldable pub endedOf : Bool → Glance
 endedOf hid = cond hid Hidden Visible
+
+-- what a glance says of the eye test
+abbrev pub SeenAs : Glance → Sight → Type 0
+SeenAs Hidden s = s ≡ NotSeen
+SeenAs Visible s = s ≡ Seen
+SeenAs Unsure s = Unit

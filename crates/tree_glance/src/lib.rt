@@ -1,6 +1,7 @@
 // The eye test by a glance: a walk that leaves out what cannot change its answer. It tells a box that the ray misses by products, stops at the first solid that falls short where no refusal
 // can follow, and tries the solid that hid the last point first. Where it is not sure, the full walk answers.
 ghost use mathlib.Core.Path.{_≡_};
+ghost use mathlib.Core.Logic.{_⊎_};
 ghost use mathlib.Core.Bool.{true, false};
 ghost use mathlib.Core.List.{[]};
 ghost use Prim.Native.Nat.{_+_, _*_, _≤_, _<_};
@@ -9,15 +10,18 @@ ghost use lib.Dec.{T};
 ghost use lib.Ieee.{le};
 ghost use Rattle.floats.specs.Arith.{INF};
 ghost use Rattle.geometry.specs.Limits.{Within};
+ghost use Rattle.geometry.specs.declared.ray.Ray.{Ray};
 ghost use Rattle.tree_beams.specs.Beams.{Aimed};
 ghost use Rattle.tree_walk.specs.Walks.{entryHit, walkRows};
 ghost use Rattle.tree_glance.specs.Glances as Glances;
 ghost use Rattle.tree_trust.specs.Trust.{Trusted, Uncut};
-ghost use Rattle.tree_glance.specs.Glances.{Kept, LeafTold, Tells};
+ghost use Rattle.tree_sight.specs.Sights.{sees};
+ghost use Rattle.tree_glance.specs.Glances.{noPlace, Kept, Covering, LeafTold, Tells, SeenAs};
 use geometry::ray::Ray;
-use rows::Triple;
+use geometry::vector::Vector;
 use scene_shape::Struck;
 use tree_beams::Beam;
+use tree_sight::Sight;
 
 // What a glance says of a point.
 pub enum Glance {
@@ -257,4 +261,153 @@ pub fn look(
         i = c.near;
     }
     Glance::Unsure
+}
+
+// Whether what hid the last point hides this one too.
+fn covered(
+    numbers: &[f64],
+    inverses: &[f64],
+    marks: &[u32],
+    boxes: &[f64],
+    r: Ray,
+    distance: f64,
+    cover: &[usize],
+) -> bool
+    requires { ⌜ (length (now cover) ≡ 2) × ((getD (now cover) 0 0 ≡ noPlace) ⊎ (getD (now cover) 0 0 * 6 + 6 ≤ length (now boxes))) ⌝ }
+    ensures { λ s. ⌜ (s ≡ true → Covering (entryHit (now (numbers .entry)) (now (inverses .entry)) (now (marks .entry)) r) r distance (now (boxes .entry)) (now (cover .entry))) ⌝ }
+{
+    let place = cover[0];
+    if place == 0xffffffff {
+        return false;
+    }
+    let a = tree_walk::entry_hit(numbers, inverses, marks, r, cover[1]);
+    match a {
+        Struck::Refused(_) => false,
+        Struck::At(h) => {
+            if h.t < distance {
+                return enters(boxes, place, r, distance);
+            }
+            false
+        }
+    }
+}
+
+// The eye test by a glance, on a tree that is to be trusted. A point that is seen forgets what hid the one before it: the next is likely to be seen too.
+fn glimpse(
+    numbers: &[f64],
+    inverses: &[f64],
+    marks: &[u32],
+    node_boxes: &[f64],
+    node_marks: &[u32],
+    order: &[u32],
+    eye: Vector,
+    point: Vector,
+    calm: bool,
+    cover: &mut [usize],
+    stack: &mut [usize],
+) -> Glance
+    requires { ⌜ Trusted (now «node_boxes») (now «node_marks») (now order) × (calm ≡ true → Uncut (now numbers) (now inverses) (now marks)) × Within eye × Within point × Kept (now «node_boxes») (now «node_marks») (now order) (now cover) (now stack) ⌝ }
+    ensures { λ a. ⌜ SeenAs a (sees (λ (r : Ray). walkRows (entryHit (now (numbers .entry)) (now (inverses .entry)) (now (marks .entry)) r) r (now («node_boxes» .entry)) (now («node_marks» .entry)) (now (order .entry))) eye point) × Kept (now («node_boxes» .entry)) (now («node_marks» .entry)) (now (order .entry)) (now (cover .exit)) (now (stack .exit)) ⌝ }
+{
+    let v = eye.sub(point);
+    let distance = v.norm();
+    if distance == 0.0 {
+        return Glance::Visible;
+    }
+    let r = Ray::new(point, v.div_scalar(distance));
+    let b = tree_beams::aim(r);
+    if !tree_beams::sure(b) {
+        return Glance::Unsure;
+    }
+    if calm {
+        if covered(numbers, inverses, marks, node_boxes, r, distance, cover) {
+            return Glance::Hidden;
+        }
+    }
+    let g = look(
+        numbers,
+        inverses,
+        marks,
+        node_boxes,
+        node_marks,
+        order,
+        b,
+        distance,
+        calm,
+        cover,
+        stack,
+    );
+    match g {
+        Glance::Unsure => Glance::Unsure,
+        Glance::Hidden => Glance::Hidden,
+        Glance::Visible => {
+            cover[0] = 0xffffffff;
+            Glance::Visible
+        }
+    }
+}
+
+// The eye test: by a glance where the tree is to be trusted, else and where that is not sure by the full walk.
+pub fn sight(
+    numbers: &[f64],
+    inverses: &[f64],
+    marks: &[u32],
+    node_boxes: &[f64],
+    node_marks: &[u32],
+    order: &[u32],
+    eye: Vector,
+    point: Vector,
+    trusted: bool,
+    calm: bool,
+    cover: &mut [usize],
+    stack: &mut [usize],
+) -> Sight
+    requires { ⌜ (trusted ≡ true → Trusted (now «node_boxes») (now «node_marks») (now order) × Within eye × Within point) × (calm ≡ true → Uncut (now numbers) (now inverses) (now marks)) × Kept (now «node_boxes») (now «node_marks») (now order) (now cover) (now stack) ⌝ }
+    ensures { λ s. ⌜ (s ≡ sees (λ (r : Ray). walkRows (entryHit (now (numbers .entry)) (now (inverses .entry)) (now (marks .entry)) r) r (now («node_boxes» .entry)) (now («node_marks» .entry)) (now (order .entry))) eye point) × Kept (now («node_boxes» .entry)) (now («node_marks» .entry)) (now (order .entry)) (now (cover .exit)) (now (stack .exit)) ⌝ }
+{
+    if trusted {
+        let g = glimpse(
+            numbers,
+            inverses,
+            marks,
+            node_boxes,
+            node_marks,
+            order,
+            eye,
+            point,
+            calm,
+            cover,
+            stack,
+        );
+        match g {
+            Glance::Hidden => {
+                return Sight::Hidden;
+            }
+            Glance::Visible => {
+                return Sight::Visible;
+            }
+            Glance::Unsure => {
+                return tree_sight::visible(
+                    numbers,
+                    inverses,
+                    marks,
+                    node_boxes,
+                    node_marks,
+                    order,
+                    eye,
+                    point,
+                );
+            }
+        }
+    }
+    tree_sight::visible(
+        numbers,
+        inverses,
+        marks,
+        node_boxes,
+        node_marks,
+        order,
+        eye,
+        point,
+    )
 }
