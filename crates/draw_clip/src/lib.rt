@@ -1,12 +1,16 @@
 // The filter of a draw (filter.rs, and its loops of path.rs): the clip box, and then the eye test.
 ghost use mathlib.Core.Path.{_≡_};
-ghost use Prim.Native.Nat.{_*_, _≤_, _<_};
+ghost use mathlib.Core.Bool.{true};
+ghost use mathlib.Core.List.{List};
+ghost use Prim.Native.Nat.{ℕ, _*_, _≤_, _<_};
 ghost use lib.ListN.{length};
 ghost use lib.Seq.{slice};
 ghost use Rattle.draw_memory.specs.Memory.{Remembered};
 ghost use Rattle.paths.specs.Ends.{places, allPoints, held, EndsBoth};
 ghost use Rattle.path_filter.specs.Filter.{filteredFrom, pathFilter};
-ghost use Rattle.draw_clip.specs.Clip.{bySight, clipFilter, clipPaths, seenFrom};
+ghost use Rattle.tree_trust.specs.Trust.{Trusted};
+ghost use Rattle.geometry.specs.Limits.{Within};
+ghost use Rattle.draw_clip.specs.Clip.{bySight, clipFilter, clipPaths, seenFrom, Ready};
 use geometry::bounding_box::BBox;
 use geometry::vector::Vector;
 use matrix::Matrix;
@@ -60,6 +64,59 @@ pub fn clip_filter(
     by_sight(w, s)
 }
 
+// Whether the tree and the eye are such that the eye test may leave something out.
+fn trusts(eye: Vector, node_boxes: &[f64], node_marks: &[u32]) -> bool
+    ensures { λ r. ⌜ (r ≡ true → (order : List ℕ) → Trusted (now («node_boxes» .entry)) (now («node_marks» .entry)) order × Within eye) ⌝ }
+{
+    if tree_trust::trusted(node_boxes, node_marks) {
+        return limits::within_point(eye);
+    }
+    false
+}
+
+// The same as `clip_filter`, with the eye test by a glance.
+fn quick_filter(
+    matrix: Matrix,
+    eye: Vector,
+    numbers: &[f64],
+    inverses: &[f64],
+    marks: &[u32],
+    node_boxes: &[f64],
+    node_marks: &[u32],
+    order: &[u32],
+    v: Vector,
+    trusted: bool,
+    calm: bool,
+    cover: &mut [usize],
+    stack: &mut [usize],
+) -> Test
+    requires { ⌜ Ready (now numbers) (now inverses) (now marks) (now «node_boxes») (now «node_marks») (now order) eye trusted calm (now cover) (now stack) ⌝ }
+    ensures { λ r. ⌜ (r ≡ clipFilter matrix (seenFrom (now (numbers .entry)) (now (inverses .entry)) (now (marks .entry)) (now («node_boxes» .entry)) (now («node_marks» .entry)) (now (order .entry)) eye) v) × Ready (now (numbers .entry)) (now (inverses .entry)) (now (marks .entry)) (now («node_boxes» .entry)) (now («node_marks» .entry)) (now (order .entry)) eye trusted calm (now (cover .exit)) (now (stack .exit)) ⌝ }
+{
+    let w = matrix.mul_position_w(v);
+    if !BBox::clips(w) {
+        return Test::Drop;
+    }
+    if !limits::within_point(v) {
+        return Test::Refused(Refusal::Point);
+    }
+    let s = tree_glance::sight(
+        numbers,
+        inverses,
+        marks,
+        node_boxes,
+        node_marks,
+        order,
+        eye,
+        v,
+        trusted,
+        calm,
+        cover,
+        stack,
+    );
+    by_sight(w, s)
+}
+
 // The filter at an end of a path: many ends are those of other paths too.
 fn end_filter(
     matrix: Matrix,
@@ -73,9 +130,13 @@ fn end_filter(
     v: Vector,
     ends: &mut [f64],
     known: &mut [u32],
+    trusted: bool,
+    calm: bool,
+    cover: &mut [usize],
+    stack: &mut [usize],
 ) -> Test
-    requires { ⌜ Remembered (clipFilter matrix (seenFrom (now numbers) (now inverses) (now marks) (now «node_boxes») (now «node_marks») (now order) eye)) (now ends) (now known) ⌝ }
-    ensures { λ r. ⌜ (r ≡ clipFilter matrix (seenFrom (now (numbers .entry)) (now (inverses .entry)) (now (marks .entry)) (now («node_boxes» .entry)) (now («node_marks» .entry)) (now (order .entry)) eye) v) × Remembered (clipFilter matrix (seenFrom (now (numbers .entry)) (now (inverses .entry)) (now (marks .entry)) (now («node_boxes» .entry)) (now («node_marks» .entry)) (now (order .entry)) eye)) (now (ends .exit)) (now (known .exit)) ⌝ }
+    requires { ⌜ Remembered (clipFilter matrix (seenFrom (now numbers) (now inverses) (now marks) (now «node_boxes») (now «node_marks») (now order) eye)) (now ends) (now known) × Ready (now numbers) (now inverses) (now marks) (now «node_boxes») (now «node_marks») (now order) eye trusted calm (now cover) (now stack) ⌝ }
+    ensures { λ r. ⌜ (r ≡ clipFilter matrix (seenFrom (now (numbers .entry)) (now (inverses .entry)) (now (marks .entry)) (now («node_boxes» .entry)) (now («node_marks» .entry)) (now (order .entry)) eye) v) × Remembered (clipFilter matrix (seenFrom (now (numbers .entry)) (now (inverses .entry)) (now (marks .entry)) (now («node_boxes» .entry)) (now («node_marks» .entry)) (now (order .entry)) eye)) (now (ends .exit)) (now (known .exit)) × Ready (now (numbers .entry)) (now (inverses .entry)) (now (marks .entry)) (now («node_boxes» .entry)) (now («node_marks» .entry)) (now (order .entry)) eye trusted calm (now (cover .exit)) (now (stack .exit)) ⌝ }
 {
     let c = draw_memory::recall(ends, known, v);
     if c == 0 {
@@ -84,7 +145,7 @@ fn end_filter(
     if c == 1 {
         return Test::Keep(matrix.mul_position_w(v));
     }
-    let t = clip_filter(
+    let t = quick_filter(
         matrix,
         eye,
         numbers,
@@ -94,6 +155,10 @@ fn end_filter(
         node_marks,
         order,
         v,
+        trusted,
+        calm,
+        cover,
+        stack,
     );
     draw_memory::remember(ends, known, v, draw_memory::outcome(t));
     t
@@ -112,12 +177,16 @@ fn point_filter(
     inner: bool,
     ends: &mut [f64],
     known: &mut [u32],
+    trusted: bool,
+    calm: bool,
+    cover: &mut [usize],
+    stack: &mut [usize],
 ) -> Test
-    requires { ⌜ Remembered (clipFilter matrix (seenFrom (now numbers) (now inverses) (now marks) (now «node_boxes») (now «node_marks») (now order) eye)) (now ends) (now known) ⌝ }
-    ensures { λ r. ⌜ (r ≡ clipFilter matrix (seenFrom (now (numbers .entry)) (now (inverses .entry)) (now (marks .entry)) (now («node_boxes» .entry)) (now («node_marks» .entry)) (now (order .entry)) eye) v) × Remembered (clipFilter matrix (seenFrom (now (numbers .entry)) (now (inverses .entry)) (now (marks .entry)) (now («node_boxes» .entry)) (now («node_marks» .entry)) (now (order .entry)) eye)) (now (ends .exit)) (now (known .exit)) ⌝ }
+    requires { ⌜ Remembered (clipFilter matrix (seenFrom (now numbers) (now inverses) (now marks) (now «node_boxes») (now «node_marks») (now order) eye)) (now ends) (now known) × Ready (now numbers) (now inverses) (now marks) (now «node_boxes») (now «node_marks») (now order) eye trusted calm (now cover) (now stack) ⌝ }
+    ensures { λ r. ⌜ (r ≡ clipFilter matrix (seenFrom (now (numbers .entry)) (now (inverses .entry)) (now (marks .entry)) (now («node_boxes» .entry)) (now («node_marks» .entry)) (now (order .entry)) eye) v) × Remembered (clipFilter matrix (seenFrom (now (numbers .entry)) (now (inverses .entry)) (now (marks .entry)) (now («node_boxes» .entry)) (now («node_marks» .entry)) (now (order .entry)) eye)) (now (ends .exit)) (now (known .exit)) × Ready (now (numbers .entry)) (now (inverses .entry)) (now (marks .entry)) (now («node_boxes» .entry)) (now («node_marks» .entry)) (now (order .entry)) eye trusted calm (now (cover .exit)) (now (stack .exit)) ⌝ }
 {
     if inner {
-        return clip_filter(
+        return quick_filter(
             matrix,
             eye,
             numbers,
@@ -127,6 +196,10 @@ fn point_filter(
             node_marks,
             order,
             v,
+            trusted,
+            calm,
+            cover,
+            stack,
         );
     }
     end_filter(
@@ -141,6 +214,10 @@ fn point_filter(
         v,
         ends,
         known,
+        trusted,
+        calm,
+        cover,
+        stack,
     )
 }
 
@@ -173,9 +250,13 @@ fn filter_from(
     begins: &mut [usize],
     n: usize,
     m: usize,
+    trusted: bool,
+    calm: bool,
+    cover: &mut [usize],
+    stack: &mut [usize],
 ) -> Counts
-    requires { ⌜ (from ≤ end) × (end * 3 ≤ length (now path)) × (n * 3 ≤ length (now out)) × (m ≤ length (now begins)) × Remembered (clipFilter matrix (seenFrom (now numbers) (now inverses) (now marks) (now «node_boxes») (now «node_marks») (now order) eye)) (now ends) (now known) ⌝ }
-    ensures { λ r. ⌜ (EndsBoth (filteredFrom (clipFilter matrix (seenFrom (now (numbers .entry)) (now (inverses .entry)) (now (marks .entry)) (now («node_boxes» .entry)) (now («node_marks» .entry)) (now (order .entry)) eye)) (places (now (out .entry))) (length (now (begins .entry))) (slice from end (allPoints (now (path .entry)))) (held n (now (out .entry)) m (now (begins .entry)))) (now (out .exit)) (now (begins .exit)) r) × Remembered (clipFilter matrix (seenFrom (now (numbers .entry)) (now (inverses .entry)) (now (marks .entry)) (now («node_boxes» .entry)) (now («node_marks» .entry)) (now (order .entry)) eye)) (now (ends .exit)) (now (known .exit)) ⌝ }
+    requires { ⌜ (from ≤ end) × (end * 3 ≤ length (now path)) × (n * 3 ≤ length (now out)) × (m ≤ length (now begins)) × Remembered (clipFilter matrix (seenFrom (now numbers) (now inverses) (now marks) (now «node_boxes») (now «node_marks») (now order) eye)) (now ends) (now known) × Ready (now numbers) (now inverses) (now marks) (now «node_boxes») (now «node_marks») (now order) eye trusted calm (now cover) (now stack) ⌝ }
+    ensures { λ r. ⌜ (EndsBoth (filteredFrom (clipFilter matrix (seenFrom (now (numbers .entry)) (now (inverses .entry)) (now (marks .entry)) (now («node_boxes» .entry)) (now («node_marks» .entry)) (now (order .entry)) eye)) (places (now (out .entry))) (length (now (begins .entry))) (slice from end (allPoints (now (path .entry)))) (held n (now (out .entry)) m (now (begins .entry)))) (now (out .exit)) (now (begins .exit)) r) × Remembered (clipFilter matrix (seenFrom (now (numbers .entry)) (now (inverses .entry)) (now (marks .entry)) (now («node_boxes» .entry)) (now («node_marks» .entry)) (now (order .entry)) eye)) (now (ends .exit)) (now (known .exit)) × Ready (now (numbers .entry)) (now (inverses .entry)) (now (marks .entry)) (now («node_boxes» .entry)) (now («node_marks» .entry)) (now (order .entry)) eye trusted calm (now (cover .exit)) (now (stack .exit)) ⌝ }
 {
     let mut i = from;
     let mut a = n;
@@ -195,6 +276,10 @@ fn filter_from(
             is_inner(from, i, end),
             ends,
             known,
+            trusted,
+            calm,
+            cover,
+            stack,
         );
         let r = path_filter::step(t, out, begins, a, b);
         match r {
@@ -228,9 +313,13 @@ fn path_filter(
     begins: &mut [usize],
     n: usize,
     m: usize,
+    trusted: bool,
+    calm: bool,
+    cover: &mut [usize],
+    stack: &mut [usize],
 ) -> Counts
-    requires { ⌜ (from ≤ end) × (end * 3 ≤ length (now path)) × (n * 3 ≤ length (now out)) × (m ≤ length (now begins)) × Remembered (clipFilter matrix (seenFrom (now numbers) (now inverses) (now marks) (now «node_boxes») (now «node_marks») (now order) eye)) (now ends) (now known) ⌝ }
-    ensures { λ r. ⌜ (EndsBoth (pathFilter (clipFilter matrix (seenFrom (now (numbers .entry)) (now (inverses .entry)) (now (marks .entry)) (now («node_boxes» .entry)) (now («node_marks» .entry)) (now (order .entry)) eye)) (places (now (out .entry))) (length (now (begins .entry))) (slice from end (allPoints (now (path .entry)))) (held n (now (out .entry)) m (now (begins .entry)))) (now (out .exit)) (now (begins .exit)) r) × Remembered (clipFilter matrix (seenFrom (now (numbers .entry)) (now (inverses .entry)) (now (marks .entry)) (now («node_boxes» .entry)) (now («node_marks» .entry)) (now (order .entry)) eye)) (now (ends .exit)) (now (known .exit)) ⌝ }
+    requires { ⌜ (from ≤ end) × (end * 3 ≤ length (now path)) × (n * 3 ≤ length (now out)) × (m ≤ length (now begins)) × Remembered (clipFilter matrix (seenFrom (now numbers) (now inverses) (now marks) (now «node_boxes») (now «node_marks») (now order) eye)) (now ends) (now known) × Ready (now numbers) (now inverses) (now marks) (now «node_boxes») (now «node_marks») (now order) eye trusted calm (now cover) (now stack) ⌝ }
+    ensures { λ r. ⌜ (EndsBoth (pathFilter (clipFilter matrix (seenFrom (now (numbers .entry)) (now (inverses .entry)) (now (marks .entry)) (now («node_boxes» .entry)) (now («node_marks» .entry)) (now (order .entry)) eye)) (places (now (out .entry))) (length (now (begins .entry))) (slice from end (allPoints (now (path .entry)))) (held n (now (out .entry)) m (now (begins .entry)))) (now (out .exit)) (now (begins .exit)) r) × Remembered (clipFilter matrix (seenFrom (now (numbers .entry)) (now (inverses .entry)) (now (marks .entry)) (now («node_boxes» .entry)) (now («node_marks» .entry)) (now (order .entry)) eye)) (now (ends .exit)) (now (known .exit)) × Ready (now (numbers .entry)) (now (inverses .entry)) (now (marks .entry)) (now («node_boxes» .entry)) (now («node_marks» .entry)) (now (order .entry)) eye trusted calm (now (cover .exit)) (now (stack .exit)) ⌝ }
 {
     let o = paths::new_path(begins, m, n);
     match o {
@@ -254,6 +343,10 @@ fn path_filter(
                 begins,
                 n,
                 q,
+                trusted,
+                calm,
+                cover,
+                stack,
             );
             match r {
                 Counts::Refused(k) => Counts::Refused(k),
@@ -286,6 +379,10 @@ pub fn filter_paths(
     let total = path.len() / 3;
     let mut ends = [0.0; 24];
     let mut known = [2u32; 9];
+    let trusted = trusts(eye, node_boxes, node_marks);
+    let calm = tree_trust::uncut(marks);
+    let mut cover = [0xffffffffusize; 2];
+    let mut stack = [0usize; 64];
     let mut n = 0;
     let mut m = 0;
     let mut i = 0;
@@ -309,6 +406,10 @@ pub fn filter_paths(
             begins,
             n,
             m,
+            trusted,
+            calm,
+            &mut cover,
+            &mut stack,
         );
         match r {
             Counts::Refused(k) => return Counts::Refused(k),

@@ -4,14 +4,15 @@ use mathlib.Core.Logic.{inl, inr}
 use Prim.Native.Nat.{ℕ, zero, suc, _+_, _-_, _*_, _^_, _≤_, _<_}
 use native.Mathlib.Nat.{mul-le-mul-right, mul-pos, mul-comm}
 use native.Mathlib.Omega.{arith}
-use mathlib.Core.Bool.{Bool, true, false}
-use lib.Dec.{T, not-T}
+use mathlib.Core.Bool.{Bool, true, false, cond}
+use lib.IntN.{ℤ}
+use lib.Dec.{T, not-T, eqb}
 use lib.Ieee.{Float, nan, inf, fin, binary64, up, down, round, neg, mul, div, eq, lt, le, ofBits}
 use lib.Ieee.Order.{round-mono}
 use lib.Ieee.Scale.{finite}
 use lib.Ieee.Positive.{num, den, den-pos, positive}
-use Rattle.floats.specs.Arith.{_⊗_, _⊘_, zeroF, oneF, twoF}
-use Rattle.floats.proofs.Order.{plus, less, le-or-lt, le-not-gt, le-trans, le→cross, lt→le, eq→le, finite-between}
+use Rattle.floats.specs.Arith.{_⊗_, _⊘_, zeroF, oneF}
+use Rattle.floats.proofs.Order.{plus, less, le-or-lt, le-not-gt, le-trans, le→cross, lt→le, eq→le, finite-between, cross→le, le-bot, le-top, lt-number-l, lt-number-r}
 use Rattle.floats.proofs.Rounding.{Rounded, rounded-mono, round-zero, div-rounded, num-pos}
 use Rattle.floats.proofs.Nonneg.{unsigned, positive-of}
 use Rattle.tree_behind.proofs.Rejects.{is-zero}
@@ -155,13 +156,49 @@ between x top f h k =
     positive-of x (finite-between zeroF x top tt f (lt→le zeroF x (told h)) (lt→le x top (told k))) (lt→le zeroF x (told h))
     (not-T (eq x zeroF) (λ (e : T (eq x zeroF)). le-not-gt x zeroF (eq→le x zeroF e) (told h)))
 
-pub shows : (d low high top : Float) → T (finite top) → lt zeroF d ≡ true → lt d twoF ≡ true → lt zeroF low ≡ true → lt low top ≡ true → lt zeroF high ≡ true → lt high top ≡ true
-    → lt (low ⊗ d) oneF ≡ true → lt oneF (high ⊗ d) ≡ true → Shown d low high
+-- ---- two numbers above 0 whose product is below 1 are finite
+not-negative : {A : Type 0} (m : ℕ) (e : ℤ) → T (lt zeroF (fin true m e)) → A
 unfolding ofBits
-shows d low high top f a b c e g h i j = record {
-  ahead = between d twoF tt a b;
-  low-positive = between low top f c e;
-  high-positive = between high top f g h;
-  below = told i;
-  above = told j;
-}
+not-negative m e h = absurd (le-not-gt (fin true m e) zeroF (cross→le (fin true m e) zeroF tt tt (omega arith)) h)
+
+not-below : {A : Type 0} → T (lt zeroF (inf true)) → A
+unfolding ofBits
+not-below h = absurd (le-not-gt (inf true) zeroF (le-bot zeroF tt) h)
+
+not-nan : {A : Type 0} → T (lt zeroF nan) → A
+not-nan h = absurd (lt-number-r zeroF nan h)
+
+over-one : {A : Type 0} (b : Bool) → T (lt (cond b nan (inf false)) oneF) → A
+unfolding ofBits
+over-one true h = absurd (lt-number-l nan oneF h)
+over-one false h = absurd (le-not-gt oneF (inf false) (le-top oneF tt) h)
+
+both-finite : (x y : Float) → T (lt zeroF x) → T (lt zeroF y) → T (lt (x ⊗ y) oneF) → T (finite x) × T (finite y)
+unfolding mul
+both-finite nan y h k l = not-nan h
+both-finite (inf true) y h k l = not-below h
+both-finite (inf false) nan h k l = not-nan k
+both-finite (inf false) (inf true) h k l = not-below k
+both-finite (inf false) (inf false) h k l = over-one false l
+both-finite (inf false) (fin true n d) h k l = not-negative n d k
+both-finite (inf false) (fin false n d) h k l = over-one (eqb n 0) l
+both-finite (fin true m e) y h k l = not-negative m e h
+both-finite (fin false m e) nan h k l = not-nan k
+both-finite (fin false m e) (inf true) h k l = not-below k
+both-finite (fin false m e) (inf false) h k l = over-one (eqb m 0) l
+both-finite (fin false m e) (fin s n d) h k l = (tt, tt)
+
+above-zero : (x : Float) → T (finite x) → T (lt zeroF x) → T (positive x)
+unfolding ofBits
+above-zero x f h = positive-of x f (lt→le zeroF x h) (not-T (eq x zeroF) (λ (e : T (eq x zeroF)). le-not-gt x zeroF (eq→le x zeroF e) h))
+
+pub shows : (d low high top : Float) → T (finite top) → lt zeroF d ≡ true → lt zeroF low ≡ true → lt (low ⊗ d) oneF ≡ true → lt zeroF high ≡ true → lt high top ≡ true → lt oneF (high ⊗ d) ≡ true → Shown d low high
+shows d low high top f a c i g h j =
+    let z = both-finite low d (told c) (told a) (told i) in
+    record {
+      ahead = above-zero d (z .1) (told a);
+      low-positive = above-zero low (z .0) (told c);
+      high-positive = between high top f g h;
+      below = told i;
+      above = told j;
+    }

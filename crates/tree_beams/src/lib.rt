@@ -35,15 +35,11 @@ fn shown(d: f64, low: f64, high: f64) -> bool
     ensures { λ r. ⌜ (r ≡ true → Shown d low high) ⌝ }
 {
     if 0.0 < d {
-        if d < 2.0 {
-            if 0.0 < low {
-                if low < 1e18 {
-                    if 0.0 < high {
-                        if high < 1e18 {
-                            if low * d < 1.0 {
-                                return 1.0 < high * d;
-                            }
-                        }
+        if 0.0 < low {
+            if low * d < 1.0 {
+                if 0.0 < high {
+                    if high < 1e18 {
+                        return 1.0 < high * d;
                     }
                 }
             }

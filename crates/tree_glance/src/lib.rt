@@ -75,7 +75,14 @@ fn spot(
             return found;
         }
         let i = order[at];
-        let a = tree_walk::entry_hit(numbers, inverses, marks, r, rows::index(i));
+        let a = tree_walk::hit_from(
+            numbers,
+            inverses,
+            marks,
+            r.origin,
+            r.direction,
+            rows::index(i),
+        );
         let s = judged(i, a, distance, found);
         match s {
             Spotted::Unknown => return Spotted::Unknown,
@@ -280,7 +287,7 @@ fn covered(
     if place == 0xffffffff {
         return false;
     }
-    let a = tree_walk::entry_hit(numbers, inverses, marks, r, cover[1]);
+    let a = tree_walk::hit_from(numbers, inverses, marks, r.origin, r.direction, cover[1]);
     match a {
         Struck::Refused(_) => false,
         Struck::At(h) => {

@@ -5,12 +5,14 @@ ghost use Prim.Native.Nat.{_+_, _*_, _≤_, _<_};
 ghost use lib.ListN.{length, take, drop};
 ghost use lib.Dec.{eqb, ltb};
 ghost use Rattle.geometry.specs.Boxes.{boxTest, skips};
+ghost use Rattle.geometry.specs.Rays.{rayOf};
 ghost use Rattle.rows.specs.Rows.{row};
 ghost use Rattle.rows.specs.Points.{boxOfRow};
 ghost use Rattle.tree_walk.specs.Walks as Walks;
 use geometry::bounding_box::BBox;
 use geometry::hit::Hit;
 use geometry::ray::Ray;
+use geometry::vector::Vector;
 use refusals::Refusal;
 use scene_plain::Plain;
 use scene_shape::Struck;
@@ -46,16 +48,29 @@ pub fn nothing() -> Nearest
     }
 }
 
-// The hit that the solid at entry i gives the ray by itself: a plain one, as most are, without an entry made of its
-// row.
+// The hit that the solid at entry i gives the ray from o along d by itself: a plain one, as most are, without an entry
+// made of its row. The ray goes as two vectors: as one value it would go through memory.
+pub fn hit_from(
+    numbers: &[f64],
+    inverses: &[f64],
+    marks: &[u32],
+    o: Vector,
+    d: Vector,
+    i: usize,
+) -> Struck
+    ensures { λ h. ⌜ h ≡ Walks.entryHit (now (numbers .entry)) (now (inverses .entry)) (now (marks .entry)) (rayOf o d) i ⌝ }
+{
+    let a = scene_plain::plain_hit(numbers, inverses, marks, i, o, d);
+    match a {
+        Plain::At(h) => Struck::At(h),
+        Plain::Other => scene_shape::entry_hit(numbers, inverses, marks, i, Ray::new(o, d), 8),
+    }
+}
+
 pub fn entry_hit(numbers: &[f64], inverses: &[f64], marks: &[u32], r: Ray, i: usize) -> Struck
     ensures { λ h. ⌜ h ≡ Walks.entryHit (now (numbers .entry)) (now (inverses .entry)) (now (marks .entry)) r i ⌝ }
 {
-    let a = scene_plain::plain_hit(numbers, inverses, marks, i, r.origin, r.direction);
-    match a {
-        Plain::At(h) => Struck::At(h),
-        Plain::Other => scene_shape::entry_hit(numbers, inverses, marks, i, r, 8),
-    }
+    hit_from(numbers, inverses, marks, r.origin, r.direction, i)
 }
 
 pub fn nearer(i: u32, h: Hit, best: Nearest) -> Nearest

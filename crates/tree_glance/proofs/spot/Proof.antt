@@ -21,16 +21,16 @@ returns : tie.Need-returns Inv-loop μ-loop
 returns c = spotting-gone _ _ _ _ _ _ _ _ (c .before .before .loop .inv .0) (omega (arith, c .before .before .loop .inv .1, c .if1 .taken))
 
 returns-2 : tie.Need-returns-2 Inv-loop μ-loop
-returns-2 c = spotting-unknown _ _ _ _ _ _ _ _ (c .before .before .before .before .before .before .before .before .loop .inv .0) (c .before .before .before .before .before .before .before .loop-test .taken) (omega (arith, c .before .before .before .before .before .before .before .before .loop .inv .1, c .before .before .before .before .before .before .if1 .left)) _ _ _ _ refl (c .before .before .before .before .index .ensures .0) (c .before .before .before .entry-hit .ensures) (c .before .before .judged .ensures) (c .enum-told .given .1)
+returns-2 c = spotting-unknown _ _ _ _ _ _ _ _ (c .before .before .before .before .before .before .before .before .loop .inv .0) (c .before .before .before .before .before .before .before .loop-test .taken) (omega (arith, c .before .before .before .before .before .before .before .before .loop .inv .1, c .before .before .before .before .before .before .if1 .left)) _ _ _ _ refl (c .before .before .before .before .index .ensures .0) (c .before .before .before .hit-from .ensures) (c .before .before .judged .ensures) (c .enum-told .given .1)
 
 returns-3 : tie.Need-returns-3 Inv-loop μ-loop
-returns-3 c = spotting-short _ _ _ _ _ _ _ _ (c .before .before .before .before .before .before .before .before .before .before .loop .inv .0) (c .before .before .before .before .before .before .before .before .before .loop-test .taken) (omega (arith, c .before .before .before .before .before .before .before .before .before .before .loop .inv .1, c .before .before .before .before .before .before .before .before .if1 .left)) _ _ _ _ refl (c .before .before .before .before .before .before .index .ensures .0) (c .before .before .before .before .before .entry-hit .ensures) (c .before .before .before .before .judged .ensures) _ (c .before .before .s .given .1) (c .if2 .taken)
+returns-3 c = spotting-short _ _ _ _ _ _ _ _ (c .before .before .before .before .before .before .before .before .before .before .loop .inv .0) (c .before .before .before .before .before .before .before .before .before .loop-test .taken) (omega (arith, c .before .before .before .before .before .before .before .before .before .before .loop .inv .1, c .before .before .before .before .before .before .before .before .if1 .left)) _ _ _ _ refl (c .before .before .before .before .before .before .index .ensures .0) (c .before .before .before .before .before .hit-from .ensures) (c .before .before .before .before .judged .ensures) _ (c .before .before .s .given .1) (c .if2 .taken)
 
 loop-again : tie.Need-loop-again Inv-loop μ-loop
-loop-again c = (spotting-on _ _ _ _ _ _ _ _ (c .before .before .before .before .before .before .before .before .before .before .loop .inv .0) (c .before .before .before .before .before .before .before .before .before .loop-test .taken) (omega (arith, c .before .before .before .before .before .before .before .before .before .before .loop .inv .1, c .before .before .before .before .before .before .before .before .if1 .left)) _ _ _ _ refl (c .before .before .before .before .before .before .index .ensures .0) (c .before .before .before .before .before .entry-hit .ensures) (c .before .before .before .before .judged .ensures) _ (c .before .before .s .given .1) (c .if2 .left), c .before .before .before .before .before .before .before .before .before .before .loop .inv .1)
+loop-again c = (spotting-on _ _ _ _ _ _ _ _ (c .before .before .before .before .before .before .before .before .before .before .loop .inv .0) (c .before .before .before .before .before .before .before .before .before .loop-test .taken) (omega (arith, c .before .before .before .before .before .before .before .before .before .before .loop .inv .1, c .before .before .before .before .before .before .before .before .if1 .left)) _ _ _ _ refl (c .before .before .before .before .before .before .index .ensures .0) (c .before .before .before .before .before .hit-from .ensures) (c .before .before .before .before .judged .ensures) _ (c .before .before .s .given .1) (c .if2 .left), c .before .before .before .before .before .before .before .before .before .before .loop .inv .1)
 
 loop-again-2 : tie.Need-loop-again-2 Inv-loop μ-loop
-loop-again-2 c = (spotting-clear _ _ _ _ _ _ _ _ (c .before .before .before .before .before .before .before .before .loop .inv .0) (c .before .before .before .before .before .before .before .loop-test .taken) (omega (arith, c .before .before .before .before .before .before .before .before .loop .inv .1, c .before .before .before .before .before .before .if1 .left)) _ _ _ _ refl (c .before .before .before .before .index .ensures .0) (c .before .before .before .entry-hit .ensures) (c .before .before .judged .ensures) (c .enum-told2 .given .1), c .before .before .before .before .before .before .before .before .loop .inv .1)
+loop-again-2 c = (spotting-clear _ _ _ _ _ _ _ _ (c .before .before .before .before .before .before .before .before .loop .inv .0) (c .before .before .before .before .before .before .before .loop-test .taken) (omega (arith, c .before .before .before .before .before .before .before .before .loop .inv .1, c .before .before .before .before .before .before .if1 .left)) _ _ _ _ refl (c .before .before .before .before .index .ensures .0) (c .before .before .before .hit-from .ensures) (c .before .before .judged .ensures) (c .enum-told2 .given .1), c .before .before .before .before .before .before .before .before .loop .inv .1)
 
 returns-4 : tie.Need-returns-4 Inv-loop μ-loop
 returns-4 c = spotting-end _ _ _ _ _ _ _ _ (c .before .loop .inv .0) (c .loop-test .left)

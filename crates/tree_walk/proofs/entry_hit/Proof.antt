@@ -1,17 +1,8 @@
-use mathlib.Core.Path.{sym, _∙_}
-use borrow.Author.Needs.{needs}
-use Rattle.scene_plain.proofs.Plainly.{plain-own}
-use Rattle.tree_walk.specs.Walks.{entryHit}
 use Rattle.tree_walk.proofs.entry_hit.Statement.{statement}
 use Rattle.tree_walk.proofs.entry_hit.Tie as tie
 
 returns : tie.Need-returns
-unfolding entryHit
-returns c = sym (plain-own _ _ _ _ (sym (c .before .before .before .plain-hit .ensures) ∙ (c .before .a .given .1)))
-
-returns-2 : tie.Need-returns-2
-unfolding entryHit
-returns-2 c = c .entry-hit .ensures
+returns c = c .hit-from .ensures
 
 pub entry-hit-spec : {M : Type 1} → statement M
-entry-hit-spec = tie.close (tie.spec (λ c κs. tt) (λ c. search needs) (λ c. search needs) (λ c κs. tt) returns returns-2)
+entry-hit-spec = tie.close (tie.spec (λ c κs. tt) returns)
