@@ -15,7 +15,14 @@ use Rattle.draw_memory.specs.Memory.{outcomeOf}
 use Rattle.draw_memory.proofs.Memories.{outcome-dropped}
 use Rattle.path_filter.specs.declared.Test.{Test}
 use Rattle.path_filter.specs.declared.Test.the-variants.{Keep, Drop, Refused}
-use Rattle.draw_clip.specs.Clip.{bySight, clipFilter}
+use mathlib.Core.List.{List}
+use lib.Ieee.{Float}
+use mathlib.Core.Logic.{inl}
+use lib.ListN.{replicate}
+use Rattle.geometry.specs.Limits.{Within}
+use Rattle.tree_trust.specs.Trust.{Trusted, Uncut}
+use Rattle.tree_glance.specs.Glances.{noPlace, Kept}
+use Rattle.draw_clip.specs.Clip.{bySight, clipFilter, Ready}
 
 module _ (matrix : Matrix) (seen : Vector → Sight) (v w : Vector) (ew : w ≡ mulPositionW matrix v) (b : Bool) (eb : b ≡ contains clipBox w) where
   pub clipped : b ≡ false → Drop ≡ clipFilter matrix seen v
@@ -47,3 +54,18 @@ module _ (matrix : Matrix) (seen : Vector → Sight) (v : Vector) (c : ℕ) (tol
   pub told-kept : c ≡ 1 → (w : Vector) → w ≡ mulPositionW matrix v → Keep w ≡ clipFilter matrix seen v
   unfolding clipFilter
   told-kept e w ew = rw ew (kept-on (mulPositionW matrix v) (contains clipBox (mulPositionW matrix v)) (withinPoint v) (seen v) (told ∙ e))
+
+-- ---- what the eye test is handed on
+pub ready-kept : (numbers inverses : List Float) (marks : List ℕ) (boxes : List Float) (links order : List ℕ) (eye : Vector) (trusted calm : Bool) (cover stack : List ℕ)
+    → Ready numbers inverses marks boxes links order eye trusted calm cover stack → (cover′ stack′ : List ℕ) → Kept boxes links order cover′ stack′
+    → Ready numbers inverses marks boxes links order eye trusted calm cover′ stack′
+ready-kept numbers inverses marks boxes links order eye trusted calm cover stack R cover′ stack′ K = record { tree = R .tree; solids = R .solids; kept = K }
+
+pub ready-start : (numbers inverses : List Float) (marks : List ℕ) (boxes : List Float) (links order : List ℕ) (eye : Vector) (trusted calm : Bool)
+    → (trusted ≡ true → (order : List ℕ) → Trusted boxes links order × Within eye) → (calm ≡ true → Uncut numbers inverses marks)
+    → Ready numbers inverses marks boxes links order eye trusted calm (replicate 2 noPlace) (replicate 64 0)
+ready-start numbers inverses marks boxes links order eye trusted calm t u = record {
+  tree = λ e. t e order;
+  solids = u;
+  kept = record { wide = refl; wide-stack = refl; last = inl refl };
+}

@@ -5,53 +5,25 @@ use Rattle.draw_clip.proofs.path_filter.Statement.{statement}
 use Rattle.draw_clip.proofs.path_filter.Tie as tie
 
 new-path-requires : tie.Need-new-path-requires
-new-path-requires c κs =
-    let at12 = c .before .before .before .before .before .before .before .before .before .before .before .before in let pre = at12 .pre in
-    pre .3
+new-path-requires c κs = c .before .before .before .before .before .before .before .before .before .before .before .before .before .before .pre .3
 
 filter-from-requires : tie.Need-filter-from-requires
-filter-from-requires c κs =
-    let at5 = c .before .before .before .before .before in let o2 = at5 .o2 in
-    let at9 = at5 .before .before .before .before in let new-path = at9 .new-path in
-    let at22 = at9 .before .before .before .before .before .before .before .before .before .before .before .before .before in let pre = at22 .pre in
-    (pre .0, pre .1, pre .2, omega (arith, new-path .ensures .fits _ (o2 .given .1)), pre .4)
+filter-from-requires c κs = (c .before .before .before .before .before .before .before .before .before .before .before .before .before .before .before .before .before .before .before .before .before .before .before .before .before .before .pre .0, c .before .before .before .before .before .before .before .before .before .before .before .before .before .before .before .before .before .before .before .before .before .before .before .before .before .before .pre .1, c .before .before .before .before .before .before .before .before .before .before .before .before .before .before .before .before .before .before .before .before .before .before .before .before .before .before .pre .2, omega (arith, c .before .before .before .before .before .before .before .before .before .before .before .new-path .ensures .fits _ (c .before .before .before .before .before .before .before .o2 .given .1)), c .before .before .before .before .before .before .before .before .before .before .before .before .before .before .before .before .before .before .before .before .before .before .before .before .before .before .pre .4, c .before .before .before .before .before .before .before .before .before .before .before .before .before .before .before .before .before .before .before .before .before .before .before .before .before .before .pre .5)
 
 close-requires : tie.Need-close-requires
-close-requires c κs =
-    let at2 = c .before .before in let r2 = at2 .r2 in
-    let at12 = at2 .before .before .before .before .before .before .before .before .before .before in let filter-from = at12 .filter-from in
-    filter-from .ensures .0 .fits _ _ (r2 .given .1) .1
+close-requires c κs = c .before .before .before .before .before .before .before .before .before .before .before .before .before .before .before .before .filter-from .ensures .0 .fits _ _ (c .before .before .r2 .given .1) .1
 
 returns : tie.Need-returns
-returns c =
-    let at1 = c .before in let o = at1 .o in
-    let at5 = at1 .before .before .before .before in let new-path = at5 .new-path in
-    let at18 = at5 .before .before .before .before .before .before .before .before .before .before .before .before .before in let args = at18 .args in
-    let pre = at18 .pre in
-    (path-full _ _ (args .out .now) (args .begins .now) (args .n) (args .m) _ (new-path .ensures) (o .given .1), pre .4)
+returns c = (path-full _ _ (c .before .before .before .before .before .before .before .before .before .before .before .before .before .before .before .before .before .before .before .before .args .out .now) (c .before .before .before .before .before .before .before .before .before .before .before .before .before .before .before .before .before .before .before .before .args .begins .now) (c .before .before .before .before .before .before .before .before .before .before .before .before .before .before .before .before .before .before .before .before .args .n) (c .before .before .before .before .before .before .before .before .before .before .before .before .before .before .before .before .before .before .before .before .args .m) _ (c .before .before .before .before .before .new-path .ensures) (c .before .o .given .1), c .before .before .before .before .before .before .before .before .before .before .before .before .before .before .before .before .before .before .before .before .pre .4, c .before .before .before .before .before .before .before .before .before .before .before .before .before .before .before .before .before .before .before .before .pre .5)
 
 returns-2 : tie.Need-returns-2
-returns-2 c =
-    let at1 = c .before in let r = at1 .r in
-    let at11 = at1 .before .before .before .before .before .before .before .before .before .before in let filter-from = at11 .filter-from in
-    let at17 = at11 .before .before .before .before .before .before in let o2 = at17 .o2 in
-    let at21 = at17 .before .before .before .before in let new-path = at21 .new-path in
-    let at34 = at21 .before .before .before .before .before .before .before .before .before .before .before .before .before in let args = at34 .args in
-    (path-refused _ _ (args .out .now) (args .begins .now) (args .n) (args .m) _ (new-path .ensures) (o2 .given .1) (new-path .kept .0) _ _ (filter-from .ensures .0) (r .given .1), filter-from .ensures .1)
+returns-2 c = (path-refused _ _ (c .before .before .before .before .before .before .before .before .before .before .before .before .before .before .before .before .before .before .before .before .before .before .before .before .before .before .before .before .before .before .before .before .before .before .before .before .before .before .before .before .before .before .args .out .now) (c .before .before .before .before .before .before .before .before .before .before .before .before .before .before .before .before .before .before .before .before .before .before .before .before .before .before .before .before .before .before .before .before .before .before .before .before .before .before .before .before .before .before .args .begins .now) (c .before .before .before .before .before .before .before .before .before .before .before .before .before .before .before .before .before .before .before .before .before .before .before .before .before .before .before .before .before .before .before .before .before .before .before .before .before .before .before .before .before .before .args .n) (c .before .before .before .before .before .before .before .before .before .before .before .before .before .before .before .before .before .before .before .before .before .before .before .before .before .before .before .before .before .before .before .before .before .before .before .before .before .before .before .before .before .before .args .m) _ (c .before .before .before .before .before .before .before .before .before .before .before .before .before .before .before .before .before .before .before .before .before .before .before .before .before .before .before .new-path .ensures) (c .before .before .before .before .before .before .before .before .before .before .before .before .before .before .before .before .before .before .before .before .before .before .before .o2 .given .1) (c .before .before .before .before .before .before .before .before .before .before .before .before .before .before .before .before .before .before .before .before .before .before .before .before .before .before .before .new-path .kept .0) _ _ (c .before .before .before .before .before .before .before .before .before .before .before .before .before .before .before .filter-from .ensures .0) (c .before .r .given .1), c .before .before .before .before .before .before .before .before .before .before .before .before .before .before .before .filter-from .ensures .1, c .before .before .before .before .before .before .before .before .before .before .before .before .before .before .before .filter-from .ensures .2)
 
 returns-3 : tie.Need-returns-3
-returns-3 c =
-    let at3 = c .before .before .before in let r2 = at3 .r2 in
-    let at13 = at3 .before .before .before .before .before .before .before .before .before .before in let filter-from = at13 .filter-from in
-    let at19 = at13 .before .before .before .before .before .before in let o2 = at19 .o2 in
-    let at23 = at19 .before .before .before .before in let new-path = at23 .new-path in
-    let at36 = at23 .before .before .before .before .before .before .before .before .before .before .before .before .before in let args = at36 .args in
-    (path-done _ _ (args .out .now) (args .begins .now) (args .n) (args .m) _ (new-path .ensures) (o2 .given .1) (new-path .kept .0) _ _ (filter-from .ensures .0) _ (r2 .given .1) (c .close .ensures .0) (c .close .ensures .1), filter-from .ensures .1)
+returns-3 c = (path-done _ _ (c .before .before .before .before .before .before .before .before .before .before .before .before .before .before .before .before .before .before .before .before .before .before .before .before .before .before .before .before .before .before .before .before .before .before .before .before .before .before .before .before .before .before .before .before .args .out .now) (c .before .before .before .before .before .before .before .before .before .before .before .before .before .before .before .before .before .before .before .before .before .before .before .before .before .before .before .before .before .before .before .before .before .before .before .before .before .before .before .before .before .before .before .before .args .begins .now) (c .before .before .before .before .before .before .before .before .before .before .before .before .before .before .before .before .before .before .before .before .before .before .before .before .before .before .before .before .before .before .before .before .before .before .before .before .before .before .before .before .before .before .before .before .args .n) (c .before .before .before .before .before .before .before .before .before .before .before .before .before .before .before .before .before .before .before .before .before .before .before .before .before .before .before .before .before .before .before .before .before .before .before .before .before .before .before .before .before .before .before .before .args .m) _ (c .before .before .before .before .before .before .before .before .before .before .before .before .before .before .before .before .before .before .before .before .before .before .before .before .before .before .before .before .before .new-path .ensures) (c .before .before .before .before .before .before .before .before .before .before .before .before .before .before .before .before .before .before .before .before .before .before .before .before .before .o2 .given .1) (c .before .before .before .before .before .before .before .before .before .before .before .before .before .before .before .before .before .before .before .before .before .before .before .before .before .before .before .before .before .new-path .kept .0) _ _ (c .before .before .before .before .before .before .before .before .before .before .before .before .before .before .before .before .before .filter-from .ensures .0) _ (c .before .before .before .r2 .given .1) (c .close .ensures .0) (c .close .ensures .1), c .before .before .before .before .before .before .before .before .before .before .before .before .before .before .before .before .before .filter-from .ensures .1, c .before .before .before .before .before .before .before .before .before .before .before .before .before .before .before .before .before .filter-from .ensures .2)
 
 pub path-filter-spec : {M : Type 1} → statement M
 path-filter-spec =
     tie.close
     (tie.spec
-    new-path-requires (λ c. search needs) (λ c. search needs) filter-from-requires (λ c. search needs) (λ c. search needs) close-requires
-    (λ c. search needs) returns (λ c. search needs) (λ c. search needs) (λ c. search needs) (λ c. search needs) returns-2
-    (λ c. search needs) (λ c. search needs) (λ c. search needs) (λ c. search needs) returns-3)
+    new-path-requires (λ c. search needs) (λ c. search needs) filter-from-requires (λ c. search needs) (λ c. search needs) close-requires (λ c. search needs) returns (λ c. search needs) (λ c. search needs) (λ c. search needs) (λ c. search needs) (λ c. search needs) (λ c. search needs) returns-2 (λ c. search needs) (λ c. search needs) (λ c. search needs) (λ c. search needs) (λ c. search needs) (λ c. search needs) returns-3)
