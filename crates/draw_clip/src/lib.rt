@@ -44,8 +44,8 @@ pub fn clip_filter(
 ) -> Test
     ensures { λ r. ⌜ r ≡ clipFilter matrix (seenFrom (now (numbers .entry)) (now (inverses .entry)) (now (marks .entry)) (now («node_boxes» .entry)) (now («node_marks» .entry)) (now (order .entry)) eye) v ⌝ }
 {
-    let w = matrix.mul_position_w(v);
-    if !BBox::clips(w) {
+    let projected = matrix.mul_position_w(v);
+    if !BBox::clips(projected) {
         return Test::Drop;
     }
     if !limits::within_point(v) {
@@ -61,7 +61,7 @@ pub fn clip_filter(
         eye,
         v,
     );
-    by_sight(w, s)
+    by_sight(projected, s)
 }
 
 // Whether the tree and the eye are such that the eye test may leave something out.

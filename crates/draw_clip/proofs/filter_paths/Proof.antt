@@ -33,34 +33,67 @@ slice-aggregate-path-filter : tie.Need-slice-aggregate-path-filter Inv-loop μ-l
 slice-aggregate-path-filter c = sym (c .before .before .before .loop .inv .1 .wide)
 
 slice-aggregate-path-filter-2 : tie.Need-slice-aggregate-path-filter-2 Inv-loop μ-loop
-slice-aggregate-path-filter-2 c = sym (c .before .before .before .before .loop .inv .1 .wide-known)
+slice-aggregate-path-filter-2 c =
+    let at4 = c .before .before .before .before in let loop = at4 .loop in
+    sym (loop .inv .1 .wide-known)
 
 slice-aggregate-path-filter-3 : tie.Need-slice-aggregate-path-filter-3 Inv-loop μ-loop
-slice-aggregate-path-filter-3 c = sym (c .before .before .before .before .before .before .before .loop .inv .2 .kept .wide)
+slice-aggregate-path-filter-3 c =
+    let at7 = c .before .before .before .before .before .before .before in let loop = at7 .loop in
+    sym (loop .inv .2 .kept .wide)
 
 slice-aggregate-path-filter-4 : tie.Need-slice-aggregate-path-filter-4 Inv-loop μ-loop
-slice-aggregate-path-filter-4 c = sym (c .before .before .before .before .before .before .before .before .loop .inv .2 .kept .wide-stack)
+slice-aggregate-path-filter-4 c =
+    let at8 = c .before .before .before .before .before .before .before .before in let loop = at8 .loop in
+    sym (loop .inv .2 .kept .wide-stack)
 
 path-filter-requires : tie.Need-path-filter-requires Inv-loop μ-loop
-path-filter-requires c κs = let w = range-fits (c .before .before .before .before .before .before .before .before .before .before .before .before .before .before .before .before .before .before .before .before .before .args .path .now) (c .before .before .before .before .before .before .before .before .before .before .before .before .before .before .before .before .before .before .before .before .before .args .starts .now) (c .before .before .before .before .before .before .before .before .loop .i) (c .before .before .before .before .before .before .range-of .result) (c .before .before .before .before .before .before .range-of .ensures) in (w .0, w .1, c .before .before .before .before .before .before .before .before .loop .inv .0 .fits, c .before .before .before .before .before .before .before .before .loop .inv .0 .fits-starts, c .before .before .before .before .before .before .before .before .loop .inv .1, c .before .before .before .before .before .before .before .before .loop .inv .2)
+path-filter-requires c κs =
+    let at6 = c .before .before .before .before .before .before in let range-of = at6 .range-of in
+    let at8 = at6 .before .before in let loop = at8 .loop in
+    let at21 = at8 .before .before .before .before .before .before .before .before .before .before .before .before .before in let args = at21 .args in
+    let w = range-fits (args .path .now) (args .starts .now) (loop .i) (range-of .result) (range-of .ensures) in (w .0, w .1, loop .inv .0 .fits, loop .inv .0 .fits-starts, loop .inv .1, loop .inv .2)
 
 same-length : tie.Need-same-length Inv-loop μ-loop
-same-length c = c .before .before .before .before .before .before .before .before .before .before .before .path-filter .kept .1 .1 .1 .1 .1 .1 .1 .1 .1 .1 .1 .1 .1 .0 ∙ c .before .before .before .before .before .before .before .before .before .before .before .before .before .before .before .before .before .before .before .before .loop .inv .0 .same
+same-length c =
+    let at11 = c .before .before .before .before .before .before .before .before .before .before .before in let path-filter = at11 .path-filter in
+    let at20 = at11 .before .before .before .before .before .before .before .before .before in let loop = at20 .loop in
+    path-filter .kept .1 .1 .1 .1 .1 .1 .1 .1 .1 .1 .1 .1 .1 .0 ∙ loop .inv .0 .same
 
 same-length-2 : tie.Need-same-length-2 Inv-loop μ-loop
-same-length-2 c = c .before .before .before .before .before .before .before .before .before .before .before .path-filter .kept .1 .1 .1 .1 .1 .1 .1 .1 .1 .1 .1 .1 .1 .1 .0 ∙ c .before .before .before .before .before .before .before .before .before .before .before .before .before .before .before .before .before .before .before .before .loop .inv .0 .same-starts
+same-length-2 c =
+    let at11 = c .before .before .before .before .before .before .before .before .before .before .before in let path-filter = at11 .path-filter in
+    let at20 = at11 .before .before .before .before .before .before .before .before .before in let loop = at20 .loop in
+    path-filter .kept .1 .1 .1 .1 .1 .1 .1 .1 .1 .1 .1 .1 .1 .1 .0 ∙ loop .inv .0 .same-starts
 
 returns : tie.Need-returns Inv-loop μ-loop
-returns c = staging-refused _ _ _ _ _ _ _ _ _ _ (c .before .before .before .before .before .before .before .before .before .before .before .before .before .before .before .before .before .before .before .before .loop .inv .0) (c .before .before .before .before .before .before .before .before .before .before .before .before .before .before .before .before .before .before .before .loop-test .taken) _ (c .before .before .before .before .before .before .before .before .before .before .before .before .before .before .before .before .before .before .range-of .ensures) _ _ (c .before .before .before .before .before .before .before .before .before .before .before .path-filter .ensures .0) (c .before .r .given .1)
+returns c =
+    let at1 = c .before in let r = at1 .r in
+    let at11 = at1 .before .before .before .before .before .before .before .before .before .before in let path-filter = at11 .path-filter in
+    let at18 = at11 .before .before .before .before .before .before .before in let range-of = at18 .range-of in
+    let at19 = at18 .before in let loop-test = at19 .loop-test in
+    let at20 = at19 .before in let loop = at20 .loop in
+    staging-refused _ _ _ _ _ _ _ _ _ _ (loop .inv .0) (loop-test .taken) _ (range-of .ensures) _ _ (path-filter .ensures .0) (r .given .1)
 
 add-i : tie.Need-add-i Inv-loop μ-loop
-add-i c = omega (arith, c .before .before .before .before .before .before .before .before .before .before .before .before .before .before .before .before .before .before .before .loop-test .taken, c .before .before .before .before .before .before .before .before .before .before .before .before .before .before .before .before .before .before .before .before .before .before .before .before .before .before .before .before .before .before .before .before .before .good .1 .1 .1 .1 .1 .1 .1 .1 .1 .0)
+add-i c =
+    let at19 = c .before .before .before .before .before .before .before .before .before .before .before .before .before .before .before .before .before .before .before in let loop-test = at19 .loop-test in
+    let at33 = at19 .before .before .before .before .before .before .before .before .before .before .before .before .before .before in let good = at33 .good in
+    omega (arith, loop-test .taken, good .1 .1 .1 .1 .1 .1 .1 .1 .1 .0)
 
 loop-less : tie.Need-loop-less Inv-loop μ-loop
-loop-less c = omega (arith, c .before .before .before .before .before .before .before .before .before .before .before .before .before .before .before .before .before .before .before .loop-test .taken)
+loop-less c =
+    let at19 = c .before .before .before .before .before .before .before .before .before .before .before .before .before .before .before .before .before .before .before in let loop-test = at19 .loop-test in
+    omega (arith, loop-test .taken)
 
 loop-again : tie.Need-loop-again Inv-loop μ-loop
-loop-again c = (staging-turn _ _ _ _ _ _ _ _ _ _ (c .before .before .before .before .before .before .before .before .before .before .before .before .before .before .before .before .before .before .before .before .loop .inv .0) (c .before .before .before .before .before .before .before .before .before .before .before .before .before .before .before .before .before .before .before .loop-test .taken) _ (c .before .before .before .before .before .before .before .before .before .before .before .before .before .before .before .before .before .before .range-of .ensures) _ _ (c .before .before .before .before .before .before .before .before .before .before .before .path-filter .ensures .0) (c .before .before .before .before .before .before .before .before .before .before .before .path-filter .kept .1 .1 .1 .1 .1 .1 .1 .1 .1 .1 .1 .1 .1 .0) (c .before .before .before .before .before .before .before .before .before .before .before .path-filter .kept .1 .1 .1 .1 .1 .1 .1 .1 .1 .1 .1 .1 .1 .1 .0) (c .before .r2 .given .1), c .before .before .before .before .before .before .before .before .before .before .before .path-filter .ensures .1, c .before .before .before .before .before .before .before .before .before .before .before .path-filter .ensures .2)
+loop-again c =
+    let at1 = c .before in let r2 = at1 .r2 in
+    let at11 = at1 .before .before .before .before .before .before .before .before .before .before in let path-filter = at11 .path-filter in
+    let at18 = at11 .before .before .before .before .before .before .before in let range-of = at18 .range-of in
+    let at19 = at18 .before in let loop-test = at19 .loop-test in
+    let at20 = at19 .before in let loop = at20 .loop in
+    (staging-turn _ _ _ _ _ _ _ _ _ _ (loop .inv .0) (loop-test .taken) _ (range-of .ensures) _ _ (path-filter .ensures .0) (path-filter .kept .1 .1 .1 .1 .1 .1 .1 .1 .1 .1 .1 .1 .1 .0) (path-filter .kept .1 .1 .1 .1 .1 .1 .1 .1 .1 .1 .1 .1 .1 .1 .0) (r2 .given .1), path-filter .ensures .1, path-filter .ensures .2)
 
 same-length-3 : tie.Need-same-length-3 Inv-loop μ-loop
 same-length-3 c = c .before .loop .inv .0 .same

@@ -9,19 +9,34 @@ entered-requires : tie.Need-entered-requires
 entered-requires c κs = (bounded-near (c .before .args .b .ray .direction .x) (c .before .args .b .x) (c .before .pre .1 .x), omega (arith, c .before .pre .0))
 
 entered-requires-2 : tie.Need-entered-requires-2
-entered-requires-2 c κs = (bounded-near (c .before .before .args .b .ray .direction .y) (c .before .before .args .b .y) (c .before .before .pre .1 .y), omega (arith, c .before .before .pre .0))
+entered-requires-2 c κs =
+    let at2 = c .before .before in let args = at2 .args in
+    let pre = at2 .pre in
+    (bounded-near (args .b .ray .direction .y) (args .b .y) (pre .1 .y), omega (arith, pre .0))
 
 entered-requires-3 : tie.Need-entered-requires-3
-entered-requires-3 c κs = (bounded-near (c .before .before .before .args .b .ray .direction .z) (c .before .before .before .args .b .z) (c .before .before .before .pre .1 .z), omega (arith, c .before .before .before .pre .0))
+entered-requires-3 c κs =
+    let at3 = c .before .before .before in let args = at3 .args in
+    let pre = at3 .pre in
+    (bounded-near (args .b .ray .direction .z) (args .b .z) (pre .1 .z), omega (arith, pre .0))
 
 left-requires : tie.Need-left-requires
-left-requires c κs = (bounded-near (c .before .before .before .before .args .b .ray .direction .x) (c .before .before .before .before .args .b .x) (c .before .before .before .before .pre .1 .x), omega (arith, c .before .before .before .before .pre .0))
+left-requires c κs =
+    let at4 = c .before .before .before .before in let args = at4 .args in
+    let pre = at4 .pre in
+    (bounded-near (args .b .ray .direction .x) (args .b .x) (pre .1 .x), omega (arith, pre .0))
 
 left-requires-2 : tie.Need-left-requires-2
-left-requires-2 c κs = (bounded-near (c .before .before .before .before .before .args .b .ray .direction .y) (c .before .before .before .before .before .args .b .y) (c .before .before .before .before .before .pre .1 .y), omega (arith, c .before .before .before .before .before .pre .0))
+left-requires-2 c κs =
+    let at5 = c .before .before .before .before .before in let args = at5 .args in
+    let pre = at5 .pre in
+    (bounded-near (args .b .ray .direction .y) (args .b .y) (pre .1 .y), omega (arith, pre .0))
 
 left-requires-3 : tie.Need-left-requires-3
-left-requires-3 c κs = (bounded-near (c .before .before .before .before .before .before .args .b .ray .direction .z) (c .before .before .before .before .before .before .args .b .z) (c .before .before .before .before .before .before .pre .1 .z), omega (arith, c .before .before .before .before .before .before .pre .0))
+left-requires-3 c κs =
+    let at6 = c .before .before .before .before .before .before in let args = at6 .args in
+    let pre = at6 .pre in
+    (bounded-near (args .b .ray .direction .z) (args .b .z) (pre .1 .z), omega (arith, pre .0))
 
 returns : tie.Need-returns
 returns c =

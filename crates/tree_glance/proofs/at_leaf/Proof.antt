@@ -6,22 +6,29 @@ use Rattle.tree_glance.proofs.at_leaf.Statement.{statement}
 use Rattle.tree_glance.proofs.at_leaf.Tie as tie
 
 spot-requires : tie.Need-spot-requires
-spot-requires c κs = c .before .before .before .before .before .before .pre .0
+spot-requires c κs =
+    let at6 = c .before .before .before .before .before .before in let pre = at6 .pre in
+    pre .0
 
 enters-requires : tie.Need-enters-requires
-enters-requires c κs = c .before .before .before .before .before .before .before .before .before .before .pre .1
+enters-requires c κs =
+    let at10 = c .before .before .before .before .before .before .before .before .before .before in let pre = at10 .pre in
+    pre .1
 
 slice-write-cover : tie.Need-slice-write-cover
-slice-write-cover c = omega (arith, c .before .before .before .before .before .before .before .before .before .before .before .before .pre .2)
-
-slice-write-cover-2 : tie.Need-slice-write-cover-2
-slice-write-cover-2 c = search needs
-
-same-length : tie.Need-same-length
-same-length c = search needs
+slice-write-cover c =
+    let at12 = c .before .before .before .before .before .before .before .before .before .before .before .before in let pre = at12 .pre in
+    omega (arith, pre .2)
 
 returns : tie.Need-returns
-returns c = shorter _ _ _ _ _ _ _ _ (c .before .before .before .before .before .before .spot .ensures) _ (c .before .before .before .before .a .given .1) (c .before .before .enters .ensures (c .before .if1 .taken)) (c .before .before .before .before .before .before .before .before .before .before .before .before .before .args .cover .now) (c .before .before .before .before .before .before .before .before .before .before .before .before .before .pre .2) _ (c .index .ensures .0)
+returns c =
+    let at1 = c .before in let if1 = at1 .if1 in
+    let at2 = at1 .before in let enters = at2 .enters in
+    let at4 = at2 .before .before in let a = at4 .a in
+    let at6 = at4 .before .before in let spot = at6 .spot in
+    let at13 = at6 .before .before .before .before .before .before .before in let args = at13 .args in
+    let pre = at13 .pre in
+    shorter _ _ _ _ _ _ _ _ (spot .ensures) _ (a .given .1) (enters .ensures (if1 .taken)) (args .cover .now) (pre .2) _ (c .index .ensures .0)
 
 returns-2 : tie.Need-returns-2
 returns-2 c = refl
@@ -36,5 +43,5 @@ pub at-leaf-spec : {M : Type 1} → statement M
 at-leaf-spec =
     tie.close
     (tie.spec
-    spot-requires (λ c. search needs) (λ c. search needs) (λ c. search needs) enters-requires slice-write-cover (λ c κs. tt) slice-write-cover-2 same-length
+    spot-requires (λ c. search needs) (λ c. search needs) (λ c. search needs) enters-requires slice-write-cover (λ c κs. tt) (λ c. search needs) (λ c. search needs)
     returns returns-2 returns-3 returns-4)

@@ -9,16 +9,29 @@ use Rattle.tree_glance.proofs.covered.Statement.{statement}
 use Rattle.tree_glance.proofs.covered.Tie as tie
 
 shared-slice-read-place : tie.Need-shared-slice-read-place
-shared-slice-read-place c = omega (arith, c .before .before .before .before .before .before .pre .0)
+shared-slice-read-place c =
+    let at6 = c .before .before .before .before .before .before in let pre = at6 .pre in
+    omega (arith, pre .0)
 
 shared-slice-read-hit-from : tie.Need-shared-slice-read-hit-from
-shared-slice-read-hit-from c = omega (arith, c .before .before .before .before .before .before .before .before .pre .0)
+shared-slice-read-hit-from c =
+    let at8 = c .before .before .before .before .before .before .before .before in let pre = at8 .pre in
+    omega (arith, pre .0)
 
 enters-requires : tie.Need-enters-requires
-enters-requires c κs = fits-else (c .before .before .before .before .before .before .before .before .before .before .before .before .before .before .args .boxes .now) _ (c .before .before .before .before .before .before .before .before .before .before .before .before .before .before .pre .1) (c .before .before .before .before .before .before .before .if1 .left)
+enters-requires c κs =
+    let at7 = c .before .before .before .before .before .before .before in let if1 = at7 .if1 in
+    let at14 = at7 .before .before .before .before .before .before .before in let args = at14 .args in
+    let pre = at14 .pre in
+    fits-else (args .boxes .now) _ (pre .1) (if1 .left)
 
 returns-2 : tie.Need-returns-2
-returns-2 c = λ h. covering _ _ _ _ _ (c .before .before .before .before .before .before .before .before .if1 .left) (c .enters .ensures h) _ (sym (c .before .before .before .before .before .before .hit-from .ensures) ∙ c .before .before .before .before .a .given .1) (c .before .if2 .taken)
+returns-2 c =
+    let at1 = c .before in let if2 = at1 .if2 in
+    let at4 = at1 .before .before .before in let a = at4 .a in
+    let at6 = at4 .before .before in let hit-from = at6 .hit-from in
+    let at8 = at6 .before .before in let if1 = at8 .if1 in
+    λ h. covering _ _ _ _ _ (if1 .left) (c .enters .ensures h) _ (sym (hit-from .ensures) ∙ a .given .1) (if2 .taken)
 
 pub covered-spec : {M : Type 1} → statement M
 covered-spec =

@@ -21,145 +21,329 @@ abbrev μ-loop : tie.MeasureT-loop
 μ-loop numbers inverses marks node-boxes node-marks order b distance calm cover₀ stack₀ r i₀ sp₀ hid₀ rounds₀ cover stack i sp hid rounds = rounds
 
 misses-requires : tie.Need-misses-requires Inv-loop μ-loop
-misses-requires c κs = (root-asked (entryHit (c .before .before .before .before .before .before .before .before .args .numbers .now) (c .before .before .before .before .before .before .before .before .args .inverses .now) (c .before .before .before .before .before .before .before .before .args .marks .now) (c .before .before .before .before .before .before .before .before .args .b .ray)) (c .before .before .before .before .before .before .before .before .args .b .ray) (c .before .before .before .before .before .before .before .before .args .distance) (c .before .before .before .before .before .before .before .before .args .node-boxes .now) (c .before .before .before .before .before .before .before .before .args .node-marks .now) (c .before .before .before .before .before .before .before .before .args .order .now) (c .before .before .before .before .before .before .before .before .pre .0) .0, c .before .before .before .before .before .before .before .before .pre .2, root-asked (entryHit (c .before .before .before .before .before .before .before .before .args .numbers .now) (c .before .before .before .before .before .before .before .before .args .inverses .now) (c .before .before .before .before .before .before .before .before .args .marks .now) (c .before .before .before .before .before .before .before .before .args .b .ray)) (c .before .before .before .before .before .before .before .before .args .b .ray) (c .before .before .before .before .before .before .before .before .args .distance) (c .before .before .before .before .before .before .before .before .args .node-boxes .now) (c .before .before .before .before .before .before .before .before .args .node-marks .now) (c .before .before .before .before .before .before .before .before .args .order .now) (c .before .before .before .before .before .before .before .before .pre .0) .1)
+misses-requires c κs =
+    let at8 = c .before .before .before .before .before .before .before .before in let args = at8 .args in
+    let pre = at8 .pre in
+    (root-asked (entryHit (args .numbers .now) (args .inverses .now) (args .marks .now) (args .b .ray)) (args .b .ray) (args .distance) (args .node-boxes .now) (args .node-marks .now) (args .order .now) (pre .0) .0, pre .2, root-asked (entryHit (args .numbers .now) (args .inverses .now) (args .marks .now) (args .b .ray)) (args .b .ray) (args .distance) (args .node-boxes .now) (args .node-marks .now) (args .order .now) (pre .0) .1)
 
 returns : tie.Need-returns Inv-loop μ-loop
-returns c = (root-missed _ _ _ _ _ _ (c .before .before .before .before .before .before .before .before .before .before .pre .0) (c .before .before .before .before .before .before .before .before .before .before .pre .3) (c .before .misses .ensures (c .if1 .taken)), c .before .before .before .before .before .before .before .before .before .before .pre .4)
+returns c =
+    let at1 = c .before in let misses = at1 .misses in
+    let at10 = at1 .before .before .before .before .before .before .before .before .before in let pre = at10 .pre in
+    (root-missed _ _ _ _ _ _ (pre .0) (pre .3) (misses .ensures (c .if1 .taken)), pre .4)
 
 loop-holds : tie.Need-loop-holds Inv-loop μ-loop
-loop-holds c = (look-start _ _ _ _ _ _ (c .before .before .before .before .before .before .before .before .before .before .before .pre .0) _ (c .before .before .before .before .before .before .before .before .before .before .before .pre .4 .wide-stack), c .before .before .before .before .before .before .before .before .before .before .before .pre .4)
+loop-holds c =
+    let at11 = c .before .before .before .before .before .before .before .before .before .before .before in let pre = at11 .pre in
+    (look-start _ _ _ _ _ _ (pre .0) _ (pre .4 .wide-stack), pre .4)
 
 read-triple-requires : tie.Need-read-triple-requires Inv-loop μ-loop
 read-triple-requires c κs = place-links _ _ _ _ _ _ _ _ _ _ (c .before .loop .inv .0)
 
 at-leaf-requires : tie.Need-at-leaf-requires Inv-loop μ-loop
-at-leaf-requires c κs = (omega (arith, c .before .before .before .before .index .ensures .1, c .before .index2 .ensures .1), place-fits _ _ _ _ _ _ _ _ _ _ (c .before .before .before .before .before .before .before .loop .inv .0), c .before .before .before .before .before .before .before .loop .inv .1 .wide)
+at-leaf-requires c κs =
+    let at1 = c .before in let index2 = at1 .index2 in
+    let at4 = at1 .before .before .before in let index = at4 .index in
+    let at7 = at4 .before .before .before in let loop = at7 .loop in
+    (omega (arith, index .ensures .1, index2 .ensures .1), place-fits _ _ _ _ _ _ _ _ _ _ (loop .inv .0), loop .inv .1 .wide)
 
 returns-2 : tie.Need-returns-2 Inv-loop μ-loop
-returns-2 c = (tt, kept-same _ _ _ _ _ (c .before .before .before .before .before .before .before .before .before .before .before .before .loop .inv .1) _ (told-unsure _ _ _ _ _ _ _ _ _ _ (c .before .before .before .before .at-leaf .ensures) (c .enum-told .given .1)))
+returns-2 c =
+    let at4 = c .before .before .before .before in let at-leaf = at4 .at-leaf in
+    let at12 = at4 .before .before .before .before .before .before .before .before in let loop = at12 .loop in
+    (tt, kept-same _ _ _ _ _ (loop .inv .1) _ (told-unsure _ _ _ _ _ _ _ _ _ _ (at-leaf .ensures) (c .enum-told .given .1)))
 
 returns-3 : tie.Need-returns-3 Inv-loop μ-loop
-returns-3 c = (tells-as _ _ _ _ (c .ended .ensures) (look-end _ _ _ _ _ _ _ _ _ _ (c .before .before .before .before .before .before .before .before .before .before .before .before .before .before .loop .inv .0) (c .before .before .before .before .before .before .before .before .before .before .before .before .before .before .before .before .before .before .before .before .before .before .before .before .before .before .pre .0) (aimed-usable _ (c .before .before .before .before .before .before .before .before .before .before .before .before .before .before .before .before .before .before .before .before .before .before .before .before .before .before .pre .2)) (c .before .before .before .before .before .before .before .before .before .before .before .before .before .before .before .before .before .before .before .before .before .before .before .before .before .before .pre .3) (c .before .if3 .taken) (leaf-done _ _ _ _ _ _ _ _ _ _ (c .before .before .before .before .before .before .before .before .before .before .before .before .before .before .loop .inv .0) _ (c .before .before .before .before .before .before .before .before .before .before .before .before .read-triple .ensures) _ (c .before .before .before .before .before .before .before .before .before .before .before .index .ensures .0) _ (c .before .before .before .before .before .before .before .before .before .before .is-leaf .ensures) (c .before .before .before .before .before .before .before .before .before .if2 .taken) _ (c .before .before .before .before .before .before .before .before .index2 .ensures .0) (told-far _ _ _ _ _ _ _ _ _ _ (c .before .before .before .before .before .before .at-leaf .ensures) (c .before .before .enum-told2 .given .1)))), kept-same _ _ _ _ _ (c .before .before .before .before .before .before .before .before .before .before .before .before .before .before .loop .inv .1) _ (told-same _ _ _ _ _ _ _ _ _ _ (c .before .before .before .before .before .before .at-leaf .ensures) (c .before .before .enum-told2 .given .1)))
+returns-3 c =
+    let at1 = c .before in let if3 = at1 .if3 in
+    let at2 = at1 .before in let enum-told2 = at2 .enum-told2 in
+    let at6 = at2 .before .before .before .before in let at-leaf = at6 .at-leaf in
+    let at8 = at6 .before .before in let index2 = at8 .index2 in
+    let at9 = at8 .before in let if2 = at9 .if2 in
+    let at10 = at9 .before in let is-leaf = at10 .is-leaf in
+    let at11 = at10 .before in let index = at11 .index in
+    let at12 = at11 .before in let read-triple = at12 .read-triple in
+    let at14 = at12 .before .before in let loop = at14 .loop in
+    let at26 = at14 .before .before .before .before .before .before .before .before .before .before .before .before in let pre = at26 .pre in
+    (tells-as _ _ _ _ (c .ended .ensures) (look-end _ _ _ _ _ _ _ _ _ _ (loop .inv .0) (pre .0) (aimed-usable _ (pre .2)) (pre .3) (if3 .taken) (leaf-done _ _ _ _ _ _ _ _ _ _ (loop .inv .0) _ (read-triple .ensures) _ (index .ensures .0) _ (is-leaf .ensures) (if2 .taken) _ (index2 .ensures .0) (told-far _ _ _ _ _ _ _ _ _ _ (at-leaf .ensures) (enum-told2 .given .1)))), kept-same _ _ _ _ _ (loop .inv .1) _ (told-same _ _ _ _ _ _ _ _ _ _ (at-leaf .ensures) (enum-told2 .given .1)))
 
 loop-again : tie.Need-loop-again Inv-loop μ-loop
-loop-again c = (look-back _ _ _ _ _ _ _ _ _ _ (c .before .before .before .before .before .before .before .before .before .before .before .before .before .before .loop .inv .0) (c .before .if3 .left) (leaf-done _ _ _ _ _ _ _ _ _ _ (c .before .before .before .before .before .before .before .before .before .before .before .before .before .before .loop .inv .0) _ (c .before .before .before .before .before .before .before .before .before .before .before .before .read-triple .ensures) _ (c .before .before .before .before .before .before .before .before .before .before .before .index .ensures .0) _ (c .before .before .before .before .before .before .before .before .before .before .is-leaf .ensures) (c .before .before .before .before .before .before .before .before .before .if2 .taken) _ (c .before .before .before .before .before .before .before .before .index2 .ensures .0) (told-far _ _ _ _ _ _ _ _ _ _ (c .before .before .before .before .before .before .at-leaf .ensures) (c .before .before .enum-told2 .given .1))), kept-same _ _ _ _ _ (c .before .before .before .before .before .before .before .before .before .before .before .before .before .before .loop .inv .1) _ (told-same _ _ _ _ _ _ _ _ _ _ (c .before .before .before .before .before .before .at-leaf .ensures) (c .before .before .enum-told2 .given .1)))
+loop-again c =
+    let at1 = c .before in let if3 = at1 .if3 in
+    let at2 = at1 .before in let enum-told2 = at2 .enum-told2 in
+    let at6 = at2 .before .before .before .before in let at-leaf = at6 .at-leaf in
+    let at8 = at6 .before .before in let index2 = at8 .index2 in
+    let at9 = at8 .before in let if2 = at9 .if2 in
+    let at10 = at9 .before in let is-leaf = at10 .is-leaf in
+    let at11 = at10 .before in let index = at11 .index in
+    let at12 = at11 .before in let read-triple = at12 .read-triple in
+    let at14 = at12 .before .before in let loop = at14 .loop in
+    (look-back _ _ _ _ _ _ _ _ _ _ (loop .inv .0) (if3 .left) (leaf-done _ _ _ _ _ _ _ _ _ _ (loop .inv .0) _ (read-triple .ensures) _ (index .ensures .0) _ (is-leaf .ensures) (if2 .taken) _ (index2 .ensures .0) (told-far _ _ _ _ _ _ _ _ _ _ (at-leaf .ensures) (enum-told2 .given .1))), kept-same _ _ _ _ _ (loop .inv .1) _ (told-same _ _ _ _ _ _ _ _ _ _ (at-leaf .ensures) (enum-told2 .given .1)))
 
 returns-4 : tie.Need-returns-4 Inv-loop μ-loop
-returns-4 c = (look-calm _ _ _ _ _ _ _ _ _ _ (c .before .before .before .before .before .before .before .before .before .before .before .before .before .loop .inv .0) (c .before .before .before .before .before .before .before .before .before .before .before .before .before .before .before .before .before .before .before .before .before .before .before .before .before .pre .0) (aimed-usable _ (c .before .before .before .before .before .before .before .before .before .before .before .before .before .before .before .before .before .before .before .before .before .before .before .before .before .pre .2)) (c .before .before .before .before .before .before .before .before .before .before .before .before .before .before .before .before .before .before .before .before .before .before .before .before .before .pre .3) (λ j. c .before .before .before .before .before .before .before .before .before .before .before .before .before .before .before .before .before .before .before .before .before .before .before .before .before .pre .1 (c .if4 .taken) _ j) (leaf-hides _ _ _ _ _ _ _ _ _ _ (c .before .before .before .before .before .before .before .before .before .before .before .before .before .loop .inv .0) _ (c .before .before .before .before .before .before .before .before .before .before .before .read-triple .ensures) _ (c .before .before .before .before .before .before .before .before .before .before .index .ensures .0) _ (c .before .before .before .before .before .before .before .before .before .is-leaf .ensures) (c .before .before .before .before .before .before .before .before .if2 .taken) _ (c .before .before .before .before .before .before .before .index2 .ensures .0) _ _ (told-short _ _ _ _ _ _ _ _ _ _ (c .before .before .before .before .before .at-leaf .ensures) (c .before .enum-told3 .given .1))), leaf-kept _ _ _ _ _ _ _ _ _ _ (c .before .before .before .before .before .before .before .before .before .before .before .before .before .loop .inv .0) _ (c .before .before .before .before .before .before .before .before .before .before .before .read-triple .ensures) _ (c .before .before .before .before .before .before .before .before .before .before .index .ensures .0) _ (c .before .before .before .before .before .before .before .before .before .is-leaf .ensures) (c .before .before .before .before .before .before .before .before .if2 .taken) _ (c .before .before .before .before .before .before .before .index2 .ensures .0) _ _ (told-short _ _ _ _ _ _ _ _ _ _ (c .before .before .before .before .before .at-leaf .ensures) (c .before .enum-told3 .given .1)) (c .before .before .before .before .before .before .before .before .before .before .before .before .before .loop .inv .1 .wide-stack))
+returns-4 c =
+    let at1 = c .before in let enum-told3 = at1 .enum-told3 in
+    let at5 = at1 .before .before .before .before in let at-leaf = at5 .at-leaf in
+    let at7 = at5 .before .before in let index2 = at7 .index2 in
+    let at8 = at7 .before in let if2 = at8 .if2 in
+    let at9 = at8 .before in let is-leaf = at9 .is-leaf in
+    let at10 = at9 .before in let index = at10 .index in
+    let at11 = at10 .before in let read-triple = at11 .read-triple in
+    let at13 = at11 .before .before in let loop = at13 .loop in
+    let at25 = at13 .before .before .before .before .before .before .before .before .before .before .before .before in let pre = at25 .pre in (
+      look-calm _ _ _ _ _ _ _ _ _ _ (loop .inv .0) (pre .0) (aimed-usable _ (pre .2)) (pre .3) (λ j. pre .1 (c .if4 .taken) _ j) (leaf-hides _ _ _ _ _ _ _ _ _ _ (loop .inv .0) _ (read-triple .ensures) _ (index .ensures .0) _ (is-leaf .ensures) (if2 .taken) _ (index2 .ensures .0) _ _ (told-short _ _ _ _ _ _ _ _ _ _ (at-leaf .ensures) (enum-told3 .given .1))),
+      leaf-kept _ _ _ _ _ _ _ _ _ _ (loop .inv .0) _ (read-triple .ensures) _ (index .ensures .0) _ (is-leaf .ensures) (if2 .taken) _
+          (index2 .ensures .0) _ _ (told-short _ _ _ _ _ _ _ _ _ _ (at-leaf .ensures) (enum-told3 .given .1)) (loop .inv .1 .wide-stack),
+    )
 
 returns-5 : tie.Need-returns-5 Inv-loop μ-loop
-returns-5 c = (look-end-hidden _ _ _ _ _ _ _ _ _ _ (c .before .before .before .before .before .before .before .before .before .before .before .before .before .before .loop .inv .0) (c .before .before .before .before .before .before .before .before .before .before .before .before .before .before .before .before .before .before .before .before .before .before .before .before .before .before .pre .0) (aimed-usable _ (c .before .before .before .before .before .before .before .before .before .before .before .before .before .before .before .before .before .before .before .before .before .before .before .before .before .before .pre .2)) (c .before .before .before .before .before .before .before .before .before .before .before .before .before .before .before .before .before .before .before .before .before .before .before .before .before .before .pre .3) (c .if5 .taken) (leaf-answered _ _ _ _ _ _ _ _ _ _ (c .before .before .before .before .before .before .before .before .before .before .before .before .before .before .loop .inv .0) _ (c .before .before .before .before .before .before .before .before .before .before .before .before .read-triple .ensures) _ (c .before .before .before .before .before .before .before .before .before .before .before .index .ensures .0) _ (c .before .before .before .before .before .before .before .before .before .before .is-leaf .ensures) (c .before .before .before .before .before .before .before .before .before .if2 .taken) _ (c .before .before .before .before .before .before .before .before .index2 .ensures .0) _ _ (told-short _ _ _ _ _ _ _ _ _ _ (c .before .before .before .before .before .before .at-leaf .ensures) (c .before .before .enum-told3 .given .1)) (c .before .if4 .left)) (leaf-hides _ _ _ _ _ _ _ _ _ _ (c .before .before .before .before .before .before .before .before .before .before .before .before .before .before .loop .inv .0) _ (c .before .before .before .before .before .before .before .before .before .before .before .before .read-triple .ensures) _ (c .before .before .before .before .before .before .before .before .before .before .before .index .ensures .0) _ (c .before .before .before .before .before .before .before .before .before .before .is-leaf .ensures) (c .before .before .before .before .before .before .before .before .before .if2 .taken) _ (c .before .before .before .before .before .before .before .before .index2 .ensures .0) _ _ (told-short _ _ _ _ _ _ _ _ _ _ (c .before .before .before .before .before .before .at-leaf .ensures) (c .before .before .enum-told3 .given .1))), leaf-kept _ _ _ _ _ _ _ _ _ _ (c .before .before .before .before .before .before .before .before .before .before .before .before .before .before .loop .inv .0) _ (c .before .before .before .before .before .before .before .before .before .before .before .before .read-triple .ensures) _ (c .before .before .before .before .before .before .before .before .before .before .before .index .ensures .0) _ (c .before .before .before .before .before .before .before .before .before .before .is-leaf .ensures) (c .before .before .before .before .before .before .before .before .before .if2 .taken) _ (c .before .before .before .before .before .before .before .before .index2 .ensures .0) _ _ (told-short _ _ _ _ _ _ _ _ _ _ (c .before .before .before .before .before .before .at-leaf .ensures) (c .before .before .enum-told3 .given .1)) (c .before .before .before .before .before .before .before .before .before .before .before .before .before .before .loop .inv .1 .wide-stack))
+returns-5 c =
+    let at1 = c .before in let if4 = at1 .if4 in
+    let at2 = at1 .before in let enum-told3 = at2 .enum-told3 in
+    let at6 = at2 .before .before .before .before in let at-leaf = at6 .at-leaf in
+    let at8 = at6 .before .before in let index2 = at8 .index2 in
+    let at9 = at8 .before in let if2 = at9 .if2 in
+    let at10 = at9 .before in let is-leaf = at10 .is-leaf in
+    let at11 = at10 .before in let index = at11 .index in
+    let at12 = at11 .before in let read-triple = at12 .read-triple in
+    let at14 = at12 .before .before in let loop = at14 .loop in
+    let at26 = at14 .before .before .before .before .before .before .before .before .before .before .before .before in let pre = at26 .pre in (
+      look-end-hidden _ _ _ _ _ _ _ _ _ _ (loop .inv .0) (pre .0) (aimed-usable _ (pre .2)) (pre .3) (c .if5 .taken) (leaf-answered _ _ _ _ _ _ _ _ _ _ (loop .inv .0) _ (read-triple .ensures) _ (index .ensures .0) _ (is-leaf .ensures) (if2 .taken) _ (index2 .ensures .0) _ _ (told-short _ _ _ _ _ _ _ _ _ _ (at-leaf .ensures) (enum-told3 .given .1)) (if4 .left)) (leaf-hides _ _ _ _ _ _ _ _ _ _ (loop .inv .0) _ (read-triple .ensures) _ (index .ensures .0) _ (is-leaf .ensures) (if2 .taken) _
+          (index2 .ensures .0) _ _ (told-short _ _ _ _ _ _ _ _ _ _ (at-leaf .ensures) (enum-told3 .given .1))),
+      leaf-kept _ _ _ _ _ _ _ _ _ _ (loop .inv .0) _ (read-triple .ensures) _ (index .ensures .0) _ (is-leaf .ensures) (if2 .taken) _ (index2 .ensures .0) _ _ (told-short _ _ _ _ _ _ _ _ _ _ (at-leaf .ensures) (enum-told3 .given .1)) (loop .inv .1 .wide-stack),
+    )
 
 loop-again-2 : tie.Need-loop-again-2 Inv-loop μ-loop
-loop-again-2 c = (look-hidden _ _ _ _ _ _ _ _ _ _ (c .before .before .before .before .before .before .before .before .before .before .before .before .before .before .before .loop .inv .0) (c .before .if5 .left) (leaf-answered _ _ _ _ _ _ _ _ _ _ (c .before .before .before .before .before .before .before .before .before .before .before .before .before .before .before .loop .inv .0) _ (c .before .before .before .before .before .before .before .before .before .before .before .before .before .read-triple .ensures) _ (c .before .before .before .before .before .before .before .before .before .before .before .before .index .ensures .0) _ (c .before .before .before .before .before .before .before .before .before .before .before .is-leaf .ensures) (c .before .before .before .before .before .before .before .before .before .before .if2 .taken) _ (c .before .before .before .before .before .before .before .before .before .index2 .ensures .0) _ _ (told-short _ _ _ _ _ _ _ _ _ _ (c .before .before .before .before .before .before .before .at-leaf .ensures) (c .before .before .before .enum-told3 .given .1)) (c .before .before .if4 .left)) (leaf-hides _ _ _ _ _ _ _ _ _ _ (c .before .before .before .before .before .before .before .before .before .before .before .before .before .before .before .loop .inv .0) _ (c .before .before .before .before .before .before .before .before .before .before .before .before .before .read-triple .ensures) _ (c .before .before .before .before .before .before .before .before .before .before .before .before .index .ensures .0) _ (c .before .before .before .before .before .before .before .before .before .before .before .is-leaf .ensures) (c .before .before .before .before .before .before .before .before .before .before .if2 .taken) _ (c .before .before .before .before .before .before .before .before .before .index2 .ensures .0) _ _ (told-short _ _ _ _ _ _ _ _ _ _ (c .before .before .before .before .before .before .before .at-leaf .ensures) (c .before .before .before .enum-told3 .given .1))), leaf-kept _ _ _ _ _ _ _ _ _ _ (c .before .before .before .before .before .before .before .before .before .before .before .before .before .before .before .loop .inv .0) _ (c .before .before .before .before .before .before .before .before .before .before .before .before .before .read-triple .ensures) _ (c .before .before .before .before .before .before .before .before .before .before .before .before .index .ensures .0) _ (c .before .before .before .before .before .before .before .before .before .before .before .is-leaf .ensures) (c .before .before .before .before .before .before .before .before .before .before .if2 .taken) _ (c .before .before .before .before .before .before .before .before .before .index2 .ensures .0) _ _ (told-short _ _ _ _ _ _ _ _ _ _ (c .before .before .before .before .before .before .before .at-leaf .ensures) (c .before .before .before .enum-told3 .given .1)) (c .before .before .before .before .before .before .before .before .before .before .before .before .before .before .before .loop .inv .1 .wide-stack))
+loop-again-2 c =
+    let at1 = c .before in let if5 = at1 .if5 in
+    let at2 = at1 .before in let if4 = at2 .if4 in
+    let at3 = at2 .before in let enum-told3 = at3 .enum-told3 in
+    let at7 = at3 .before .before .before .before in let at-leaf = at7 .at-leaf in
+    let at9 = at7 .before .before in let index2 = at9 .index2 in
+    let at10 = at9 .before in let if2 = at10 .if2 in
+    let at11 = at10 .before in let is-leaf = at11 .is-leaf in
+    let at12 = at11 .before in let index = at12 .index in
+    let at13 = at12 .before in let read-triple = at13 .read-triple in
+    let at15 = at13 .before .before in let loop = at15 .loop in (
+      look-hidden _ _ _ _ _ _ _ _ _ _ (loop .inv .0) (if5 .left) (leaf-answered _ _ _ _ _ _ _ _ _ _ (loop .inv .0) _ (read-triple .ensures) _ (index .ensures .0) _ (is-leaf .ensures) (if2 .taken) _ (index2 .ensures .0) _ _ (told-short _ _ _ _ _ _ _ _ _ _ (at-leaf .ensures) (enum-told3 .given .1)) (if4 .left)) (leaf-hides _ _ _ _ _ _ _ _ _ _ (loop .inv .0) _ (read-triple .ensures) _ (index .ensures .0) _ (is-leaf .ensures) (if2 .taken) _ (index2 .ensures .0) _ _ (told-short _ _ _ _ _ _ _ _ _ _
+          (at-leaf .ensures) (enum-told3 .given .1))),
+      leaf-kept _ _ _ _ _ _ _ _ _ _ (loop .inv .0) _ (read-triple .ensures) _ (index .ensures .0) _ (is-leaf .ensures) (if2 .taken) _ (index2 .ensures .0) _ _ (told-short _ _ _ _ _ _ _ _ _ _ (at-leaf .ensures) (enum-told3 .given .1)) (loop .inv .1 .wide-stack),
+    )
 
 sided-requires : tie.Need-sided-requires Inv-loop μ-loop
 sided-requires c κs = c .before .before .before .index .ensures .1
 
 misses-requires-2 : tie.Need-misses-requires-2 Inv-loop μ-loop
-misses-requires-2 c κs = (near-asked _ _ _ _ _ _ _ _ _ _ (c .before .before .before .before .before .before .before .loop .inv .0) _ (c .before .before .before .before .before .read-triple .ensures) _ (c .before .before .before .before .index .ensures .0) _ (c .before .before .before .is-leaf .ensures) (c .before .before .if2 .left) _ _ (c .sided .ensures) .0, c .before .before .before .before .before .before .before .before .before .before .before .before .before .before .before .before .before .before .before .pre .2, near-asked _ _ _ _ _ _ _ _ _ _ (c .before .before .before .before .before .before .before .loop .inv .0) _ (c .before .before .before .before .before .read-triple .ensures) _ (c .before .before .before .before .index .ensures .0) _ (c .before .before .before .is-leaf .ensures) (c .before .before .if2 .left) _ _ (c .sided .ensures) .1)
+misses-requires-2 c κs =
+    let at2 = c .before .before in let if2 = at2 .if2 in
+    let at3 = at2 .before in let is-leaf = at3 .is-leaf in
+    let at4 = at3 .before in let index = at4 .index in
+    let at5 = at4 .before in let read-triple = at5 .read-triple in
+    let at7 = at5 .before .before in let loop = at7 .loop in
+    let at19 = at7 .before .before .before .before .before .before .before .before .before .before .before .before in let pre = at19 .pre in
+    (near-asked _ _ _ _ _ _ _ _ _ _ (loop .inv .0) _ (read-triple .ensures) _ (index .ensures .0) _ (is-leaf .ensures) (if2 .left) _ _ (c .sided .ensures) .0, pre .2, near-asked _ _ _ _ _ _ _ _ _ _ (loop .inv .0) _ (read-triple .ensures) _ (index .ensures .0) _ (is-leaf .ensures) (if2 .left) _ _ (c .sided .ensures) .1)
 
 misses-requires-3 : tie.Need-misses-requires-3 Inv-loop μ-loop
-misses-requires-3 c κs = (far-asked _ _ _ _ _ _ _ _ _ _ (c .before .before .before .before .before .before .before .before .loop .inv .0) _ (c .before .before .before .before .before .before .read-triple .ensures) _ (c .before .before .before .before .before .index .ensures .0) _ (c .before .before .before .before .is-leaf .ensures) (c .before .before .before .if2 .left) _ _ (c .before .sided .ensures) .0, c .before .before .before .before .before .before .before .before .before .before .before .before .before .before .before .before .before .before .before .before .pre .2, far-asked _ _ _ _ _ _ _ _ _ _ (c .before .before .before .before .before .before .before .before .loop .inv .0) _ (c .before .before .before .before .before .before .read-triple .ensures) _ (c .before .before .before .before .before .index .ensures .0) _ (c .before .before .before .before .is-leaf .ensures) (c .before .before .before .if2 .left) _ _ (c .before .sided .ensures) .1)
+misses-requires-3 c κs =
+    let at1 = c .before in let sided = at1 .sided in
+    let at3 = at1 .before .before in let if2 = at3 .if2 in
+    let at4 = at3 .before in let is-leaf = at4 .is-leaf in
+    let at5 = at4 .before in let index = at5 .index in
+    let at6 = at5 .before in let read-triple = at6 .read-triple in
+    let at8 = at6 .before .before in let loop = at8 .loop in
+    let at20 = at8 .before .before .before .before .before .before .before .before .before .before .before .before in let pre = at20 .pre in
+    (far-asked _ _ _ _ _ _ _ _ _ _ (loop .inv .0) _ (read-triple .ensures) _ (index .ensures .0) _ (is-leaf .ensures) (if2 .left) _ _ (sided .ensures) .0, pre .2, far-asked _ _ _ _ _ _ _ _ _ _ (loop .inv .0) _ (read-triple .ensures) _ (index .ensures .0) _ (is-leaf .ensures) (if2 .left) _ _ (sided .ensures) .1)
 
 returns-6 : tie.Need-returns-6 Inv-loop μ-loop
-returns-6 c = (tells-as _ _ _ _ (c .ended2 .ensures) (look-end _ _ _ _ _ _ _ _ _ _ (c .before .before .before .before .before .before .before .before .before .before .before .before .before .loop .inv .0) (c .before .before .before .before .before .before .before .before .before .before .before .before .before .before .before .before .before .before .before .before .before .before .before .before .before .pre .0) (aimed-usable _ (c .before .before .before .before .before .before .before .before .before .before .before .before .before .before .before .before .before .before .before .before .before .before .before .before .before .pre .2)) (c .before .before .before .before .before .before .before .before .before .before .before .before .before .before .before .before .before .before .before .before .before .before .before .before .before .pre .3) (c .before .if8 .taken) (to-neither _ _ _ _ _ _ _ _ _ _ (c .before .before .before .before .before .before .before .before .before .before .before .before .before .loop .inv .0) _ (c .before .before .before .before .before .before .before .before .before .before .before .read-triple .ensures) _ (c .before .before .before .before .before .before .before .before .before .before .index .ensures .0) _ (c .before .before .before .before .before .before .before .before .before .is-leaf .ensures) (c .before .before .before .before .before .before .before .before .if2 .left) _ _ (c .before .before .before .before .before .before .sided .ensures) (c .before .before .before .before .before .misses2 .ensures (c .before .before .before .if6 .taken)) (c .before .before .before .before .misses3 .ensures (c .before .before .if7 .taken)))), c .before .before .before .before .before .before .before .before .before .before .before .before .before .loop .inv .1)
+returns-6 c =
+    let at1 = c .before in let if8 = at1 .if8 in
+    let at2 = at1 .before in let if7 = at2 .if7 in
+    let at3 = at2 .before in let if6 = at3 .if6 in
+    let at4 = at3 .before in let misses3 = at4 .misses3 in
+    let at5 = at4 .before in let misses2 = at5 .misses2 in
+    let at6 = at5 .before in let sided = at6 .sided in
+    let at8 = at6 .before .before in let if2 = at8 .if2 in
+    let at9 = at8 .before in let is-leaf = at9 .is-leaf in
+    let at10 = at9 .before in let index = at10 .index in
+    let at11 = at10 .before in let read-triple = at11 .read-triple in
+    let at13 = at11 .before .before in let loop = at13 .loop in
+    let at25 = at13 .before .before .before .before .before .before .before .before .before .before .before .before in let pre = at25 .pre in
+    (tells-as _ _ _ _ (c .ended2 .ensures) (look-end _ _ _ _ _ _ _ _ _ _ (loop .inv .0) (pre .0) (aimed-usable _ (pre .2)) (pre .3) (if8 .taken) (to-neither _ _ _ _ _ _ _ _ _ _ (loop .inv .0) _ (read-triple .ensures) _ (index .ensures .0) _ (is-leaf .ensures) (if2 .left) _ _ (sided .ensures) (misses2 .ensures (if6 .taken)) (misses3 .ensures (if7 .taken)))), loop .inv .1)
 
 loop-again-3 : tie.Need-loop-again-3 Inv-loop μ-loop
-loop-again-3 c = (look-back _ _ _ _ _ _ _ _ _ _ (c .before .before .before .before .before .before .before .before .before .before .before .before .before .loop .inv .0) (c .before .if8 .left) (to-neither _ _ _ _ _ _ _ _ _ _ (c .before .before .before .before .before .before .before .before .before .before .before .before .before .loop .inv .0) _ (c .before .before .before .before .before .before .before .before .before .before .before .read-triple .ensures) _ (c .before .before .before .before .before .before .before .before .before .before .index .ensures .0) _ (c .before .before .before .before .before .before .before .before .before .is-leaf .ensures) (c .before .before .before .before .before .before .before .before .if2 .left) _ _ (c .before .before .before .before .before .before .sided .ensures) (c .before .before .before .before .before .misses2 .ensures (c .before .before .before .if6 .taken)) (c .before .before .before .before .misses3 .ensures (c .before .before .if7 .taken))), c .before .before .before .before .before .before .before .before .before .before .before .before .before .loop .inv .1)
+loop-again-3 c =
+    let at1 = c .before in let if8 = at1 .if8 in
+    let at2 = at1 .before in let if7 = at2 .if7 in
+    let at3 = at2 .before in let if6 = at3 .if6 in
+    let at4 = at3 .before in let misses3 = at4 .misses3 in
+    let at5 = at4 .before in let misses2 = at5 .misses2 in
+    let at6 = at5 .before in let sided = at6 .sided in
+    let at8 = at6 .before .before in let if2 = at8 .if2 in
+    let at9 = at8 .before in let is-leaf = at9 .is-leaf in
+    let at10 = at9 .before in let index = at10 .index in
+    let at11 = at10 .before in let read-triple = at11 .read-triple in
+    let at13 = at11 .before .before in let loop = at13 .loop in
+    (look-back _ _ _ _ _ _ _ _ _ _ (loop .inv .0) (if8 .left) (to-neither _ _ _ _ _ _ _ _ _ _ (loop .inv .0) _ (read-triple .ensures) _ (index .ensures .0) _ (is-leaf .ensures) (if2 .left) _ _ (sided .ensures) (misses2 .ensures (if6 .taken)) (misses3 .ensures (if7 .taken))), loop .inv .1)
 
 loop-again-4 : tie.Need-loop-again-4 Inv-loop μ-loop
-loop-again-4 c = (to-far _ _ _ _ _ _ _ _ _ _ (c .before .before .before .before .before .before .before .before .before .before .before .loop .inv .0) _ (c .before .before .before .before .before .before .before .before .before .read-triple .ensures) _ (c .before .before .before .before .before .before .before .before .index .ensures .0) _ (c .before .before .before .before .before .before .before .is-leaf .ensures) (c .before .before .before .before .before .before .if2 .left) _ _ (c .before .before .before .before .sided .ensures) (c .before .before .before .misses2 .ensures (c .before .if6 .taken)), c .before .before .before .before .before .before .before .before .before .before .before .loop .inv .1)
+loop-again-4 c =
+    let at1 = c .before in let if6 = at1 .if6 in
+    let at3 = at1 .before .before in let misses2 = at3 .misses2 in
+    let at4 = at3 .before in let sided = at4 .sided in
+    let at6 = at4 .before .before in let if2 = at6 .if2 in
+    let at7 = at6 .before in let is-leaf = at7 .is-leaf in
+    let at8 = at7 .before in let index = at8 .index in
+    let at9 = at8 .before in let read-triple = at9 .read-triple in
+    let at11 = at9 .before .before in let loop = at11 .loop in
+    (to-far _ _ _ _ _ _ _ _ _ _ (loop .inv .0) _ (read-triple .ensures) _ (index .ensures .0) _ (is-leaf .ensures) (if2 .left) _ _ (sided .ensures) (misses2 .ensures (if6 .taken)), loop .inv .1)
 
 loop-again-5 : tie.Need-loop-again-5 Inv-loop μ-loop
-loop-again-5 c = (to-near _ _ _ _ _ _ _ _ _ _ (c .before .before .before .before .before .before .before .before .before .before .before .loop .inv .0) _ (c .before .before .before .before .before .before .before .before .before .read-triple .ensures) _ (c .before .before .before .before .before .before .before .before .index .ensures .0) _ (c .before .before .before .before .before .before .before .is-leaf .ensures) (c .before .before .before .before .before .before .if2 .left) _ _ (c .before .before .before .before .sided .ensures) (c .before .before .misses3 .ensures (c .if9 .taken)), c .before .before .before .before .before .before .before .before .before .before .before .loop .inv .1)
+loop-again-5 c =
+    let at2 = c .before .before in let misses3 = at2 .misses3 in
+    let at4 = at2 .before .before in let sided = at4 .sided in
+    let at6 = at4 .before .before in let if2 = at6 .if2 in
+    let at7 = at6 .before in let is-leaf = at7 .is-leaf in
+    let at8 = at7 .before in let index = at8 .index in
+    let at9 = at8 .before in let read-triple = at9 .read-triple in
+    let at11 = at9 .before .before in let loop = at11 .loop in
+    (to-near _ _ _ _ _ _ _ _ _ _ (loop .inv .0) _ (read-triple .ensures) _ (index .ensures .0) _ (is-leaf .ensures) (if2 .left) _ _ (sided .ensures) (misses3 .ensures (c .if9 .taken)), loop .inv .1)
 
 returns-7 : tie.Need-returns-7 Inv-loop μ-loop
-returns-7 c = (tt, c .before .before .before .before .before .before .before .before .before .before .before .before .loop .inv .1)
+returns-7 c =
+    let at12 = c .before .before .before .before .before .before .before .before .before .before .before .before in let loop = at12 .loop in
+    (tt, loop .inv .1)
 
 loop-again-6 : tie.Need-loop-again-6 Inv-loop μ-loop
-loop-again-6 c = (to-both _ _ _ _ _ _ _ _ _ _ (c .before .before .before .before .before .before .before .before .before .before .before .before .loop .inv .0) _ (c .before .before .before .before .before .before .before .before .before .before .read-triple .ensures) _ (c .before .before .before .before .before .before .before .before .before .index .ensures .0) _ (c .before .before .before .before .before .before .before .before .is-leaf .ensures) (c .before .before .before .before .before .before .before .if2 .left) _ _ (c .before .before .before .before .before .sided .ensures) (omega (arith, c .if10 .left)), kept-stack _ _ _ _ _ (c .before .before .before .before .before .before .before .before .before .before .before .before .loop .inv .1) _ (length-set (c .before .before .before .before .before .before .before .before .before .before .before .before .loop .stack) (c .before .before .before .before .before .before .before .before .before .before .before .before .loop .sp) (c .before .before .before .before .before .sided .result .far) ∙ c .before .before .before .before .before .before .before .before .before .before .before .before .loop .inv .1 .wide-stack))
+loop-again-6 c =
+    let at5 = c .before .before .before .before .before in let sided = at5 .sided in
+    let at7 = at5 .before .before in let if2 = at7 .if2 in
+    let at8 = at7 .before in let is-leaf = at8 .is-leaf in
+    let at9 = at8 .before in let index = at9 .index in
+    let at10 = at9 .before in let read-triple = at10 .read-triple in
+    let at12 = at10 .before .before in let loop = at12 .loop in
+    (to-both _ _ _ _ _ _ _ _ _ _ (loop .inv .0) _ (read-triple .ensures) _ (index .ensures .0) _ (is-leaf .ensures) (if2 .left) _ _ (sided .ensures) (omega (arith, c .if10 .left)), kept-stack _ _ _ _ _ (loop .inv .1) _ (length-set (loop .stack) (loop .sp) (sided .result .far) ∙ loop .inv .1 .wide-stack))
 
 returns-8 : tie.Need-returns-8 Inv-loop μ-loop
 returns-8 c = (tt, c .before .loop .inv .1)
 
 slice-read-i : tie.Need-slice-read-i Inv-loop μ-loop
-slice-read-i c = omega (arith, c .before .if3 .left, c .before .before .before .before .before .before .before .before .before .before .before .before .before .before .loop .inv .0 .low, c .before .before .before .before .before .before .before .before .before .before .before .before .before .before .loop .inv .0 .broad)
+slice-read-i c =
+    let at1 = c .before in let if3 = at1 .if3 in
+    let at14 = at1 .before .before .before .before .before .before .before .before .before .before .before .before .before in let loop = at14 .loop in
+    omega (arith, if3 .left, loop .inv .0 .low, loop .inv .0 .broad)
 
 slice-read-i-2 : tie.Need-slice-read-i-2 Inv-loop μ-loop
-slice-read-i-2 c = omega (arith, c .before .if5 .left, c .before .before .before .before .before .before .before .before .before .before .before .before .before .before .before .loop .inv .0 .low, c .before .before .before .before .before .before .before .before .before .before .before .before .before .before .before .loop .inv .0 .broad)
+slice-read-i-2 c =
+    let at1 = c .before in let if5 = at1 .if5 in
+    let at15 = at1 .before .before .before .before .before .before .before .before .before .before .before .before .before .before in let loop = at15 .loop in
+    omega (arith, if5 .left, loop .inv .0 .low, loop .inv .0 .broad)
 
 slice-read-i-3 : tie.Need-slice-read-i-3 Inv-loop μ-loop
-slice-read-i-3 c = omega (arith, c .before .if8 .left, c .before .before .before .before .before .before .before .before .before .before .before .before .before .loop .inv .0 .low, c .before .before .before .before .before .before .before .before .before .before .before .before .before .loop .inv .0 .broad)
+slice-read-i-3 c =
+    let at1 = c .before in let if8 = at1 .if8 in
+    let at13 = at1 .before .before .before .before .before .before .before .before .before .before .before .before in let loop = at13 .loop in
+    omega (arith, if8 .left, loop .inv .0 .low, loop .inv .0 .broad)
 
 slice-write-stack : tie.Need-slice-write-stack Inv-loop μ-loop
-slice-write-stack c = omega (arith, c .if10 .left, c .before .before .before .before .before .before .before .before .before .before .before .before .loop .inv .0 .broad)
+slice-write-stack c =
+    let at12 = c .before .before .before .before .before .before .before .before .before .before .before .before in let loop = at12 .loop in
+    omega (arith, c .if10 .left, loop .inv .0 .broad)
 
 mul-stack : tie.Need-mul-stack Inv-loop μ-loop
 mul-stack c = omega (arith, c .if10 .left)
 
-sub-sp : tie.Need-sub-sp Inv-loop μ-loop
-sub-sp c = search needs
-
-sub-sp-2 : tie.Need-sub-sp-2 Inv-loop μ-loop
-sub-sp-2 c = search needs
-
-sub-sp-3 : tie.Need-sub-sp-3 Inv-loop μ-loop
-sub-sp-3 c = search needs
-
-mul-i : tie.Need-mul-i Inv-loop μ-loop
-mul-i c = search needs
-
-mul-i-2 : tie.Need-mul-i-2 Inv-loop μ-loop
-mul-i-2 c = search needs
-
-mul-i-3 : tie.Need-mul-i-3 Inv-loop μ-loop
-mul-i-3 c = search needs
-
 same-length : tie.Need-same-length Inv-loop μ-loop
-same-length c = ap length (told-unsure _ _ _ _ _ _ _ _ _ _ (c .before .before .before .before .at-leaf .ensures) (c .enum-told .given .1)) ∙ c .before .before .before .before .before .before .before .before .before .before .before .before .loop .inv .1 .wide ∙ sym (c .before .before .before .before .before .before .before .before .before .before .before .before .before .before .before .before .before .before .before .before .before .before .before .before .pre .4 .wide)
+same-length c =
+    let at4 = c .before .before .before .before in let at-leaf = at4 .at-leaf in
+    let at12 = at4 .before .before .before .before .before .before .before .before in let loop = at12 .loop in
+    let at24 = at12 .before .before .before .before .before .before .before .before .before .before .before .before in let pre = at24 .pre in
+    ap length (told-unsure _ _ _ _ _ _ _ _ _ _ (at-leaf .ensures) (c .enum-told .given .1)) ∙ loop .inv .1 .wide ∙ sym (pre .4 .wide)
 
 same-length-2 : tie.Need-same-length-2 Inv-loop μ-loop
-same-length-2 c = c .before .before .before .before .before .before .before .before .before .before .before .before .loop .inv .1 .wide-stack ∙ sym (c .before .before .before .before .before .before .before .before .before .before .before .before .before .before .before .before .before .before .before .before .before .before .before .before .pre .4 .wide-stack)
+same-length-2 c =
+    let at12 = c .before .before .before .before .before .before .before .before .before .before .before .before in let loop = at12 .loop in
+    let at24 = at12 .before .before .before .before .before .before .before .before .before .before .before .before in let pre = at24 .pre in
+    loop .inv .1 .wide-stack ∙ sym (pre .4 .wide-stack)
 
 same-length-3 : tie.Need-same-length-3 Inv-loop μ-loop
-same-length-3 c = ap length (told-same _ _ _ _ _ _ _ _ _ _ (c .before .before .before .before .before .before .at-leaf .ensures) (c .before .before .enum-told2 .given .1)) ∙ c .before .before .before .before .before .before .before .before .before .before .before .before .before .before .loop .inv .1 .wide ∙ sym (c .before .before .before .before .before .before .before .before .before .before .before .before .before .before .before .before .before .before .before .before .before .before .before .before .before .before .pre .4 .wide)
+same-length-3 c =
+    let at2 = c .before .before in let enum-told2 = at2 .enum-told2 in
+    let at6 = at2 .before .before .before .before in let at-leaf = at6 .at-leaf in
+    let at14 = at6 .before .before .before .before .before .before .before .before in let loop = at14 .loop in
+    let at26 = at14 .before .before .before .before .before .before .before .before .before .before .before .before in let pre = at26 .pre in
+    ap length (told-same _ _ _ _ _ _ _ _ _ _ (at-leaf .ensures) (enum-told2 .given .1)) ∙ loop .inv .1 .wide ∙ sym (pre .4 .wide)
 
 same-length-4 : tie.Need-same-length-4 Inv-loop μ-loop
-same-length-4 c = c .before .before .before .before .before .before .before .before .before .before .before .before .before .before .loop .inv .1 .wide-stack ∙ sym (c .before .before .before .before .before .before .before .before .before .before .before .before .before .before .before .before .before .before .before .before .before .before .before .before .before .before .pre .4 .wide-stack)
+same-length-4 c =
+    let at14 = c .before .before .before .before .before .before .before .before .before .before .before .before .before .before in let loop = at14 .loop in
+    let at26 = at14 .before .before .before .before .before .before .before .before .before .before .before .before in let pre = at26 .pre in
+    loop .inv .1 .wide-stack ∙ sym (pre .4 .wide-stack)
 
 same-length-5 : tie.Need-same-length-5 Inv-loop μ-loop
-same-length-5 c = (told-short _ _ _ _ _ _ _ _ _ _ (c .before .before .before .before .before .at-leaf .ensures) (c .before .enum-told3 .given .1)) .wide ∙ sym (c .before .before .before .before .before .before .before .before .before .before .before .before .before .before .before .before .before .before .before .before .before .before .before .before .before .pre .4 .wide)
+same-length-5 c =
+    let at1 = c .before in let enum-told3 = at1 .enum-told3 in
+    let at5 = at1 .before .before .before .before in let at-leaf = at5 .at-leaf in
+    let at25 = at5 .before .before .before .before .before .before .before .before .before .before .before .before .before .before .before .before .before .before .before .before in let pre = at25 .pre in
+    (told-short _ _ _ _ _ _ _ _ _ _ (at-leaf .ensures) (enum-told3 .given .1)) .wide ∙ sym (pre .4 .wide)
 
 same-length-6 : tie.Need-same-length-6 Inv-loop μ-loop
-same-length-6 c = c .before .before .before .before .before .before .before .before .before .before .before .before .before .loop .inv .1 .wide-stack ∙ sym (c .before .before .before .before .before .before .before .before .before .before .before .before .before .before .before .before .before .before .before .before .before .before .before .before .before .pre .4 .wide-stack)
+same-length-6 c =
+    let at13 = c .before .before .before .before .before .before .before .before .before .before .before .before .before in let loop = at13 .loop in
+    let at25 = at13 .before .before .before .before .before .before .before .before .before .before .before .before in let pre = at25 .pre in
+    loop .inv .1 .wide-stack ∙ sym (pre .4 .wide-stack)
 
 same-length-7 : tie.Need-same-length-7 Inv-loop μ-loop
-same-length-7 c = (told-short _ _ _ _ _ _ _ _ _ _ (c .before .before .before .before .before .before .at-leaf .ensures) (c .before .before .enum-told3 .given .1)) .wide ∙ sym (c .before .before .before .before .before .before .before .before .before .before .before .before .before .before .before .before .before .before .before .before .before .before .before .before .before .before .pre .4 .wide)
+same-length-7 c =
+    let at2 = c .before .before in let enum-told3 = at2 .enum-told3 in
+    let at6 = at2 .before .before .before .before in let at-leaf = at6 .at-leaf in
+    let at26 = at6 .before .before .before .before .before .before .before .before .before .before .before .before .before .before .before .before .before .before .before .before in let pre = at26 .pre in
+    (told-short _ _ _ _ _ _ _ _ _ _ (at-leaf .ensures) (enum-told3 .given .1)) .wide ∙ sym (pre .4 .wide)
 
 same-length-8 : tie.Need-same-length-8 Inv-loop μ-loop
-same-length-8 c = c .before .before .before .before .before .before .before .before .before .before .before .before .before .before .loop .inv .1 .wide-stack ∙ sym (c .before .before .before .before .before .before .before .before .before .before .before .before .before .before .before .before .before .before .before .before .before .before .before .before .before .before .pre .4 .wide-stack)
+same-length-8 c =
+    let at14 = c .before .before .before .before .before .before .before .before .before .before .before .before .before .before in let loop = at14 .loop in
+    let at26 = at14 .before .before .before .before .before .before .before .before .before .before .before .before in let pre = at26 .pre in
+    loop .inv .1 .wide-stack ∙ sym (pre .4 .wide-stack)
 
 same-length-9 : tie.Need-same-length-9 Inv-loop μ-loop
-same-length-9 c = c .before .before .before .before .before .before .before .before .before .before .before .before .before .loop .inv .1 .wide ∙ sym (c .before .before .before .before .before .before .before .before .before .before .before .before .before .before .before .before .before .before .before .before .before .before .before .before .before .pre .4 .wide)
+same-length-9 c =
+    let at13 = c .before .before .before .before .before .before .before .before .before .before .before .before .before in let loop = at13 .loop in
+    let at25 = at13 .before .before .before .before .before .before .before .before .before .before .before .before in let pre = at25 .pre in
+    loop .inv .1 .wide ∙ sym (pre .4 .wide)
 
 same-length-10 : tie.Need-same-length-10 Inv-loop μ-loop
-same-length-10 c = c .before .before .before .before .before .before .before .before .before .before .before .before .before .loop .inv .1 .wide-stack ∙ sym (c .before .before .before .before .before .before .before .before .before .before .before .before .before .before .before .before .before .before .before .before .before .before .before .before .before .pre .4 .wide-stack)
+same-length-10 c =
+    let at13 = c .before .before .before .before .before .before .before .before .before .before .before .before .before in let loop = at13 .loop in
+    let at25 = at13 .before .before .before .before .before .before .before .before .before .before .before .before in let pre = at25 .pre in
+    loop .inv .1 .wide-stack ∙ sym (pre .4 .wide-stack)
 
 same-length-11 : tie.Need-same-length-11 Inv-loop μ-loop
-same-length-11 c = c .before .before .before .before .before .before .before .before .before .before .before .before .loop .inv .1 .wide ∙ sym (c .before .before .before .before .before .before .before .before .before .before .before .before .before .before .before .before .before .before .before .before .before .before .before .before .pre .4 .wide)
+same-length-11 c =
+    let at12 = c .before .before .before .before .before .before .before .before .before .before .before .before in let loop = at12 .loop in
+    let at24 = at12 .before .before .before .before .before .before .before .before .before .before .before .before in let pre = at24 .pre in
+    loop .inv .1 .wide ∙ sym (pre .4 .wide)
 
 same-length-12 : tie.Need-same-length-12 Inv-loop μ-loop
-same-length-12 c = c .before .before .before .before .before .before .before .before .before .before .before .before .loop .inv .1 .wide-stack ∙ sym (c .before .before .before .before .before .before .before .before .before .before .before .before .before .before .before .before .before .before .before .before .before .before .before .before .pre .4 .wide-stack)
+same-length-12 c =
+    let at12 = c .before .before .before .before .before .before .before .before .before .before .before .before in let loop = at12 .loop in
+    let at24 = at12 .before .before .before .before .before .before .before .before .before .before .before .before in let pre = at24 .pre in
+    loop .inv .1 .wide-stack ∙ sym (pre .4 .wide-stack)
 
 same-length-13 : tie.Need-same-length-13 Inv-loop μ-loop
-same-length-13 c = c .before .loop .inv .1 .wide ∙ sym (c .before .before .before .before .before .before .before .before .before .before .before .before .before .pre .4 .wide)
+same-length-13 c =
+    let at1 = c .before in let loop = at1 .loop in
+    let at13 = at1 .before .before .before .before .before .before .before .before .before .before .before .before in let pre = at13 .pre in
+    loop .inv .1 .wide ∙ sym (pre .4 .wide)
 
 same-length-14 : tie.Need-same-length-14 Inv-loop μ-loop
-same-length-14 c = c .before .loop .inv .1 .wide-stack ∙ sym (c .before .before .before .before .before .before .before .before .before .before .before .before .before .pre .4 .wide-stack)
+same-length-14 c =
+    let at1 = c .before in let loop = at1 .loop in
+    let at13 = at1 .before .before .before .before .before .before .before .before .before .before .before .before in let pre = at13 .pre in
+    loop .inv .1 .wide-stack ∙ sym (pre .4 .wide-stack)
 
 pub look-spec : {M : Type 1} → statement M
 look-spec =
     tie.close
     (tie.spec
-    Inv-loop μ-loop misses-requires returns loop-holds (λ c. search needs) read-triple-requires (λ c κs. tt) (λ c κs. tt) (λ c κs. tt) at-leaf-requires (λ c. search needs) same-length same-length-2 returns-2 (λ c. search needs) (λ c κs. tt) same-length-3 same-length-4 returns-3 sub-sp mul-i slice-read-i (λ c. search needs) loop-again (λ c. search needs) same-length-5 same-length-6 returns-4 same-length-7 same-length-8 returns-5 sub-sp-2 mul-i-2 slice-read-i-2 (λ c. search needs) loop-again-2 (λ c κs. tt) sided-requires misses-requires-2 misses-requires-3 (λ c κs. tt) same-length-9 same-length-10 returns-6 sub-sp-3 mul-i-3 slice-read-i-3 (λ c. search needs) loop-again-3 (λ c. search needs) loop-again-4 (λ c. search needs) loop-again-5 same-length-11 same-length-12 returns-7 mul-stack slice-write-stack (λ c. search needs) (λ c. search needs) loop-again-6 same-length-13 same-length-14 returns-8)
+    Inv-loop μ-loop misses-requires returns loop-holds (λ c. search needs) read-triple-requires (λ c κs. tt) (λ c κs. tt) (λ c κs. tt) at-leaf-requires (λ c. search needs) same-length same-length-2 returns-2 (λ c. search needs) (λ c κs. tt) same-length-3 same-length-4 returns-3 (λ c. search needs) (λ c. search needs) slice-read-i (λ c. search needs) loop-again (λ c. search needs) same-length-5 same-length-6 returns-4 same-length-7 same-length-8 returns-5 (λ c. search needs)
+    (λ c. search needs) slice-read-i-2 (λ c. search needs) loop-again-2 (λ c κs. tt) sided-requires misses-requires-2 misses-requires-3 (λ c κs. tt) same-length-9 same-length-10 returns-6 (λ c. search needs) (λ c. search needs) slice-read-i-3 (λ c. search needs) loop-again-3 (λ c. search needs) loop-again-4 (λ c. search needs) loop-again-5 same-length-11 same-length-12 returns-7 mul-stack slice-write-stack (λ c. search needs) (λ c. search needs) loop-again-6 same-length-13 same-length-14 returns-8)

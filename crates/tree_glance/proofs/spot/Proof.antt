@@ -21,16 +21,46 @@ returns : tie.Need-returns Inv-loop μ-loop
 returns c = spotting-gone _ _ _ _ _ _ _ _ (c .before .before .loop .inv .0) (omega (arith, c .before .before .loop .inv .1, c .if1 .taken))
 
 returns-2 : tie.Need-returns-2 Inv-loop μ-loop
-returns-2 c = spotting-unknown _ _ _ _ _ _ _ _ (c .before .before .before .before .before .before .before .before .loop .inv .0) (c .before .before .before .before .before .before .before .loop-test .taken) (omega (arith, c .before .before .before .before .before .before .before .before .loop .inv .1, c .before .before .before .before .before .before .if1 .left)) _ _ _ _ refl (c .before .before .before .before .index .ensures .0) (c .before .before .before .hit-from .ensures) (c .before .before .judged .ensures) (c .enum-told .given .1)
+returns-2 c =
+    let at2 = c .before .before in let judged = at2 .judged in
+    let at3 = at2 .before in let hit-from = at3 .hit-from in
+    let at4 = at3 .before in let index = at4 .index in
+    let at6 = at4 .before .before in let if1 = at6 .if1 in
+    let at7 = at6 .before in let loop-test = at7 .loop-test in
+    let at8 = at7 .before in let loop = at8 .loop in
+    spotting-unknown _ _ _ _ _ _ _ _ (loop .inv .0) (loop-test .taken) (omega (arith, loop .inv .1, if1 .left)) _ _ _ _ refl (index .ensures .0) (hit-from .ensures) (judged .ensures) (c .enum-told .given .1)
 
 returns-3 : tie.Need-returns-3 Inv-loop μ-loop
-returns-3 c = spotting-short _ _ _ _ _ _ _ _ (c .before .before .before .before .before .before .before .before .before .before .loop .inv .0) (c .before .before .before .before .before .before .before .before .before .loop-test .taken) (omega (arith, c .before .before .before .before .before .before .before .before .before .before .loop .inv .1, c .before .before .before .before .before .before .before .before .if1 .left)) _ _ _ _ refl (c .before .before .before .before .before .before .index .ensures .0) (c .before .before .before .before .before .hit-from .ensures) (c .before .before .before .before .judged .ensures) _ (c .before .before .s .given .1) (c .if2 .taken)
+returns-3 c =
+    let at2 = c .before .before in let s = at2 .s in
+    let at4 = at2 .before .before in let judged = at4 .judged in
+    let at5 = at4 .before in let hit-from = at5 .hit-from in
+    let at6 = at5 .before in let index = at6 .index in
+    let at8 = at6 .before .before in let if1 = at8 .if1 in
+    let at9 = at8 .before in let loop-test = at9 .loop-test in
+    let at10 = at9 .before in let loop = at10 .loop in
+    spotting-short _ _ _ _ _ _ _ _ (loop .inv .0) (loop-test .taken) (omega (arith, loop .inv .1, if1 .left)) _ _ _ _ refl (index .ensures .0) (hit-from .ensures) (judged .ensures) _ (s .given .1) (c .if2 .taken)
 
 loop-again : tie.Need-loop-again Inv-loop μ-loop
-loop-again c = (spotting-on _ _ _ _ _ _ _ _ (c .before .before .before .before .before .before .before .before .before .before .loop .inv .0) (c .before .before .before .before .before .before .before .before .before .loop-test .taken) (omega (arith, c .before .before .before .before .before .before .before .before .before .before .loop .inv .1, c .before .before .before .before .before .before .before .before .if1 .left)) _ _ _ _ refl (c .before .before .before .before .before .before .index .ensures .0) (c .before .before .before .before .before .hit-from .ensures) (c .before .before .before .before .judged .ensures) _ (c .before .before .s .given .1) (c .if2 .left), c .before .before .before .before .before .before .before .before .before .before .loop .inv .1)
+loop-again c =
+    let at2 = c .before .before in let s = at2 .s in
+    let at4 = at2 .before .before in let judged = at4 .judged in
+    let at5 = at4 .before in let hit-from = at5 .hit-from in
+    let at6 = at5 .before in let index = at6 .index in
+    let at8 = at6 .before .before in let if1 = at8 .if1 in
+    let at9 = at8 .before in let loop-test = at9 .loop-test in
+    let at10 = at9 .before in let loop = at10 .loop in
+    (spotting-on _ _ _ _ _ _ _ _ (loop .inv .0) (loop-test .taken) (omega (arith, loop .inv .1, if1 .left)) _ _ _ _ refl (index .ensures .0) (hit-from .ensures) (judged .ensures) _ (s .given .1) (c .if2 .left), loop .inv .1)
 
 loop-again-2 : tie.Need-loop-again-2 Inv-loop μ-loop
-loop-again-2 c = (spotting-clear _ _ _ _ _ _ _ _ (c .before .before .before .before .before .before .before .before .loop .inv .0) (c .before .before .before .before .before .before .before .loop-test .taken) (omega (arith, c .before .before .before .before .before .before .before .before .loop .inv .1, c .before .before .before .before .before .before .if1 .left)) _ _ _ _ refl (c .before .before .before .before .index .ensures .0) (c .before .before .before .hit-from .ensures) (c .before .before .judged .ensures) (c .enum-told2 .given .1), c .before .before .before .before .before .before .before .before .loop .inv .1)
+loop-again-2 c =
+    let at2 = c .before .before in let judged = at2 .judged in
+    let at3 = at2 .before in let hit-from = at3 .hit-from in
+    let at4 = at3 .before in let index = at4 .index in
+    let at6 = at4 .before .before in let if1 = at6 .if1 in
+    let at7 = at6 .before in let loop-test = at7 .loop-test in
+    let at8 = at7 .before in let loop = at8 .loop in
+    (spotting-clear _ _ _ _ _ _ _ _ (loop .inv .0) (loop-test .taken) (omega (arith, loop .inv .1, if1 .left)) _ _ _ _ refl (index .ensures .0) (hit-from .ensures) (judged .ensures) (c .enum-told2 .given .1), loop .inv .1)
 
 returns-4 : tie.Need-returns-4 Inv-loop μ-loop
 returns-4 c = spotting-end _ _ _ _ _ _ _ _ (c .before .loop .inv .0) (c .loop-test .left)
