@@ -90,6 +90,7 @@ module _ (k q : ℕ) (top : k < 2046) (again : (k + 52) / 2 + 485 ≡ k) (one : 
 abbrev One : ℕ
 One = 0x3FF0_0000_0000_0000
 
+-- No wider: the number 2 ^ 27 + 2 patterns above 1 has another root.
 pub near-one : (b r : ℕ) → One - 2 ^ 27 ≤ b → b ≤ One + 2 ^ 27 → Half b One r → ofBits binary64 r ≡ sqrtOf (ofBits binary64 b)
 near-one b r lo hi h = elim (le-or-lt One b) [ inl l ↦ above l | inr l ↦ below l ]
   where
