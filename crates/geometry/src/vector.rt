@@ -31,6 +31,13 @@ impl Vector {
         sqrt::root(self.length_squared())
     }
 
+    // The same for a vector that is mostly of length one, whose root is then next to no work.
+    pub fn norm_near(self) -> f64
+        ensures { λ r. ⌜ r ≡ Vectors.lengthOf self ⌝ }
+    {
+        sqrt::root_near(self.length_squared())
+    }
+
     // The length with the exact remainder of its root, of the computed sum of squares.
     pub fn length(self) -> Rooted
         ensures { λ r. ⌜ (r .root ≡ Vectors.lengthOf self) × (r .rest ≡ Vectors.lengthRest self) ⌝ }

@@ -102,7 +102,7 @@ fn inverse_at(inverses: &[f64], i: usize) -> Matrix
 }
 
 // The hit of a placing of the simple solid in row k, by the inverse in row i. The inverse is read twice: direction
-// and origin turned in one go would put the ray through memory.
+// and origin turned in one go would put the ray through memory. A rigid placing's scale is next to one.
 fn turned_hit(
     numbers: &[f64],
     inverses: &[f64],
@@ -116,7 +116,7 @@ fn turned_hit(
     ensures { λ p. ⌜ p ≡ Plains.turnedHit (simpleOf kind (numbersOf (row 16 k (now (numbers .entry))))) (mulRay (matrixOf (numbersOf (row 16 i (now (inverses .entry))))) (rayOf o d)) ⌝ }
 {
     let e = inverse_at(inverses, i).mul_vector(d);
-    let scale = e.norm();
+    let scale = e.norm_near();
     let p = inverse_at(inverses, i).mul_position(o);
     over_scale(
         scale,

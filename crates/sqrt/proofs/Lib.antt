@@ -6,3 +6,4 @@ pub mod Rests
 pub mod Monotone
 pub mod Nearest
 pub mod Remainder
+pub mod NearOne

@@ -214,3 +214,19 @@ pub fn root(x: f64) -> f64
     let mut rest: i64 = 0;
     root_and_rest(x, &mut rest)
 }
+
+// The root of what is mostly next to one, as the square of a rigid placing's scale: there the root's bit
+// pattern is half way from that of x to that of 1, rounded down.
+pub fn root_near(x: f64) -> f64
+    ensures { λ r. ⌜ r ≡ sqrtOf x ⌝ }
+{
+    if x == x {
+        let b: u64 = f64::to_bits(x);
+        if 0x3fef_ffff_f800_0000 <= b {
+            if b <= 0x3ff0_0000_0800_0000 {
+                return f64::from_bits((b + 0x3ff0_0000_0000_0000) / 2);
+            }
+        }
+    }
+    root(x)
+}

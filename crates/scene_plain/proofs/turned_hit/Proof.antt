@@ -17,7 +17,7 @@ returns c =
     let at2 = at1 .before in let div-scalar = at2 .div-scalar in
     let at3 = at2 .before in let mul-position = at3 .mul-position in
     let at4 = at3 .before in let inverse-at2 = at4 .inverse-at2 in
-    let at5 = at4 .before in let norm = at5 .norm in
+    let at5 = at4 .before in let norm = at5 .norm-near in
     let at6 = at5 .before in let mul-vector = at6 .mul-vector in
     turned-steps _ _ _ _ (at6 .before .inverse-at .ensures) (mul-vector .ensures) (norm .ensures) (inverse-at2 .ensures) (mul-position .ensures) (div-scalar .ensures) (measured-hit .ensures) (c .over-scale .ensures)
 
