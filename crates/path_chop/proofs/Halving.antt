@@ -1,17 +1,17 @@
--- Halving, the loop over the second halves of a segment, and the one over the segments of a path. Assumes nothing.
+-- Halving, the loop over the pieces of a segment, and the one over the segments of a path. Assumes nothing.
 use mathlib.Core.Path.{_≡_, refl, sym, ap, _∙_, subst}
 use mathlib.Core.Bool.{Bool, true, false}
-use mathlib.Core.List.{List}
+use mathlib.Core.List.{List, _∷_}
 use Prim.Native.Nat.{ℕ, zero, suc, _+_, _-_, _*_, _/_, _≤_, _<_}
 use native.Mathlib.Numerals.{sub-one}
 use native.Mathlib.Omega.{arith}
 use lib.Dec.{T}
-use lib.ListN.{length}
+use lib.ListN.{length, getD, set}
 use lib.Seq.{slice, slice-empty}
 use lib.Ieee.{Float}
 use Rattle.geometry.specs.declared.vector.Vector.{Vector}
 use Rattle.refusals.specs.declared.Refusal.{Refusal}
-use Rattle.rows.specs.Rows.{row}
+use Rattle.rows.specs.Rows.{row, setRow}
 use Rattle.rows.specs.Points.{points, pointOf}
 use Rattle.paths.specs.Answers.{Answer, answered, refused, next}
 use Rattle.paths.specs.Paths.{push, onePath, stage}
@@ -31,6 +31,8 @@ use Rattle.view.specs.declared.RenderArgs.{RenderArgs}
 use Rattle.path_chop.specs.declared.Screen.{Screen}
 use Rattle.path_chop.specs.declared.Spot.{Spot}
 use Rattle.path_chop.specs.Chop.{screenOf, spotOf, middleOf, stops, pushOr, subdivide, done, mostHalvings, chopFrom, pathChop, chopPaths, callUpto, chopCall}
+use Rattle.path_chop.specs.Waits.{spotIn, spotRow}
+use Rattle.path_chop.proofs.Waiting.{waiting, ahead, Within, waiting-more, within-more, waiting-next, within-next, turns, turnsOf, turns-more, next-next, next-none}
 
 -- ---- a segment, by whether it is halved
 module _ (s : Screen) (room : ℕ) (a b : Spot) (vs : List Vector) (t : Bool) where
@@ -59,40 +61,73 @@ unfolding done
 done-some s a b zero n e = absurd (n refl)
 done-some s a b (suc left) n e = e
 
--- ---- a segment, its second halves in a loop: what is left of it answers as the whole does
-pub record Subdividing (s : Screen) (a b : Spot) (depth : ℕ) (out₀ : List Float) (n : ℕ) (out : List Float) (from : Spot) (left m : ℕ) : Type 0 where
+-- ---- a segment in a loop: the piece at hand, and then those that lead to the ends that wait, answer as the whole does
+pub record Subdividing (s : Screen) (a b : Spot) (out₀ : List Float) (n : ℕ) (es : List Float) (ls : List ℕ) (out : List Float) (from to : Spot) (left m k : ℕ) : Type 0 where
   pub same : length out ≡ length out₀
-  pub upto : left ≤ depth
+  pub upto : left + k ≤ mostHalvings
+  pub within : Within ls k
   pub fits : m * 3 ≤ length out
-  pub rest : subdivide s (places out₀) left from b (points m out) ≡ subdivide s (places out₀) depth a b (points n out₀)
+  pub rest : next (subdivide s (places out₀) left from to (points m out)) (ahead s (places out₀) (waiting es ls k) to) ≡ subdivide s (places out₀) mostHalvings a b (points n out₀)
 
-module _ (s : Screen) (a b : Spot) (depth : ℕ) (out₀ : List Float) (n : ℕ) where
-  pub subdividing-start : n * 3 ≤ length out₀ → Subdividing s a b depth out₀ n out₀ a depth n
-  subdividing-start f = record { same = refl; upto = omega arith; fits = f; rest = refl }
+module _ (s : Screen) (a b : Spot) (out₀ : List Float) (n : ℕ) where
+  pub subdividing-start : (es : List Float) (ls : List ℕ) → n * 3 ≤ length out₀ → Subdividing s a b out₀ n es ls out₀ a b mostHalvings n 0
+  unfolding waiting ahead Within
+  subdividing-start es ls f = record { same = refl; upto = omega arith; within = tt; fits = f; rest = next-none _ }
 
-  module _ (out : List Float) (from : Spot) (left m : ℕ) (h : Subdividing s a b depth out₀ n out from left m) (t : Bool) (et : t ≡ done s left from b) where
-    -- the room is what it was at the start
-    as-rest : {x : Answer (List Vector)} → subdivide s (places out) left from b (points m out) ≡ x → subdivide s (places out₀) depth a b (points n out₀) ≡ x
-    as-rest e = sym (h .rest) ∙ ap (λ (l : ℕ). subdivide s (l / 3) left from b (points m out)) (sym (h .same)) ∙ e
+  module _ (es : List Float) (ls : List ℕ) (out : List Float) (from to : Spot) (left m k : ℕ) (h : Subdividing s a b out₀ n es ls out from to left m k) (t : Bool) (et : t ≡ done s left from to) where
+    -- the piece is halved, and its end waits
+    module _ (e : t ≡ false) (le : length es ≡ 222) (ll : length ls ≡ 37) where
+      pub subdividing-room : (k * 6 + 6 ≤ length es) × (k < length ls)
+      subdividing-room = let l : 0 < left = some-left s from to t left et e in (omega (arith, h .upto), omega (arith, h .upto))
 
-    pub subdividing-end : t ≡ true → (zs : List Float) {r : Count} → Ends (push (places out) (points m out) (b .at)) zs r → Ends (subdivide s (places out₀) depth a b (points n out₀)) zs r
-    subdividing-end e zs w = ends-as (as-rest (stop-here s (places out) from b (points m out) t left et e)) w
+      module _ (es′ : List Float) (ls′ : List ℕ) (ee : es′ ≡ setRow 6 k (spotRow to) es) (el : ls′ ≡ set ls k (left - 1)) where
+        pub subdividing-less : turns (left - 1) + turnsOf (waiting es′ ls′ (k + 1)) < turns left + turnsOf (waiting es ls k)
+        subdividing-less = turns-more es ls k left es′ ls′ to (subdividing-room .0) (subdividing-room .1) ee el (some-left s from to t left et e)
 
-    module _ (e : t ≡ false) (mid : Spot) (em : mid ≡ middleOf s from b) (out′ : List Float) {r : Count} (w : Ends (subdivide s (places out) (left - 1) from mid (points m out)) out′ r) where
-      halves : subdivide s (places out₀) depth a b (points n out₀) ≡ next (subdivide s (places out) (left - 1) from mid (points m out)) (subdivide s (places out) (left - 1) mid b)
-      halves = as-rest (halve s (places out) from b (points m out) t left mid et e em)
+        module _ (mid : Spot) (em : mid ≡ middleOf s from to) where
+          still : next (subdivide s (places out₀) (left - 1) from mid (points m out)) (ahead s (places out₀) (record { end = to; left = left - 1 } ∷ waiting es ls k) mid) ≡ subdivide s (places out₀) mostHalvings a b (points n out₀)
+          unfolding ahead
+          still =
+              sym (next-next (subdivide s (places out₀) (left - 1) from mid (points m out)) (subdivide s (places out₀) (left - 1) mid to) (ahead s (places out₀) (waiting es ls k) to))
+              ∙ sym (ap (λ (x : Answer (List Vector)). next x (ahead s (places out₀) (waiting es ls k) to)) (halve s (places out₀) from to (points m out) t left mid et e em))
+              ∙ h .rest
 
-      pub subdividing-turn : {q : ℕ} → length out′ ≡ length out → r ≡ At q → Subdividing s a b depth out₀ n out′ mid (left - 1) q
-      subdividing-turn {q} k p = record {
-        same = k ∙ h .same;
-        upto = omega (arith, h .upto);
-        fits = w .fits q p;
-        rest = ap (λ (l : ℕ). subdivide s (l / 3) (left - 1) mid b (points q out′)) (sym (h .same))
-            ∙ sym (halves ∙ ap (λ (x : Answer (List Vector)). next x (subdivide s (places out) (left - 1) mid b)) (ends-at w p));
-      }
+          pub subdividing-halved : Subdividing s a b out₀ n es′ ls′ out from mid (left - 1) m (k + 1)
+          subdividing-halved =
+              let l : 0 < left = some-left s from to t left et e in
+              record {
+                same = h .same;
+                upto = omega (arith, h .upto);
+                within = within-more es ls k to (left - 1) es′ ls′ (subdividing-room .0) (subdividing-room .1) ee el (h .within) (omega (arith, h .upto));
+                fits = h .fits;
+                rest = rw (waiting-more es ls k to (left - 1) es′ ls′ (subdividing-room .0) (subdividing-room .1) ee el) still;
+              }
 
-      pub subdividing-refused : {k : Refusal} → r ≡ Refused k → Ends (subdivide s (places out₀) depth a b (points n out₀)) out′ (Refused k)
-      subdividing-refused p = refuses out′ (halves ∙ ap (λ (x : Answer (List Vector)). next x (subdivide s (places out) (left - 1) mid b)) (ends-refused w p))
+    -- the piece is done: its end is pushed
+    module _ (e : t ≡ true) (out′ : List Float) {r : Count} (w : Ends (push (places out) (points m out) (to .at)) out′ r) where
+      pushed : subdivide s (places out₀) mostHalvings a b (points n out₀) ≡ next (push (places out) (points m out) (to .at)) (ahead s (places out₀) (waiting es ls k) to)
+      pushed = sym (h .rest) ∙ ap (λ (x : Answer (List Vector)). next x (ahead s (places out₀) (waiting es ls k) to)) (stop-here s (places out₀) from to (points m out) t left et e ∙ ap (λ (l : ℕ). push (l / 3) (points m out) (to .at)) (sym (h .same)))
+
+      pub subdividing-refused : {x : Refusal} → r ≡ Refused x → Ends (subdivide s (places out₀) mostHalvings a b (points n out₀)) out′ (Refused x)
+      subdividing-refused p = refuses out′ (pushed ∙ rw (ends-refused w p))
+
+      module _ {q : ℕ} (p : r ≡ At q) where
+        goes-on : subdivide s (places out₀) mostHalvings a b (points n out₀) ≡ ahead s (places out₀) (waiting es ls k) to (points q out′)
+        goes-on = pushed ∙ rw (ends-at w p)
+
+        pub subdividing-end : k ≡ 0 → Ends (subdivide s (places out₀) mostHalvings a b (points n out₀)) out′ (At q)
+        unfolding waiting ahead
+        subdividing-end z = answers q out′ (goes-on ∙ rw z) (w .fits q p)
+
+        pub subdividing-next : (to′ : Spot) → to′ ≡ spotIn (row 6 (k - 1) es) → 0 < k → length out′ ≡ length out → Subdividing s a b out₀ n es ls out′ to to′ (getD ls (k - 1) 0) q (k - 1)
+        unfolding ahead
+        subdividing-next to′ ez z g = record {
+          same = g ∙ h .same;
+          upto = omega (arith, within-next es ls k z (h .within) .0);
+          within = within-next es ls k z (h .within) .1;
+          fits = w .fits q p;
+          rest = sym (goes-on ∙ rw (waiting-next es ls k z, ← ez));
+        }
 
 -- ---- a path, segment by segment: what is left to chop answers as the whole does
 pub record Chopping (s : Screen) (path out₀ : List Float) (first : Spot) (from end n : ℕ) (out : List Float) (a : Spot) (i m : ℕ) : Type 0 where

@@ -1,12 +1,15 @@
 // The adaptive chop: segments are halved until they are short on the sheet or off it.
 ghost use mathlib.Core.Path.{_≡_};
-ghost use Prim.Native.Nat.{_*_, _≤_};
-ghost use lib.ListN.{length};
+ghost use Prim.Native.Nat.{_+_, _*_, _≤_, _<_};
+ghost use lib.ListN.{length, set};
 ghost use lib.Seq.{slice};
 ghost use Rattle.rows.specs.Points.{points};
+ghost use Rattle.rows.specs.Rows.{row, setRow};
 ghost use Rattle.paths.specs.Paths.{onePath};
 ghost use Rattle.paths.specs.Ends.{places, allPoints, Ends, held, EndsBoth, Finished};
 ghost use Rattle.path_chop.specs.Chop as Chop;
+ghost use Rattle.path_chop.specs.Waits.{spotIn, spotRow};
+use geometry::bounding_box::BBox;
 use geometry::vector::Vector;
 use matrix::Matrix;
 use paths::Count;
@@ -114,36 +117,72 @@ fn done(s: Screen, a: Spot, b: Spot, left: usize) -> bool
     stops(s, a, b)
 }
 
-// The ends of the pieces of a segment go after the first n points; `depth` nested halvings are left.
-// The first half is chopped by a call, the second by the next turn.
-fn recursive_subdivide(
+// An end waits after k others: the spot as six numbers, as a box's corners are kept, and how many
+// halvings are left for the piece that leads to it.
+fn wait(ends: &mut [f64], lefts: &mut [usize], k: usize, p: Spot, left: usize)
+    requires { ⌜ (k * 6 + 6 ≤ length (now ends)) × (k < length (now lefts)) ⌝ }
+    ensures { λ _. ⌜ (now (ends .exit) ≡ setRow 6 k (spotRow p) (now (ends .entry))) × (now (lefts .exit) ≡ set (now (lefts .entry)) k left) ⌝ }
+{
+    let min = p.at;
+    let max = p.seen;
+    lefts[k] = left;
+    rows::write_box(ends, k, BBox { min, max });
+}
+
+// The spot in row i.
+fn read_spot(xs: &[f64], i: usize) -> Spot
+    requires { ⌜ i * 6 + 6 ≤ length (now xs) ⌝ }
+    ensures { λ r. ⌜ r ≡ spotIn (row 6 i (now (xs .entry))) ⌝ }
+{
+    let b = rows::read_box(xs, i);
+    let at = b.min;
+    let seen = b.max;
+    Spot { at, seen }
+}
+
+// The ends of the pieces of a segment go after the first n points. Where a piece is halved, its end
+// waits while its first half is chopped: k ends wait, the last of them next.
+fn subdivide(
     s: Screen,
     a: Spot,
     b: Spot,
-    depth: usize,
+    ends: &mut [f64; 222],
+    lefts: &mut [usize; 37],
     out: &mut [f64],
     n: usize,
 ) -> Count
     requires { ⌜ n * 3 ≤ length (now out) ⌝ }
-    ensures { λ r. ⌜ Ends (Chop.subdivide s (places (now (out .entry))) depth a b (points n (now (out .entry)))) (now (out .exit)) r ⌝ }
+    ensures { λ r. ⌜ Ends (Chop.subdivide s (places (now (out .entry))) Chop.mostHalvings a b (points n (now (out .entry)))) (now (out .exit)) r ⌝ }
 {
     let mut from = a;
-    let mut left = depth;
+    let mut to = b;
+    let mut left = 37;
     let mut m = n;
-    while !done(s, from, b, left) {
-        left -= 1;
-        let mid = middle(s, from, b);
-        let r = recursive_subdivide(s, from, mid, left, out, m);
+    let mut k = 0;
+    loop {
+        if !done(s, from, to, left) {
+            left -= 1;
+            wait(ends, lefts, k, to, left);
+            k += 1;
+            to = middle(s, from, to);
+            continue;
+        }
+        let p = to.at;
+        let r = paths::push(out, m, p);
         match r {
-            Count::Refused(k) => return Count::Refused(k),
+            Count::Refused(e) => return Count::Refused(e),
             Count::At(q) => {
                 m = q;
             }
         }
-        from = mid;
+        if k == 0 {
+            return Count::At(m);
+        }
+        k -= 1;
+        from = to;
+        to = read_spot(ends, k);
+        left = lefts[k];
     }
-    let p = b.at;
-    paths::push(out, m, p)
 }
 
 // The segments that lead to the points from `from` up to `end`, from the spot before them.
@@ -153,6 +192,8 @@ fn chop_from(
     first: Spot,
     from: usize,
     end: usize,
+    ends: &mut [f64; 222],
+    lefts: &mut [usize; 37],
     out: &mut [f64],
     n: usize,
 ) -> Count
@@ -165,7 +206,7 @@ fn chop_from(
     while i < end {
         let v = rows::read_point(path, i);
         let b = spot_of(s, v);
-        let r = recursive_subdivide(s, a, b, 37, out, m);
+        let r = subdivide(s, a, b, ends, lefts, out, m);
         match r {
             Count::Refused(k) => return Count::Refused(k),
             Count::At(q) => {
@@ -183,6 +224,8 @@ fn path_chop_adaptive(
     path: &[f64],
     from: usize,
     end: usize,
+    ends: &mut [f64; 222],
+    lefts: &mut [usize; 37],
     out: &mut [f64],
     n: usize,
 ) -> Count
@@ -197,7 +240,7 @@ fn path_chop_adaptive(
     let r = paths::push(out, n, v);
     match r {
         Count::Refused(k) => Count::Refused(k),
-        Count::At(q) => chop_from(s, path, a, from + 1, end, out, q),
+        Count::At(q) => chop_from(s, path, a, from + 1, end, ends, lefts, out, q),
     }
 }
 
@@ -207,6 +250,8 @@ fn one_path(
     path: &[f64],
     from: usize,
     end: usize,
+    ends: &mut [f64; 222],
+    lefts: &mut [usize; 37],
     out: &mut [f64],
     begins: &mut [usize],
     n: usize,
@@ -219,7 +264,7 @@ fn one_path(
     match o {
         Count::Refused(k) => Counts::Refused(k),
         Count::At(q) => {
-            let r = path_chop_adaptive(s, path, from, end, out, n);
+            let r = path_chop_adaptive(s, path, from, end, ends, lefts, out, n);
             match r {
                 Count::Refused(k) => Counts::Refused(k),
                 Count::At(l) => {
@@ -242,13 +287,26 @@ pub fn chop_paths(
     ensures { λ r. ⌜ EndsBoth (Chop.chopPaths args (allPoints (now (path .entry))) (now (starts .entry)) (places (now (out .entry))) (length (now (begins .entry)))) (now (out .exit)) (now (begins .exit)) r ⌝ }
 {
     let s = screen_of(args);
+    let mut ends = [0.0; 222];
+    let mut lefts = [0usize; 37];
     let total = path.len() / 3;
     let mut n = 0;
     let mut m = 0;
     let mut i = 0;
     while i < starts.len() {
         let p = paths::range_of(starts, i, total);
-        let r = one_path(s, path, p.from, p.end, out, begins, n, m);
+        let r = one_path(
+            s,
+            path,
+            p.from,
+            p.end,
+            &mut ends,
+            &mut lefts,
+            out,
+            begins,
+            n,
+            m,
+        );
         match r {
             Counts::Refused(k) => return Counts::Refused(k),
             Counts::Both(a, b) => {

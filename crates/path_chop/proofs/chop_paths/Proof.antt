@@ -13,59 +13,59 @@ use Rattle.path_chop.proofs.chop_paths.Statement.{statement}
 use Rattle.path_chop.proofs.chop_paths.Tie as tie
 
 abbrev Inv-loop : tie.InvT-loop
-Inv-loop path starts out₀ begins₀ s total n₀ m₀ i₀ out begins n m i = Staging (onePath (pathChop mostHalvings s)) path starts out₀ begins₀ out begins i n m
+Inv-loop path starts out₀ begins₀ s ends₀ lefts₀ total n₀ m₀ i₀ out begins ends lefts n m i = Staging (onePath (pathChop mostHalvings s)) path starts out₀ begins₀ out begins i n m
 
 abbrev μ-loop : tie.MeasureT-loop
-μ-loop path starts out₀ begins₀ s total n₀ m₀ i₀ out begins n m i = length starts - i
+μ-loop path starts out₀ begins₀ s ends₀ lefts₀ total n₀ m₀ i₀ out begins ends lefts n m i = length starts - i
 
 loop-holds : tie.Need-loop-holds Inv-loop μ-loop
 loop-holds c = staging-start _ _ _ _ _
 
 one-path-requires : tie.Need-one-path-requires Inv-loop μ-loop
 one-path-requires c κs =
-    let at2 = c .before .before in let range-of = at2 .range-of in
-    let at4 = at2 .before .before in let loop = at4 .loop in
-    let at10 = at4 .before .before .before .before .before .before in let args = at10 .args in
+    let at4 = c .before .before .before .before in let range-of = at4 .range-of in
+    let at6 = at4 .before .before in let loop = at6 .loop in
+    let at12 = at6 .before .before .before .before .before .before in let args = at12 .args in
     let w = range-fits (args .path .now) (args .starts .now) (loop .i) (range-of .result) (range-of .ensures) in
     (w .0, w .1, loop .inv .fits, loop .inv .fits-starts)
 
 same-length : tie.Need-same-length Inv-loop μ-loop
 same-length c =
     let at7 = c .before .before .before .before .before .before .before in let one-path = at7 .one-path in
-    let at12 = at7 .before .before .before .before .before in let loop = at12 .loop in
-    one-path .kept .1 .1 .1 .1 .0 ∙ loop .inv .same
+    let at14 = at7 .before .before .before .before .before .before .before in let loop = at14 .loop in
+    one-path .kept .1 .1 .1 .1 .1 .1 .0 ∙ loop .inv .same
 
 same-length-2 : tie.Need-same-length-2 Inv-loop μ-loop
 same-length-2 c =
     let at7 = c .before .before .before .before .before .before .before in let one-path = at7 .one-path in
-    let at12 = at7 .before .before .before .before .before in let loop = at12 .loop in
-    one-path .kept .1 .1 .1 .1 .1 .0 ∙ loop .inv .same-starts
+    let at14 = at7 .before .before .before .before .before .before .before in let loop = at14 .loop in
+    one-path .kept .1 .1 .1 .1 .1 .1 .1 .0 ∙ loop .inv .same-starts
 
 returns : tie.Need-returns Inv-loop μ-loop
 returns c =
     let at1 = c .before in let r = at1 .r in
     let at7 = at1 .before .before .before .before .before .before in let one-path = at7 .one-path in
-    let at10 = at7 .before .before .before in let range-of = at10 .range-of in
-    let at11 = at10 .before in let loop-test = at11 .loop-test in
-    let at12 = at11 .before in let loop = at12 .loop in
-    let at13 = at12 .before in let screen-of = at13 .screen-of in
-    let at18 = at13 .before .before .before .before .before in let args = at18 .args in
+    let at12 = at7 .before .before .before .before .before in let range-of = at12 .range-of in
+    let at13 = at12 .before in let loop-test = at13 .loop-test in
+    let at14 = at13 .before in let loop = at14 .loop in
+    let at15 = at14 .before in let screen-of = at15 .screen-of in
+    let at20 = at15 .before .before .before .before .before in let args = at20 .args in
     chopped-as (args .args) (allPoints (args .path .now)) (args .starts .now) (places (args .out .now)) (length (args .begins .now)) (screen-of .ensures) (staging-refused _ _ _ _ _ _ _ _ _ _ (loop .inv) (loop-test .taken) _ (range-of .ensures) _ _ (one-path .ensures) (r .given .1))
 
 add-i : tie.Need-add-i Inv-loop μ-loop
 add-i c =
-    let at11 = c .before .before .before .before .before .before .before .before .before .before .before in let loop-test = at11 .loop-test in
-    let at18 = at11 .before .before .before .before .before .before .before in let good = at18 .good in
+    let at13 = c .before .before .before .before .before .before .before .before .before .before .before .before .before in let loop-test = at13 .loop-test in
+    let at20 = at13 .before .before .before .before .before .before .before in let good = at20 .good in
     omega (arith, loop-test .taken, good)
 
 loop-again : tie.Need-loop-again Inv-loop μ-loop
 loop-again c =
     let at1 = c .before in let r2 = at1 .r2 in
     let at7 = at1 .before .before .before .before .before .before in let one-path = at7 .one-path in
-    let at10 = at7 .before .before .before in let range-of = at10 .range-of in
-    let at11 = at10 .before in let loop-test = at11 .loop-test in
-    let at12 = at11 .before in let loop = at12 .loop in
-    staging-turn _ _ _ _ _ _ _ _ _ _ (loop .inv) (loop-test .taken) _ (range-of .ensures) _ _ (one-path .ensures) (one-path .kept .1 .1 .1 .1 .0) (one-path .kept .1 .1 .1 .1 .1 .0) (r2 .given .1)
+    let at12 = at7 .before .before .before .before .before in let range-of = at12 .range-of in
+    let at13 = at12 .before in let loop-test = at13 .loop-test in
+    let at14 = at13 .before in let loop = at14 .loop in
+    staging-turn _ _ _ _ _ _ _ _ _ _ (loop .inv) (loop-test .taken) _ (range-of .ensures) _ _ (one-path .ensures) (one-path .kept .1 .1 .1 .1 .1 .1 .0) (one-path .kept .1 .1 .1 .1 .1 .1 .1 .0) (r2 .given .1)
 
 same-length-3 : tie.Need-same-length-3 Inv-loop μ-loop
 same-length-3 c = c .before .loop .inv .same

@@ -21,10 +21,10 @@ returns c =
 
 chop-from-requires : tie.Need-chop-from-requires
 chop-from-requires c κs =
-    let at2 = c .before .before in let r2 = at2 .r2 in
-    let at6 = at2 .before .before .before .before in let push′ = at6 .push in
-    let at10 = at6 .before .before .before .before in let if1 = at10 .if1 in
-    let at13 = at10 .before .before .before in let pre = at13 .pre in
+    let at4 = c .before .before .before .before in let r2 = at4 .r2 in
+    let at8 = at4 .before .before .before .before in let push′ = at8 .push in
+    let at12 = at8 .before .before .before .before in let if1 = at12 .if1 in
+    let at15 = at12 .before .before .before in let pre = at15 .pre in
     (omega (arith, if1 .left), pre .1, push′ .ensures .fits _ (r2 .given .1))
 
 returns-2 : tie.Need-returns-2
@@ -41,13 +41,13 @@ returns-2 c =
 returns-3 : tie.Need-returns-3
 returns-3 c =
     let at2 = c .before .before in let chop-from = at2 .chop-from in
-    let at5 = at2 .before .before .before in let r2 = at5 .r2 in
-    let at9 = at5 .before .before .before .before in let push′ = at9 .push in
-    let at11 = at9 .before .before in let spot-of = at11 .spot-of in
-    let at12 = at11 .before in let read-point = at12 .read-point in
-    let at13 = at12 .before in let if1 = at13 .if1 in
-    let at16 = at13 .before .before .before in let args = at16 .args in
-    let pre = at16 .pre in
+    let at7 = at2 .before .before .before .before .before in let r2 = at7 .r2 in
+    let at11 = at7 .before .before .before .before in let push′ = at11 .push in
+    let at13 = at11 .before .before in let spot-of = at13 .spot-of in
+    let at14 = at13 .before in let read-point = at14 .read-point in
+    let at15 = at14 .before in let if1 = at15 .if1 in
+    let at18 = at15 .before .before .before in let args = at18 .args in
+    let pre = at18 .pre in
     ends-as (chop-some (args .s) (args .path .now) (args .from) (args .end) _ _ (read-point .result) (spot-of .result) (if1 .left) (pre .1) (read-point .ensures) (spot-of .ensures)) (run-on (λ (l : ℕ) (o : List Vector). push l o (read-point .result)) (λ (l : ℕ) (o : List Vector). chopFrom mostHalvings (args .s) l (spot-of .result) (slice (args .from + 1) (args .end) (allPoints (args .path .now))) o) (args .out .now) _ (args .n) (push′ .ensures) _ (r2 .given .1) (push′ .kept .0) (chop-from .ensures))
 
 pub path-chop-adaptive-spec : {M : Type 1} → statement M
