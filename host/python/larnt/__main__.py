@@ -10,9 +10,9 @@ import shlex
 import sys
 import time
 import webbrowser
-from typing import List, Optional, Sequence, Tuple
+from typing import Any, Callable, Dict, List, Optional, Sequence, Tuple
 
-from . import forms, matrices, plotter, progress, scene, sheets, solids, texts, turn
+from . import forms, matrices, outlines, plotter, progress, scene, sheets, solids, texts, turn
 from .camera import Camera, View
 from .drawing import Drawing
 from .library import Missing
@@ -40,8 +40,9 @@ def arguments(given: Optional[Sequence[str]]) -> argparse.Namespace:
     add("--target", nargs=3, type=float, metavar=("X", "Y", "Z"), help="what one looks at (default: the middle of the yard where --eye is given)")
     add("--fov", type=float, metavar="DEGREES", help="field of view, from the lower edge to the upper (default: that of the text, or 40)")
     add("--step", type=float, metavar="MM", help="the longest piece between two tested points (default: that of the text; 0.5 without a view)")
-    add("--outlines", choices=("kept", "missing", "all"), help="round solids: the lines of the text as they stand (default), an outline where there are none, "
-        "or an outline for all in place of their lines (default where the eye is moved)")
+    add("--outlines", choices=LINES, help="round solids: the lines of the text kept as they stand (default), with rings rounded as fine as the step (default where "
+        "that is finer than the text's), an outline where lines are missing, an outline for all in place of their lines (default where the eye is moved), or "
+        "the core's own outlines, which lie in the surface")
     add("--threshold", type=float, default=scene.FINE, help="of simplification (default %(default)g; 1e-4 for fewer vertices)")
     add("--most-points", type=int, default=scene.MOST_POINTS, metavar="N", help="the most room that a draw is lent (default %(default)s)")
     add("--paper", default="A4", help="A0 to A5, or WIDTHxHEIGHT in millimetres (default A4, landscape)")
@@ -59,8 +60,7 @@ def arguments(given: Optional[Sequence[str]]) -> argparse.Namespace:
     add("--port", type=int, default=0, help="where to serve (default: any that is free)")
     add("--open", action="store_true", help="opens the page in the browser")
     add("--step", type=float, default=0.5, metavar="MM", help="at rest, the longest piece between two tested points, on an A4 sheet (default %(default)g)")
-    add("--outlines", choices=("kept", "missing", "all"), default="all", help="round solids: an outline for all in place of their lines (default), an outline "
-        "where there are none, or the lines of the text as they stand")
+    add("--outlines", choices=LINES, default="all", help="round solids, as of sheet; by default an outline for all in place of their lines")
     rewriting = commands.add_parser("canonical", help="the text of a yard in canonical form", description="Prints a yard one form a line, counts in decimal and every other "
                                     "number by its bits, as the core writes it; what is drawn of it stays the same, bit for bit.")
     rewriting.add_argument("yard", help="the text, or - for standard input")
@@ -134,32 +134,54 @@ def middle(of: Scene) -> List[float]:
     return [(min(low[k] for low, _ in boxes) + max(high[k] for _, high in boxes)) / 2 for k in range(3)]
 
 
-def outlined(solid: Solid, every: bool) -> Solid:
-    """The solid with outlines by the host, for every round part of it or for those without lines and stripes."""
-    return solids.changed(solid, lambda inner: dataclasses.replace(inner, lines=None) if every or bare(inner) else inner)
-
-
 def bare(solid: Solid) -> bool:
-    return isinstance(solid, solids.Round) and solid.lines == () and not solids.detail(solid)
+    """Whether a solid is left to the core: a round one without lines and stripes."""
+    return isinstance(solid, solids.Round) and solid.lines == solids.BY_CORE and not solids.detail(solid)
 
 
-def every_solid(of: Sequence[Solid]) -> List[Solid]:
-    return [inner for solid in of for inner in [solid, *every_solid(solids.parts(solid))]]
+# what becomes of the lines of a round solid, by the words of --outlines
+LINES: Dict[str, Callable[[Any], Optional[solids.Lines]]] = {
+    "kept": lambda solid: solid.lines,
+    "rounded": lambda solid: solids.Rounded(solid.lines),
+    "missing": lambda solid: None if bare(solid) else solid.lines,
+    "all": lambda solid: None,
+    "core": lambda solid: solids.BY_CORE,
+}
 
 
-def with_outlines(options: argparse.Namespace, of: Scene) -> Tuple[Scene, List[str]]:
-    """The scene with the outlines that the options ask for, and what is to be noted of them."""
-    drawn = [part.solid for part in of.parts]
-    moved = bool(options.eye or options.target)
-    how = options.outlines or ("all" if moved else "kept")
-    if how == "kept":
-        lines = sorted({solid.source[0] for solid in every_solid(drawn) if bare(solid) and solid.source})
-        some = ", ".join(map(str, lines[:8])) + (", .." if len(lines) > 8 else "")
-        said = f"the core draws the outlines of round solids without lines, in their surface, where they may hide parts of them (text line {some}); --outlines missing draws them off it"
-        return of, [said] if lines else []
-    anew = moved and not options.outlines and any(isinstance(s, solids.Round) and s.lines for s in every_solid(drawn))
-    said = "the eye is moved, so the outlines of round solids are made anew and the text's lines for them left out; --outlines kept keeps these"
-    return Scene([outlined(solid, how == "all") for solid in drawn]), [said] if anew else []
+def every_solid(of: Scene) -> List[Solid]:
+    def within(solid: Solid) -> List[Solid]:
+        return [solid, *(inner for part in solids.parts(solid) for inner in within(part))]
+
+    return [solid for part in of.parts for solid in within(part.solid)]
+
+
+def with_outlines(how: str, of: Scene) -> Scene:
+    """The scene with the lines that --outlines asks for."""
+    def lined(solid: Any) -> Solid:
+        return dataclasses.replace(solid, lines=LINES[how](solid))
+
+    return Scene([solids.changed(part.solid, lined) for part in of.parts])
+
+
+def by_core(how: str, of: Scene) -> List[str]:
+    """What is said where the core draws outlines."""
+    lines = sorted({solid.source[0] for solid in every_solid(of) if bare(solid) and solid.source})
+    some, other = ", ".join(map(str, lines[:8])) + (", .." if len(lines) > 8 else ""), "all" if how == "core" else "missing"
+    said = f"the core draws the outlines of round solids without lines, in their surface, where they may hide parts of them (text line {some}); --outlines {other} draws them off it"
+    return [said] if lines else []
+
+
+def default_outlines(options: argparse.Namespace, yard: forms.Yard, view: View) -> Tuple[str, List[str]]:
+    """What --outlines is where it is not given, and what is said of that: the text's lines were made for one eye and one step."""
+    lines = [line for solid in every_solid(yard.scene) if isinstance(solid, solids.Round) for line in solid.lines or ()]
+    if options.eye or options.target:
+        said = "the eye is moved, so the outlines of round solids are made anew and the text's lines for them left out; --outlines kept keeps these"
+        return "all", [said] if lines else []
+    if yard.view and 0 < view.step and not 0 < yard.view.step <= view.step:
+        said = "the step is finer than the text's, so the rings of its lines are made as fine; --outlines kept keeps them as they stand"
+        return "rounded", [said] if any(map(outlines.centre, lines)) else []
+    return "kept", []
 
 
 def drawn(of: Scene, view: View, options: argparse.Namespace) -> Drawing:
@@ -181,8 +203,10 @@ def drawn(of: Scene, view: View, options: argparse.Namespace) -> Drawing:
 
 def made(options: argparse.Namespace, text: str, sheet: Sheet) -> None:
     yard = forms.read(text)
-    of, notes = with_outlines(options, yard.scene)
-    view = seen_by(options, forms.Yard(yard.view, of), sheet)
+    view = seen_by(options, yard, sheet)
+    how, notes = (options.outlines, []) if options.outlines else default_outlines(options, yard, view)
+    of = with_outlines(how, yard.scene)
+    notes += by_core(how, of)
     try:
         drawing = drawn(of, view, options)
     except Refused as refusal:
@@ -209,8 +233,7 @@ def made(options: argparse.Namespace, text: str, sheet: Sheet) -> None:
 def turned(options: argparse.Namespace, text: str) -> None:
     """Serves the page until it is ended."""
     yard, sheet = forms.read(text), Sheet()
-    options.eye = options.target = None
-    of, notes = with_outlines(options, yard.scene)
+    of = with_outlines(options.outlines, yard.scene)
     _, _, wide, high = sheet.area()
     width, height = (yard.view.width, yard.view.height) if yard.view else (wide, high)
     if not (0 < width < math.inf and 0 < height < math.inf):
@@ -225,7 +248,7 @@ def turned(options: argparse.Namespace, text: str) -> None:
     except (OSError, OverflowError) as error:
         raise ValueError(f"--port {options.port}: {getattr(error, 'strerror', None) or error}") from None
     with server:
-        for said in notes:
+        for said in by_core(options.outlines, of):
             note(said, "turn")
         print(f"{name}: {server.address()} (Ctrl-C ends it)", flush=True)
         if options.open:

@@ -10,6 +10,10 @@ Within a cut lines must lie on the surface: a cut keeps a line only where it is 
 the rings are exact, and have so many points that no chord is longer than the step on the sheet: a longer one is
 halved by the core, and its middle lies off the surface. The edges stand a little on this side of where the wall
 turns away.
+
+Rings that a text hands in were made for one step. At a finer one the core halves their chords, and the middles lie
+beside the surface: a cut loses them, and a wall or a base may hide them. `Rounded` lines are made finer here first: the
+points in between lie on the ring's own circle, so on the same surface, or as far off it as the ring's own points.
 """
 from __future__ import annotations
 
@@ -20,11 +24,14 @@ from typing import List, Optional, Sequence, Tuple, Union
 from . import matrices
 from .camera import View
 from .matrices import Matrix, Vector
-from .solids import Cone, Cylinder, Lines, Sphere
+from .solids import Cone, Cylinder, Lines, Rounded, Sphere
 
 OFF = 0.001  # how far off the surface, in radii
 TURNED = 0.01  # how far on this side an edge of a cut's part stands, in radians
 FINEST = 6144  # the most points of a ring in a cut
+SHARPEST = 0.85  # the cosine of the sharpest turn within a ring: 12 points make one, a corner does not
+LOOSE = 0.01  # how far from its circle a point of a ring may be, in radii: texts have whole millimetres
+HALVINGS = 8  # of a chord that is made round, at most
 
 Line = List[Vector]
 
@@ -57,6 +64,34 @@ def chord(ring: Line, world: Matrix, view: View) -> float:
     """The longest piece of a ring on the sheet; what is behind the eye has none."""
     spots = [view.spot(matrices.placed(world, p)) for p in ring]
     return max((math.dist(a, b) for a, b in zip(spots, spots[1:]) if a and b), default=0.0)
+
+
+def centre(line: Sequence[Vector]) -> Optional[Vector]:
+    """The centre of the circle that a line's points lie on, where it bends as one; None of what is straight or has
+    corners."""
+    chords = [matrices.minus(b, a) for a, b in zip(line, line[1:])]
+    lengths = [matrices.length(chord) for chord in chords]
+    if len(chords) < 2 or not all(0 < length < math.inf for length in lengths):
+        return None
+    if any(matrices.dot(a, b) < SHARPEST * m * n for a, b, m, n in zip(chords, chords[1:], lengths, lengths[1:])):
+        return None
+    third = max(1, len(chords) // 3)
+    found = through(line[0], line[third], line[2 * third])
+    if found is None:
+        return None
+    radius = matrices.distance(line[0], found)
+    return found if all(abs(matrices.distance(p, found) - radius) <= LOOSE * radius for p in line) else None
+
+
+def through(a: Vector, b: Vector, c: Vector) -> Optional[Vector]:
+    """The centre of the circle through three points; None where they lie on a straight line."""
+    u, v = matrices.minus(a, c), matrices.minus(b, c)
+    normal = matrices.cross(u, v)
+    square = matrices.dot(normal, normal)
+    if not square > 1e-12 * matrices.dot(u, u) * matrices.dot(v, v):
+        return None
+    across = matrices.cross([matrices.dot(u, u) * y - matrices.dot(v, v) * x for x, y in zip(u, v)], normal)
+    return matrices.along(c, across, 1 / (2 * square))
 
 
 class Outliner:
@@ -124,10 +159,37 @@ class Outliner:
         turns += [2 * math.pi * (k + 0.5) / solid.slopes for k in range(solid.slopes)]
         return lines + [[(out * math.cos(t), out * math.sin(t), 0.0), (0.0, 0.0, h + 2 * up)] for t in turns]
 
+    def rounded(self, line: Sequence[Vector]) -> Sequence[Vector]:
+        """A ring or a part of one as fine as the step; any other line as it stands."""
+        about = centre(line) if self.view.step > 0 else None
+        if about is None:
+            return line
+        made = [line[0]]
+        for a, b in zip(line, line[1:]):
+            self.halved(a, b, about, HALVINGS, made)
+        return tuple(made)
+
+    def halved(self, a: Vector, b: Vector, about: Vector, left: int, made: Line) -> None:
+        """Adds what leads from a to b, both on a circle about a centre, in chords no longer than the step."""
+        if left and self.long(a, b):
+            half = matrices.along(a, matrices.minus(b, a), 0.5)
+            out = matrices.minus(half, about)
+            radius = (matrices.distance(a, about) + matrices.distance(b, about)) / 2
+            middle = matrices.along(half, out, radius / matrices.length(out) - 1)
+            self.halved(a, middle, about, left - 1, made)
+            self.halved(middle, b, about, left - 1, made)
+        else:
+            made.append(b)
+
+    def long(self, a: Vector, b: Vector) -> bool:
+        """Whether a chord is longer than the step on the sheet; what is behind the eye is not."""
+        p, q = (self.view.spot(matrices.placed(self.world, end)) for end in (a, b))
+        return p is not None and q is not None and matrices.distance((*p, 0.0), (*q, 0.0)) > self.view.step
+
     def lines(self, solid: Union[Sphere, Cylinder, Cone]) -> Lines:
         """Those that were handed in, or the outline."""
         if solid.lines is not None:
-            return solid.lines
+            return tuple(map(self.rounded, solid.lines)) if isinstance(solid.lines, Rounded) else solid.lines
         if solid.points < 3:
             raise ValueError(f"a ring has 3 points or more, not {solid.points}")
         if not solid.radius > 0 or not math.isfinite(solid.radius):  # nothing to draw, or for the core to refuse

@@ -2,8 +2,8 @@
 
 `lines` of a round solid are handed to the core as they stand, in its own coordinates; None, the default, has the
 host make its outline as the eye sees it (outlines.py), a little off the surface. BY_CORE leaves it to the core, whose
-outlines lie in the surface, where the solid may hide parts of them; NO_LINES is none at all. `source` is where a solid
-stands in a text (line and column from 1).
+outlines lie in the surface, where the solid may hide parts of them; NO_LINES is none at all; `Rounded` lines are made as
+fine as the step. `source` is where a solid stands in a text (line and column from 1).
 """
 from __future__ import annotations
 
@@ -23,6 +23,11 @@ BY_CORE: Lines = ()
 NO_LINES: Lines = ((),)  # a line without points
 
 
+class Rounded(tuple):
+    """Handed-in lines whose rings are round: where one bends as a circle does, points are put in between, on that
+    circle, until its chords are no longer than the step of the view (outlines.py)."""
+
+
 class Operation(IntEnum):
     """What a cut leaves. The first two answer a ray as larnt's Rust does, by the t of the last ray; the others by
     the true distance, so that a cut behind the viewer hides nothing that stands clear."""
@@ -37,7 +42,10 @@ INTERSECTION, DIFFERENCE = Operation.INTERSECTION, Operation.DIFFERENCE
 
 
 def hand_in(lines: Optional[Sequence[Sequence[Sequence[float]]]]) -> Optional[Lines]:
-    return None if lines is None else tuple(tuple(matrices.vector(p) for p in line) for line in lines)
+    if lines is None:
+        return None
+    made = tuple(tuple(matrices.vector(p) for p in line) for line in lines)
+    return Rounded(made) if isinstance(lines, Rounded) else made
 
 
 @dataclass(frozen=True)

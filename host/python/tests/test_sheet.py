@@ -140,6 +140,23 @@ class Command(Typed):
         self.assertNotIn(" 0 lines", out)
         self.assertEqual(err, "")
 
+    def test_rings_are_as_fine_as_the_step(self):
+        bunker = ROOT / "examples/bunker.yard"
+        _, err = self.run_sheet(bunker, self.folder / "a.svg", "--step", "0.2")
+        self.assertEqual(err, "sheet: the step is finer than the text's, so the rings of its lines are made as fine; --outlines kept keeps them as they stand\n")
+        fine = self.lines(ElementTree.parse(self.folder / "a.svg").getroot())
+        self.assertEqual(self.lines(self.svg(bunker, "--step", "0.2", "--outlines", "rounded")), fine)
+        self.assertNotEqual(self.lines(self.svg(bunker, "--step", "0.2", "--outlines", "kept")), fine)
+        for words in ((bunker, "--step", "5"), (ROOT / "examples/post.yard", "--step", "0.2"), (bunker,)):
+            self.assertEqual(self.run_sheet(words[0], self.folder / "a.svg", *words[1:])[1], "")
+
+    def test_outlines_by_the_core(self):
+        """The silos without their lines are those of the yard that has none."""
+        out, err = self.run_sheet(SILOS, self.folder / "a.svg", "--outlines", "core")
+        self.assertIn("(text line 2, 3, 4, 5, 6, 7, 9); --outlines all", err)
+        lines = self.lines(ElementTree.parse(self.folder / "a.svg").getroot())
+        self.assertEqual(lines, self.lines(self.svg(ROOT / "examples/silos_plain.yard")))
+
     def test_what_is_asked_wrongly(self):
         cases = [
             ((SILOS, "a.bmp"), "a.bmp: sheets end in .svg"),

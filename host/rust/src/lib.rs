@@ -217,43 +217,74 @@ impl Scene {
 
     /// The same simplified with a threshold, with room for `most` points at most: 13 where they do not suffice.
     pub fn draw_with(&self, view: &View, threshold: f64, most: usize) -> Result<Drawing, Refused> {
+        let drawn = |room: &mut Room, points: usize| {
+            let (mut out, mut begins) = (vec![[0.0; 3]; points], vec![0; points]);
+            let (numbers, flat) = (view.numbers(), out.as_flattened_mut());
+            let (points, paths) =
+                calls::draw_with(self.lent(), &numbers, threshold, flat, &mut begins, room.lent())?;
+            out.truncate(points);
+            begins.truncate(paths);
+            Ok(Drawing {
+                points: out,
+                starts: begins,
+            })
+        };
+        self.fitted(most, drawn)
+    }
+
+    /// How many points and paths `draw` would answer, without the drawing. It takes as long as the draw.
+    pub fn preview(&self, view: &View) -> Result<(usize, usize), Refused> {
+        self.preview_with(view, FINE, MOST_POINTS)
+    }
+
+    /// The same of `draw_with`.
+    pub fn preview_with(
+        &self,
+        view: &View,
+        threshold: f64,
+        most: usize,
+    ) -> Result<(usize, usize), Refused> {
+        let (numbers, any) = (view.numbers(), usize::MAX);
+        let counted = |room: &mut Room, _| {
+            calls::preview(self.lent(), &numbers, threshold, any, any, room.lent())
+        };
+        self.fitted(most, counted)
+    }
+
+    /// Asks with room for ever more points to work in, until that suffices.
+    fn fitted<T>(
+        &self,
+        most: usize,
+        ask: impl Fn(&mut Room, usize) -> Result<T, u32>,
+    ) -> Result<T, Refused> {
         let mut points = FIRST_POINTS.max(self.points.len() / 3).min(most);
         loop {
-            match self.attempt(view, threshold, points) {
-                Err(Refused(13)) if points < most => points = (2 * points).clamp(1, most),
-                answer => return answer,
+            match ask(&mut Room::new(self, points), points) {
+                Err(13) if points < most => points = (2 * points).clamp(1, most),
+                answer => return answer.map_err(Refused),
             }
         }
     }
 
-    /// One draw with room for so many points.
-    fn attempt(&self, view: &View, threshold: f64, points: usize) -> Result<Drawing, Refused> {
-        let nodes = nodes(self);
-        let (mut out, mut begins) = (vec![0.0; 3 * points], vec![0; points]);
-        let work = calls::Work {
-            work: &mut vec![0.0; 8 * 3 * points],
-            work_starts: &mut vec![0; 8 * points],
-            chopped: &mut vec![0.0; 3 * points],
-            chopped_starts: &mut vec![0; points],
-            node_boxes: &mut vec![0.0; 6 * nodes],
-            node_marks: &mut vec![0; 3 * nodes],
-            order: &mut vec![0; nodes],
+    /// One scene of two: this one's entries, then the other's. Either must be one that the library accepts, and they
+    /// may have 1,024 entries together.
+    pub fn merge(&self, other: &Scene) -> Result<Scene, Refused> {
+        let mut made = Scene {
+            numbers: vec![0.0; self.numbers.len() + other.numbers.len()],
+            marks: vec![0; self.marks.len() + other.marks.len()],
+            points: vec![0.0; self.points.len() + other.points.len()],
+            starts: vec![0; self.starts.len() + other.starts.len()],
+            owners: vec![0; self.owners.len() + other.owners.len()],
         };
-        let (points, paths) = calls::draw_with(
-            self.lent(),
-            &view.numbers(),
-            threshold,
-            &mut out,
-            &mut begins,
-            work,
-        )
-        .map_err(Refused)?;
-        begins.truncate(paths);
-        let (rows, _) = out.as_chunks::<3>();
-        Ok(Drawing {
-            points: rows[..points].to_vec(),
-            starts: begins,
-        })
+        let out = calls::MergedSlices {
+            numbers: &mut made.numbers,
+            marks: &mut made.marks,
+            points: &mut made.points,
+            starts: &mut made.starts,
+            owners: &mut made.owners,
+        };
+        calls::merge(self.lent(), other.lent(), out).map_err(Refused)?;
+        Ok(made)
     }
 
     /// The tree of the scene, for questions.
@@ -268,6 +299,44 @@ impl Scene {
             marks,
             order,
         })
+    }
+}
+
+/// What a draw works in, with room for so many points.
+struct Room {
+    work: Vec<f64>,
+    work_starts: Vec<usize>,
+    chopped: Vec<f64>,
+    chopped_starts: Vec<usize>,
+    node_boxes: Vec<f64>,
+    node_marks: Vec<u32>,
+    order: Vec<u32>,
+}
+
+impl Room {
+    fn new(scene: &Scene, points: usize) -> Room {
+        let nodes = nodes(scene);
+        Room {
+            work: vec![0.0; 8 * 3 * points],
+            work_starts: vec![0; 8 * points],
+            chopped: vec![0.0; 3 * points],
+            chopped_starts: vec![0; points],
+            node_boxes: vec![0.0; 6 * nodes],
+            node_marks: vec![0; 3 * nodes],
+            order: vec![0; nodes],
+        }
+    }
+
+    fn lent(&mut self) -> calls::Work<'_> {
+        calls::Work {
+            work: &mut self.work,
+            work_starts: &mut self.work_starts,
+            chopped: &mut self.chopped,
+            chopped_starts: &mut self.chopped_starts,
+            node_boxes: &mut self.node_boxes,
+            node_marks: &mut self.node_marks,
+            order: &mut self.order,
+        }
     }
 }
 
