@@ -469,7 +469,7 @@ static inline uint32_t larnt_scene_draw_with(const larnt_scene *scene, const dou
 }
 
 /* How many points and paths larnt_scene_draw_with leaves in `out` where that has room for them (libhost_preview.a): the
-   counts of `out` alone are looked at and filled, so a caller may size it by them. It takes as long as the draw. */
+   counts of `out` are filled, and nothing else of it is looked at, so a caller may size it by them. */
 static inline uint32_t larnt_scene_preview(const larnt_scene *scene, const double view[22], double threshold,
                                            larnt_paths *out, larnt_work *work)
 {

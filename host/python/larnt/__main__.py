@@ -12,7 +12,7 @@ import time
 import webbrowser
 from typing import Any, Callable, Dict, List, Optional, Sequence, Tuple
 
-from . import forms, matrices, outlines, plotter, progress, scene, sheets, solids, texts, turn
+from . import forms, library, matrices, outlines, progress, scene, sheets, solids, texts, turn
 from .camera import Camera, View
 from .drawing import Drawing
 from .library import Missing
@@ -178,7 +178,7 @@ def default_outlines(options: argparse.Namespace, yard: forms.Yard, view: View) 
     if options.eye or options.target:
         said = "the eye is moved, so the outlines of round solids are made anew and the text's lines for them left out; --outlines kept keeps these"
         return "all", [said] if lines else []
-    if yard.view and 0 < view.step and not 0 < yard.view.step <= view.step:
+    if yard.view and 0 < view.step and not 0 < yard.view.step < 1.001 * view.step:  # a step in millimetres is rounded
         said = "the step is finer than the text's, so the rings of its lines are made as fine; --outlines kept keeps them as they stand"
         return "rounded", [said] if any(map(outlines.centre, lines)) else []
     return "kept", []
@@ -224,7 +224,7 @@ def made(options: argparse.Namespace, text: str, sheet: Sheet) -> None:
         for part in of.parts:
             line = f", text line {part.solid.source[0]}" if part.solid.source else ""
             print(f"part {part.number}: {solids.described(part.solid)}{line}{', not seen from here' if part in unseen else ''}")
-    if any(path.endswith((".hpgl", ".plt")) for path in options.sheets) and not plotter.there():
+    if any(path.endswith((".hpgl", ".plt")) for path in options.sheets) and not library.there(library.plotter):
         notes.append("the pen goes in the drawing's order: its way is picked where libhost_plotter.a is at hand (rt staticlib host_plotter)")
     for said in notes:
         note(said)

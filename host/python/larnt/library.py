@@ -12,7 +12,7 @@ import pathlib
 import subprocess
 from array import array
 from ctypes import POINTER, c_bool, c_double, c_size_t, c_uint8, c_uint16, c_uint32
-from typing import Sequence
+from typing import Callable, Sequence
 
 ENTRIES = 1024  # the most entries of a scene
 NOBODY = 0xFFFFFFFF  # the entry that is named where none is
@@ -124,6 +124,15 @@ def plotter() -> ctypes.CDLL:
     opened = loaded("host_plotter", PLOTTER)
     opened.larnt_plotter_step.restype = None
     return opened
+
+
+def there(archive: Callable[[], ctypes.CDLL]) -> bool:
+    """Whether one of the above is at hand."""
+    try:
+        archive()
+    except Missing:
+        return False
+    return True
 
 
 def numbers(values: Sequence[float]) -> "ctypes.Array[c_double]":

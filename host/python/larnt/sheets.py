@@ -11,7 +11,7 @@ import subprocess
 from dataclasses import dataclass, field
 from typing import Callable, Dict, List, Optional, Sequence, Tuple, Union
 
-from . import plotter
+from . import library, plotter
 from .camera import View
 from .drawing import Drawing
 from .scene import Part, Scene
@@ -141,7 +141,7 @@ def hpgl(laid: Laid) -> str:
 
 
 def ordered(drawing: Drawing) -> List[list]:
-    return plotter.ways(drawing) if plotter.there() else drawing.paths
+    return plotter.ways(drawing) if library.there(library.plotter) else drawing.paths
 
 
 def dxf(laid: Laid) -> str:

@@ -17,7 +17,7 @@ from larnt import drawing, progress
 from larnt.__main__ import main
 
 from . import EXAMPLES, ROOT, wrong
-from .test_examples import SVG
+from .test_examples import SVG, group_of, lines_of
 
 SILOS = str(ROOT / "examples/silos.yard")
 
@@ -47,15 +47,14 @@ class Command(Typed):
         return ElementTree.fromstring((self.folder / "a.svg").read_text())
 
     def lines(self, root):
-        (group,) = (g for g in root.iter(SVG + "g") if g.get("id") == "drawing")
-        return [line.get("points") for line in group.iter(SVG + "polyline")]
+        return [line.get("points") for line in group_of(root).iter(SVG + "polyline")]
 
     def test_each_example_s_sheet_is_the_core_s_drawing_line_for_line(self):
         for path in EXAMPLES:
             with self.subTest(path.name):
                 core = drawing.read(path.with_suffix(".drawing").read_text(), 0, 0)
                 wanted = [[(x, y) for x, y, _ in line] for line in core.paths]
-                self.assertEqual([[tuple(map(float, p.split(","))) for p in line.split()] for line in self.lines(self.svg(path))], wanted)
+                self.assertEqual(lines_of(self.svg(path)), wanted)
 
     def test_three_sheets_at_once(self):
         out, err = self.run_sheet(SILOS, *(self.folder / f"silos.{ending}" for ending in ("svg", "hpgl", "dxf")))

@@ -18,8 +18,8 @@
 //! # Ok::<(), yard_core::Refused>(())
 //! ```
 //!
-//! The calls themselves, on slices that the caller lends, are in [`calls`]. What a draw is lent here grows until the
-//! drawing fits. Angles are no business of the core: cameras are made by the host, and outlines that
+//! The calls themselves, on slices that the caller lends, are in [`calls`]. What a draw works in grows here until it
+//! suffices, and the drawing has the places that a preview counts. Angles are no business of the core: cameras are made by the host, and outlines that
 //! stand off the surface; a round solid that is handed no lines has the core's own, which lie in it.
 
 #![deny(unsafe_code)]
@@ -215,24 +215,28 @@ impl Scene {
         self.draw_with(view, FINE, MOST_POINTS)
     }
 
-    /// The same simplified with a threshold, with room for `most` points at most: 13 where they do not suffice.
+    /// The same simplified with a threshold, with room for `most` points to work in at most: 13 where they do not suffice.
+    /// The drawing is lent the places that a preview counts.
     pub fn draw_with(&self, view: &View, threshold: f64, most: usize) -> Result<Drawing, Refused> {
-        let drawn = |room: &mut Room, points: usize| {
-            let (mut out, mut begins) = (vec![[0.0; 3]; points], vec![0; points]);
-            let (numbers, flat) = (view.numbers(), out.as_flattened_mut());
-            let (points, paths) =
-                calls::draw_with(self.lent(), &numbers, threshold, flat, &mut begins, room.lent())?;
-            out.truncate(points);
-            begins.truncate(paths);
-            Ok(Drawing {
-                points: out,
-                starts: begins,
-            })
-        };
-        self.fitted(most, drawn)
+        let (mut room, (points, paths)) = self.counted(view, threshold, most)?;
+        let (mut out, mut starts) = (vec![[0.0; 3]; points], vec![0; paths]);
+        let (view, flat) = (view.numbers(), out.as_flattened_mut());
+        calls::draw_with(
+            self.lent(),
+            &view,
+            threshold,
+            flat,
+            &mut starts,
+            room.lent(),
+        )
+        .map_err(Refused)?;
+        Ok(Drawing {
+            points: out,
+            starts,
+        })
     }
 
-    /// How many points and paths `draw` would answer, without the drawing. It takes as long as the draw.
+    /// How many points and paths `draw` would answer, without the drawing. It takes about as long.
     pub fn preview(&self, view: &View) -> Result<(usize, usize), Refused> {
         self.preview_with(view, FINE, MOST_POINTS)
     }
@@ -244,24 +248,25 @@ impl Scene {
         threshold: f64,
         most: usize,
     ) -> Result<(usize, usize), Refused> {
-        let (numbers, any) = (view.numbers(), usize::MAX);
-        let counted = |room: &mut Room, _| {
-            calls::preview(self.lent(), &numbers, threshold, any, any, room.lent())
-        };
-        self.fitted(most, counted)
+        Ok(self.counted(view, threshold, most)?.1)
     }
 
-    /// Asks with room for ever more points to work in, until that suffices.
-    fn fitted<T>(
+    /// A preview's counts, and the room that it was made in. No call tells how much room a draw works in, so it doubles
+    /// until it suffices; most previews that do not fit say so at the chop, before the eye tests.
+    fn counted(
         &self,
+        view: &View,
+        threshold: f64,
         most: usize,
-        ask: impl Fn(&mut Room, usize) -> Result<T, u32>,
-    ) -> Result<T, Refused> {
+    ) -> Result<(Room, (usize, usize)), Refused> {
+        let (view, any) = (view.numbers(), usize::MAX);
         let mut points = FIRST_POINTS.max(self.points.len() / 3).min(most);
         loop {
-            match ask(&mut Room::new(self, points), points) {
+            let mut room = Room::new(self, points);
+            match calls::preview(self.lent(), &view, threshold, any, any, room.lent()) {
+                Ok(counts) => return Ok((room, counts)),
                 Err(13) if points < most => points = (2 * points).clamp(1, most),
-                answer => return answer.map_err(Refused),
+                Err(number) => return Err(Refused(number)),
             }
         }
     }
