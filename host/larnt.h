@@ -492,6 +492,20 @@ static inline larnt_scene larnt_merged_scene(const larnt_merged *merged)
     return scene;
 }
 
+/* The canonical text (libhost_text.a). */
+static inline uint32_t larnt_scene_write(const larnt_scene *scene, const double view[22], uint8_t *text,
+                                         size_t text_room, size_t *count)
+{
+    return larnt_write(LARNT_OF_SCENE(scene), view, LARNT_SLICE(uint8_t, text, text_room), count);
+}
+
+/* The outline of one solid. */
+static inline uint32_t larnt_lines_outline(uint32_t kind, const double numbers[16], const double eye[3],
+                                           const double place[16], const double view[22], larnt_paths *out)
+{
+    return larnt_outline(kind, numbers, eye, place, view, LARNT_OF_ROOM(out), &out->points_count, &out->paths);
+}
+
 /* `marks` has one byte a path, the yard's first. */
 static inline uint32_t larnt_lines_pick(const larnt_lines *yard, const larnt_lines *lines, const double pen[3],
                                         uint8_t *marks, larnt_picked *picked)

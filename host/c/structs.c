@@ -1,7 +1,7 @@
 /* Each call on structs of host/larnt.h against the call under it: the same answer, and the same left in what is lent.
    Prints how many were compared; ends with 1 at the first difference.
 
-       cc -std=c99 -Wall -Wextra -O2 -Ihost host/c/structs.c target/staticlib/libhost.a target/staticlib/libhost_plotter.a target/staticlib/libhost_preview.a target/staticlib/libhost_merge.a -o target/structs && target/structs */
+       cc -std=c99 -Wall -Wextra -O2 -Ihost host/c/structs.c target/staticlib/libhost.a target/staticlib/libhost_plotter.a target/staticlib/libhost_preview.a target/staticlib/libhost_merge.a target/staticlib/libhost_text.a -o target/structs && target/structs */
 #include <stdio.h>
 #include <stdlib.h>
 #include <string.h>
@@ -152,6 +152,13 @@ static void paths(void)
     larnt_paths full = {NULL, 9, NULL, 9, 77, 77};
     same("simplify, no room", larnt_lines_simplify(&lines, 5, &full), LARNT_REFUSED_ROOM, &full.points_count, &full.paths, sizeof full.paths);
 
+    const double ball[16] = {0, 0, 0, 1}, placed[16] = {1, 0, 0, 0, 0, 1, 0, 0, 0, 0, 1, 0, 0, 0, 0, 1};
+    room(&b), out = room(&a);
+    x = larnt_lines_outline(LARNT_SPHERE, ball, eye, placed, view, &out), y = larnt_outline(LARNT_SPHERE, ball, eye, placed, view, OUT);
+    drawn("outline", x, y, &out);
+    if (out.paths != 1 || out.points_count < 4)
+        printf("the outline has %zu points\n", out.points_count), exit(1);
+
     uint8_t drawn_a[2] = {0}, drawn_b[2] = {0};
     larnt_picked picked, wanted;
     for (int k = 0; k < 3; k++) { /* the third finds both used up */
@@ -215,9 +222,21 @@ static void questions(void)
     same("check, empty: count", (uint32_t)n[0], 0, "", "", 0);
 }
 
+static void written(void)
+{
+    static uint8_t text[2][4096];
+    size_t n[2] = {77, 77};
+    uint32_t x, y;
+    x = larnt_scene_write(&scene, view, text[0], sizeof text[0], &n[0]), y = larnt_write(SCENE, view, text[1], sizeof text[1], &n[1]);
+    same("write", x, y, text[0], text[1], sizeof text[0]);
+    same("write's count", memcmp(text[0], "(view #", 7) == 0, true, &n[0], &n[1], sizeof *n);
+    same("write, no room", larnt_scene_write(&scene, view, NULL, 4096, &n[0]), LARNT_REFUSED_ROOM, "", "", 0);
+}
+
 int main(void)
 {
     draws();
+    written();
     merges();
     paths();
     questions();
