@@ -13,8 +13,9 @@ from typing import Dict, Iterator, List, Optional, Sequence, Tuple
 from . import library, matrices
 from .camera import View
 from .matrices import Vector
+from .refusals import Refused
 from .scene import Part, Scene, Slices
-from .solids import Cone, Cube, Cut, Cylinder, Solid, Triangle, parts
+from .solids import Cone, Cube, Cut, Cylinder, Solid, Triangle, parts, true_distance
 
 Spot = Tuple[float, float]
 
@@ -114,6 +115,23 @@ def kept(made: Slices, scene: Sequence[object], upper: Dict[int, int], near: Nea
             if library.host().larnt_own_contains(*scene, entry, library.numbers(own), 0.0, byref(inside)) or not inside.value:
                 return False
     return True
+
+
+def look(scene: Scene, eye: Sequence[float], point: Sequence[float]) -> Optional[Tuple[Part, Vector]]:
+    """What a look meets first, as the scene answers it; None too where the look has a refusal of its own: it may need
+    more restarts in a cut than there are."""
+    try:
+        return scene.first_met(eye, point)
+    except Refused as refusal:
+        if refusal.number in (11, 12):
+            return None
+        raise
+
+
+def first_met(scene: Scene, eye: Sequence[float], point: Sequence[float]) -> Optional[Part]:
+    """The part that a look meets first, by true distances: those of the Rust's cuts are too short for a look."""
+    met = look(Scene([true_distance(part.solid) for part in scene.parts]), eye, point)
+    return scene.parts[met[0].number - 1] if met else None
 
 
 def told(scene: Scene, view: View, at: Spot, within: float) -> Optional[Told]:

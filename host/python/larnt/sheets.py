@@ -5,13 +5,14 @@ Lengths on paper are millimetres, y goes up from the lower edge; a drawing is sc
 from __future__ import annotations
 
 import html
+import itertools
 import pathlib
 import shutil
 import subprocess
 from dataclasses import dataclass, field
 from typing import Callable, Dict, List, Optional, Sequence, Tuple, Union
 
-from . import library, plotter
+from . import hidden, library, matrices, plotter, solids
 from .camera import View
 from .drawing import Drawing
 from .scene import Part, Scene
@@ -19,6 +20,8 @@ from .scene import Part, Scene
 PAPERS = {"A0": (1189.0, 841.0), "A1": (841.0, 594.0), "A2": (594.0, 420.0), "A3": (420.0, 297.0), "A4": (297.0, 210.0), "A5": (210.0, 148.0)}
 STRIP = 12.0  # how high the title block is
 HPGL_UNITS = 40  # to the millimetre
+STAND, SEEN = 1e-6, 1  # how far before a part the eye test is made, of the way to the eye; and its answer
+LOOKS = ((0.5,), (0.5, 0.3, 0.7, 0.1, 0.9), tuple((k + 0.37) / 19.5 for k in range(19)))  # where a part is looked at, in its box; the last is uneven, and meets few edges
 
 Spot = Tuple[float, float]
 
@@ -207,7 +210,7 @@ def write(laid: Laid, path: Union[str, pathlib.Path], dpi: float = 150.0) -> Non
 
 
 def numbered(scene: Scene, view: View) -> Tuple[List[Tuple[str, Spot]], List[Part]]:
-    """A number for each part, at a spot where the eye meets that part first; and the parts that have none in sight."""
+    """A number for each part, at a spot where the eye sees it; and the parts that have none in sight."""
     labels, unseen = [], []
     for part, (low, high) in zip(scene.parts, scene.boxes()):
         spot = sighted(scene, view, part, low, high)
@@ -219,13 +222,24 @@ def numbered(scene: Scene, view: View) -> Tuple[List[Tuple[str, Spot]], List[Par
 
 
 def sighted(scene: Scene, view: View, part: Part, low: Sequence[float], high: Sequence[float]) -> Optional[Spot]:
-    """Tries the middle of the part's box first, then places about it."""
-    shares = (0.5, 0.3, 0.7, 0.1, 0.9)
-    tries = sorted(((i, j, k) for i in shares for j in shares for k in shares), key=lambda t: sum((s - 0.5) ** 2 for s in t))
-    for share in tries:
-        point = [a + s * (b - a) for a, b, s in zip(low, high, share)]
-        met = scene.first_met(view.eye, point)
-        spot = view.spot(met[1]) if met and met[0] is part else None
-        if spot and 0 <= spot[0] <= view.width and 0 <= spot[1] <= view.height:
-            return spot
+    """Looks at the middle of the part's box first, then at more and more places of it: where a look meets the part, taken
+    alone, the scene is asked whether the eye sees that place, as a draw asks it."""
+    alone = Scene([solids.true_distance(part.solid)])
+    for shares in LOOKS:
+        met = [hidden.look(alone, view.eye, point) for point in spread(low, high, shares)]
+        places = [at for _, at in filter(None, met) if on_sheet(view, view.spot(at))]
+        before = [matrices.along(at, matrices.minus(view.eye, at), STAND) for at in places]
+        for at, answer in zip(places, scene.told(view.eye, before)):
+            if answer == SEEN:
+                return view.spot(at)
     return None
+
+
+def spread(low: Sequence[float], high: Sequence[float], shares: Sequence[float]) -> List[List[float]]:
+    """Places of a box at these shares of its sides, those near its middle first."""
+    tries = sorted(itertools.product(shares, repeat=3), key=lambda t: sum((s - 0.5) ** 2 for s in t))
+    return [[a + s * (b - a) for a, b, s in zip(low, high, share)] for share in tries]
+
+
+def on_sheet(view: View, spot: Optional[Spot]) -> bool:
+    return spot is not None and 0 <= spot[0] <= view.width and 0 <= spot[1] <= view.height

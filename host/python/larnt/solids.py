@@ -183,6 +183,16 @@ def changed(solid: Solid, change: Callable[[Solid], Solid]) -> Solid:
     return change(solid) if isinstance(solid, Round) else solid
 
 
+def true_distance(solid: Solid) -> Solid:
+    """The same solid with each cut in it told by the true distance."""
+    if isinstance(solid, Placed):
+        return replace(solid, part=true_distance(solid.part))
+    if isinstance(solid, Cut):
+        operation = {0: INTERSECTION, 1: DIFFERENCE}.get(solid.operation, solid.operation)
+        return replace(solid, operation=operation, first=true_distance(solid.first), second=true_distance(solid.second))
+    return solid
+
+
 def described(solid: Solid) -> str:
     """In a few words: "placed closed cylinder"."""
     word = ("closed " if getattr(solid, "closed", False) else "") + type(solid).__name__.lower()

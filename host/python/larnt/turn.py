@@ -108,8 +108,8 @@ class Turning:
         if told.by is None:
             said += "seen here."
         else:
-            first = self.scene.first_met(view.eye, told.point)  # the library names the part that is nearest to the line
-            before = f"; the eye meets {named(first[0])} before that" if first and first[0] is not told.by else ""
+            first = hidden.first_met(self.scene, view.eye, told.point)  # the library names the part that is nearest to the line
+            before = f"; the eye meets {named(first)} before that" if first and first is not told.by else ""
             said += f"hidden here by {'itself' if told.by is told.line else named(told.by)}{before}."
         return {"said": said, "spot": told.spot, "line": told.line.number, "by": told.by and told.by.number}
 

@@ -13,7 +13,7 @@ import unittest
 from unittest import mock
 from xml.etree import ElementTree
 
-from larnt import drawing, progress
+from larnt import drawing, forms, progress
 from larnt.__main__ import main
 
 from . import EXAMPLES, ROOT, wrong
@@ -89,6 +89,18 @@ class Command(Typed):
         self.assertEqual(text.count("\nTEXT\n"), 12)
         self.run_sheet(SILOS, self.folder / "a.hpgl", "--title", "Yard")
         self.assertIn("LBYard\x03", (self.folder / "a.hpgl").read_text())
+
+    def test_the_parts_of_each_example_are_numbered(self):
+        """What a draw does not show has no number: a roof's far sides, the pipe that the plinth's cut strikes, the bin behind the
+        viewer. The heaps in the bunker's bays have theirs, though looks from the eye meet 11 there."""
+        unseen = {"blower": ["5", "6"], "bunker": ["2"], "hoppers": ["6"], "mixer": ["8"], "plinth": ["3", "5", "6", "9"], "plinth_true": ["9"]}
+        for path in EXAMPLES:
+            with self.subTest(path.name):
+                out, _ = self.run_sheet(path, self.folder / "a.svg", "--parts")
+                parts = len(forms.read(path.read_text()).scene.parts)
+                self.assertEqual(out.count("\npart "), parts)
+                self.assertEqual(re.findall(r"^part (\d+): .*, not seen from here$", out, re.M), unseen.get(path.stem, []))
+                self.assertEqual(len(list(ElementTree.parse(self.folder / "a.svg").getroot().iter(SVG + "text"))), parts - len(unseen.get(path.stem, [])))
 
     def test_a_part_that_nobody_sees_has_no_number(self):
         yard = self.folder / "a.yard"

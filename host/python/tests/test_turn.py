@@ -397,7 +397,12 @@ class Command(unittest.TestCase):
             turn.starting(Scene(), None, 277, 190, 2)
 
     def test_it_ends_by_ctrl_c(self):
-        program = subprocess.Popen([sys.executable, "-m", "larnt", "turn", SILOS], cwd=ROOT / "host/python", stdout=subprocess.PIPE, stderr=subprocess.PIPE, text=True)
+        def heeding():
+            """What a shell runs beside others is told to pass over Ctrl-C, and so is what it starts."""
+            signal.signal(signal.SIGINT, signal.SIG_DFL)
+
+        program = subprocess.Popen([sys.executable, "-m", "larnt", "turn", SILOS], cwd=ROOT / "host/python", stdout=subprocess.PIPE, stderr=subprocess.PIPE, text=True, preexec_fn=heeding)
+        self.addCleanup(program.kill)
         self.assertRegex(program.stdout.readline(), r"^silos\.yard: http://127\.0\.0\.1:\d+/ \(Ctrl-C ends it\)$")
         program.send_signal(signal.SIGINT)
         self.assertEqual(program.communicate(timeout=60)[1], "turn: stopped\n")
