@@ -32,6 +32,7 @@ HOST = {
     "larnt_visible": SCENE + TREE + [ROW, ROW, FLAG],
     "larnt_occluder": SCENE + TREE + [ROW, ROW, POINTER(c_uint32)],
     "larnt_covered_all": SCENE + TREE + [ROW] + NUMBERS + BYTES,
+    "larnt_outline": [c_uint32, ROW, ROW, ROW, ROW] + NUMBERS + PLACES + [COUNT, COUNT],
     "larnt_draw_with": SCENE + [ROW, c_double] + NUMBERS + PLACES + WORK,
 }
 

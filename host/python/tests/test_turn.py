@@ -16,8 +16,8 @@ import time
 import unittest
 from array import array
 
-from larnt import DIFFERENCE, Camera, Cube, Scene, Sphere, forms, hidden, sheets, turn
-from larnt.__main__ import main
+from larnt import BY_CORE, DIFFERENCE, Camera, Cube, Scene, Sphere, forms, hidden, sheets, turn
+from larnt.__main__ import LINES, main, with_outlines
 
 from . import ROOT, browser, wrong, yards
 from .test_examples import EXAMPLES
@@ -194,9 +194,10 @@ class Why(unittest.TestCase):
         self.assertEqual((told.line, told.by), (tube, tube))
 
     def test_every_kind_of_line(self):
-        """Each stands behind a wall: outlines, stripes of tubes, cones and boxes, a triangle's edges, lines of placed ones."""
+        """Each stands behind a wall: outlines of the host and of the core, stripes of tubes, cones and boxes, a triangle's edges, lines of placed ones."""
         for add, point in (
             (lambda s: s.sphere((0, 5, 2), 1), None),
+            (lambda s: s.cylinder(1, 0, 3, at=(0, 5, 0), lines=BY_CORE), (0, 4, 3)),
             (lambda s: s.cylinder(1, 0, 3, at=(0, 5, 0), stripes=4, lines=()), (0, 4, 1.5)),
             (lambda s: s.cone(1, 3, at=(0, 5, 0), stripes=4, lines=()), (0, 4.5, 1.5)),
             (lambda s: s.cube((-1, 4, 0), (1, 6, 3), stripes=4), (-0.5, 4, 1.5)),
@@ -387,6 +388,17 @@ class Command(unittest.TestCase):
                 for row in (0, 1, 3):  # the third goes with near and far
                     for x, y in zip(camera.view().matrix[row][:3], yard.view.matrix[row][:3]):
                         self.assertAlmostEqual(x, y, places=4)
+
+    def test_each_way_of_outlines_turns(self):
+        for how in LINES:
+            with self.subTest(how):
+                yard = forms.read(SILOS.read_text())
+                scene = with_outlines(how, yard.scene)
+                page = turn.Turning(scene, turn.starting(scene, yard.view, 277, 190, 2), sheets.Sheet())
+                asked = {**asked_of(page.camera), "eye": [15000, 20000, 9000]}
+                drawn = paths_in(page.frame({**asked, "level": 1}))
+                self.assertGreater(len(drawn), 20)
+                self.assertEqual(drawn, core(scene, page.camera, asked, 1))
 
     def test_a_yard_without_a_view(self):
         scene = Scene([Sphere((5, 5, 5), 2)])
