@@ -89,9 +89,10 @@ def core_outline(made: Slices, entry: int, view: View) -> List[List[Vector]]:
 def every_line(made: Slices, view: View) -> Iterator[Tuple[int, List[Vector]]]:
     """Each line, hidden or not, with its entry, in the entry's coordinates."""
     yield from zip(made.owners, rows_of(made.points, made.starts))
+    lined = set(made.owners)
     for entry, solid in enumerate(made.entries):
         yield from ((entry, line) for line in own_lines(solid))
-        if isinstance(solid, Round) and entry not in made.owners and not detail(solid):
+        if isinstance(solid, Round) and entry not in lined and not detail(solid):
             yield from ((entry, line) for line in core_outline(made, entry, view))
 
 
