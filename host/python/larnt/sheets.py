@@ -20,6 +20,7 @@ from .scene import Part, Scene
 PAPERS = {"A0": (1189.0, 841.0), "A1": (841.0, 594.0), "A2": (594.0, 420.0), "A3": (420.0, 297.0), "A4": (297.0, 210.0), "A5": (210.0, 148.0)}
 STRIP = 12.0  # how high the title block is
 HPGL_UNITS = 40  # to the millimetre
+LETTER = 0.6  # how wide a letter is, of its height
 STAND, SEEN = 1e-6, 1  # how far before a part the eye test is made, of the way to the eye; and its answer
 LOOKS = ((0.5,), (0.5, 0.3, 0.7, 0.1, 0.9), tuple((k + 0.37) / 19.5 for k in range(19)))  # where a part is looked at, in its box; the last is uneven, and meets few edges
 
@@ -99,9 +100,22 @@ class Laid:
         end, upper, strip = self.sheet.paper[0] - right, self.sheet.paper[1] - top, bottom + STRIP
         self.strokes.append([(left, bottom), (end, bottom), (end, upper), (left, upper), (left, bottom)])
         self.strokes.append([(left, strip), (end, strip)])
-        self.texts.append(Text(self.sheet.title or "", left + 3, bottom + 4, 5.0))
-        for k, note in enumerate(list(self.sheet.notes)[:2]):
-            self.texts.append(Text(note, end - 3, bottom + 7 - 4.5 * k, 2.5, "end"))
+        title, notes, room = self.sheet.title or "", list(self.sheet.notes)[:2], max(end - left - 10, 1.0)
+        small = [fitting(note, 2.5, room / 2) for note in notes]
+        taken = max((wide(note, high) for note, high in zip(notes, small)), default=0.0)
+        self.texts.append(Text(title, left + 3, bottom + 4, fitting(title, 5.0, room - taken)))
+        for k, (note, high) in enumerate(zip(notes, small)):
+            self.texts.append(Text(note, end - 3, bottom + 7 - 4.5 * k, high, "end"))
+
+
+def wide(words: str, high: float) -> float:
+    """About how wide words are: letters differ, and few are wider than this on the whole."""
+    return LETTER * high * len(words)
+
+
+def fitting(words: str, high: float, room: float) -> float:
+    """How high letters may be, at most so high, for words to find room."""
+    return min(high, room / wide(words, 1.0)) if words else high
 
 
 # ---- formats
@@ -125,7 +139,7 @@ def svg(laid: Laid) -> str:
     rows.append('</g>\n<g font-family="sans-serif" fill="black">')
     for text in laid.texts:
         halo = ' stroke="white" stroke-width="0.8" paint-order="stroke"' if text.halo else ""
-        rows.append(f'<text x="{text.x:.2f}" y="{high - text.y:.2f}" font-size="{text.high:g}" text-anchor="{text.anchor}"{halo}>{html.escape(text.words)}</text>')
+        rows.append(f'<text x="{text.x:.2f}" y="{high - text.y:.2f}" font-size="{text.high:.4g}" text-anchor="{text.anchor}"{halo}>{html.escape(text.words)}</text>')
     return "\n".join(rows + ["</g>", "</svg>", ""])
 
 
@@ -138,8 +152,8 @@ def hpgl(laid: Laid) -> str:
         rows.append(f"PU{first};PD{','.join(others)};")
     for text in laid.texts:
         words = "".join(c if " " <= c <= "~" else "?" for c in text.words)
-        wide = 0.6 * text.high * len(words) * {"start": 0, "middle": 0.5, "end": 1}[text.anchor]
-        rows.append(f"PU{round(HPGL_UNITS * (text.x - wide))},{round(HPGL_UNITS * text.y)};SI{0.04 * text.high:.3f},{0.07 * text.high:.3f};LB{words}\x03")
+        before = wide(words, text.high) * {"start": 0, "middle": 0.5, "end": 1}[text.anchor]
+        rows.append(f"PU{round(HPGL_UNITS * (text.x - before))},{round(HPGL_UNITS * text.y)};SI{0.04 * text.high:.3f},{0.07 * text.high:.3f};LB{words}\x03")
     return "\n".join(rows + ["PU;SP0;", ""])
 
 

@@ -90,6 +90,16 @@ class Command(Typed):
         self.run_sheet(SILOS, self.folder / "a.hpgl", "--title", "Yard")
         self.assertIn("LBYard\x03", (self.folder / "a.hpgl").read_text())
 
+    def test_a_long_title_leaves_room_for_the_notes(self):
+        title, note = "A title that is as long as a line of a book may well be, and then goes on for some words", "a note that is longer than most, but has its place"
+        sizes = {text.text: float(text.get("font-size")) for text in self.svg(SILOS, "--title", title, "--note", note, "--note", "short").iter(SVG + "text")}
+        self.assertEqual((sizes[note], sizes["short"]), (2.5, 2.5))
+        self.assertLess(0.6 * (len(title) * sizes[title] + len(note) * 2.5), 277 - 9)
+        self.assertGreater(sizes[title], 3)
+        sizes = {text.text: float(text.get("font-size")) for text in self.svg(SILOS, "--title", "Yard", "--note", 9 * note).iter(SVG + "text")}
+        self.assertLess(0.6 * len(9 * note) * sizes[9 * note], 277 / 2)
+        self.assertEqual(sizes["Yard"], 5)
+
     def test_the_parts_of_each_example_are_numbered(self):
         """What a draw does not show has no number: a roof's far sides, the pipe that the plinth's cut strikes, the bin behind the
         viewer. The heaps in the bunker's bays have theirs, though looks from the eye meet 11 there."""
