@@ -102,20 +102,20 @@ class Laid:
         self.strokes.append([(left, strip), (end, strip)])
         title, notes, room = self.sheet.title or "", list(self.sheet.notes)[:2], max(end - left - 10, 1.0)
         small = [fitting(note, 2.5, room / 2) for note in notes]
-        taken = max((wide(note, high) for note, high in zip(notes, small)), default=0.0)
+        taken = max((width_of(note, high) for note, high in zip(notes, small)), default=0.0)
         self.texts.append(Text(title, left + 3, bottom + 4, fitting(title, 5.0, room - taken)))
         for k, (note, high) in enumerate(zip(notes, small)):
             self.texts.append(Text(note, end - 3, bottom + 7 - 4.5 * k, high, "end"))
 
 
-def wide(words: str, high: float) -> float:
+def width_of(words: str, high: float) -> float:
     """About how wide words are: letters differ, and few are wider than this on the whole."""
     return LETTER * high * len(words)
 
 
 def fitting(words: str, high: float, room: float) -> float:
     """How high letters may be, at most so high, for words to find room."""
-    return min(high, room / wide(words, 1.0)) if words else high
+    return min(high, room / width_of(words, 1.0)) if words else high
 
 
 # ---- formats
@@ -152,7 +152,7 @@ def hpgl(laid: Laid) -> str:
         rows.append(f"PU{first};PD{','.join(others)};")
     for text in laid.texts:
         words = "".join(c if " " <= c <= "~" else "?" for c in text.words)
-        before = wide(words, text.high) * {"start": 0, "middle": 0.5, "end": 1}[text.anchor]
+        before = width_of(words, text.high) * {"start": 0, "middle": 0.5, "end": 1}[text.anchor]
         rows.append(f"PU{round(HPGL_UNITS * (text.x - before))},{round(HPGL_UNITS * text.y)};SI{0.04 * text.high:.3f},{0.07 * text.high:.3f};LB{words}\x03")
     return "\n".join(rows + ["PU;SP0;", ""])
 
