@@ -201,6 +201,10 @@ def drawn(of: Scene, view: View, options: argparse.Namespace) -> Drawing:
 # ---- the command
 
 
+def yard_name(options: argparse.Namespace) -> str:
+    return pathlib.Path(options.yard).name if options.yard != "-" else "yard"
+
+
 def made(options: argparse.Namespace, text: str, sheet: Sheet) -> None:
     yard = forms.read(text)
     view = seen_by(options, yard, sheet)
@@ -214,7 +218,7 @@ def made(options: argparse.Namespace, text: str, sheet: Sheet) -> None:
             refusal.line, refusal.column = yard.view_at
         raise
     if sheet.title and not sheet.notes:
-        sheet.notes = [pathlib.Path(options.yard).name, "eye " + " ".join(f"{x:g}" for x in view.eye)]
+        sheet.notes = [yard_name(options), "eye " + " ".join(f"{x:g}" for x in view.eye)]
     labels, unseen = sheets.numbered(of, view) if options.parts else ([], [])
     laid = sheet.laid(drawing, labels)
     for path in options.sheets:
@@ -239,7 +243,7 @@ def turned(options: argparse.Namespace, text: str) -> None:
     if not (0 < width < math.inf and 0 < height < math.inf):
         raise ValueError("the sheet of the text's view has no size")
     camera = turn.starting(of, yard.view, wide, high, options.step / sheet.scale(width, height))
-    name = pathlib.Path(options.yard).name if options.yard != "-" else "yard"
+    name = yard_name(options)
     outlines = "" if options.outlines == "all" else f" --outlines {options.outlines}"
     command = f"python3 -m larnt sheet {shlex.quote(options.yard)} sheet.svg --step {options.step:g}{outlines}"
     turning = turn.Turning(of, camera, sheet, name, command)

@@ -9,6 +9,7 @@ import itertools
 import pathlib
 import shutil
 import subprocess
+import unicodedata
 from dataclasses import dataclass, field
 from typing import Callable, Dict, List, Optional, Sequence, Tuple, Union
 
@@ -151,10 +152,16 @@ def hpgl(laid: Laid) -> str:
         first, *others = [f"{round(HPGL_UNITS * x)},{round(HPGL_UNITS * y)}" for x, y in points]
         rows.append(f"PU{first};PD{','.join(others)};")
     for text in laid.texts:
-        words = "".join(c if " " <= c <= "~" else "?" for c in text.words)
+        words = plain_letters(text.words)
         before = width_of(words, text.high) * {"start": 0, "middle": 0.5, "end": 1}[text.anchor]
         rows.append(f"PU{round(HPGL_UNITS * (text.x - before))},{round(HPGL_UNITS * text.y)};SI{0.04 * text.high:.3f},{0.07 * text.high:.3f};LB{words}\x03")
     return "\n".join(rows + ["PU;SP0;", ""])
+
+
+def plain_letters(words: str) -> str:
+    """What a plotter's own letters can write of words: accents are left out, and a question mark stands for the rest."""
+    apart = unicodedata.normalize("NFKD", words.replace("\u00df", "ss"))
+    return "".join(c if " " <= c <= "~" else "?" for c in apart if not unicodedata.combining(c))
 
 
 def ordered(drawing: Drawing) -> List[list]:

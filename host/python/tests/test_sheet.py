@@ -87,8 +87,8 @@ class Command(Typed):
         text = (self.folder / "a.dxf").read_text()
         self.assertIn("\nHof M\\U+00FCller\n", text)
         self.assertEqual(text.count("\nTEXT\n"), 12)
-        self.run_sheet(SILOS, self.folder / "a.hpgl", "--title", "Yard")
-        self.assertIn("LBYard\x03", (self.folder / "a.hpgl").read_text())
+        self.run_sheet(SILOS, self.folder / "a.hpgl", "--title", "Hof M\u00fcller, Stra\u00dfe \u2192")
+        self.assertIn("LBHof Muller, Strasse ?\x03", (self.folder / "a.hpgl").read_text())
 
     def test_a_long_title_leaves_room_for_the_notes(self):
         title, note = "A title that is as long as a line of a book may well be, and then goes on for some words", "a note that is longer than most, but has its place"
