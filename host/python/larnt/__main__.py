@@ -17,7 +17,7 @@ from .camera import Camera, View
 from .drawing import Drawing
 from .library import Missing
 from .refusals import Refused
-from .scene import Scene
+from .scene import Part, Scene
 from .sheets import Sheet
 from .solids import Solid
 
@@ -205,7 +205,13 @@ def yard_name(options: argparse.Namespace) -> str:
     return pathlib.Path(options.yard).name if options.yard != "-" else "yard"
 
 
+def listed(part: Part) -> str:
+    line = f", text line {part.solid.source[0]}" if part.solid.source else ""
+    return f"part {part.number}: {solids.described(part.solid)}{line}"
+
+
 def made(options: argparse.Namespace, text: str, sheet: Sheet) -> None:
+    """Draws, writes the sheets, and says what is to be said of them."""
     yard = forms.read(text)
     view = seen_by(options, yard, sheet)
     how, notes = (options.outlines, []) if options.outlines else default_outlines(options, yard, view)
@@ -224,10 +230,8 @@ def made(options: argparse.Namespace, text: str, sheet: Sheet) -> None:
     for path in options.sheets:
         sheets.write(laid, path, options.dpi)
         print(f"{path}: {len(drawing.paths)} lines on {sheet.paper[0]:g} x {sheet.paper[1]:g} mm")
-    if options.parts:
-        for part in of.parts:
-            line = f", text line {part.solid.source[0]}" if part.solid.source else ""
-            print(f"part {part.number}: {solids.described(part.solid)}{line}{', not seen from here' if part in unseen else ''}")
+    for part in of.parts if options.parts else ():
+        print(listed(part) + (", not seen from here" if part in unseen else ""))
     if any(path.endswith((".hpgl", ".plt")) for path in options.sheets) and not library.there(library.plotter):
         notes.append("the pen goes in the drawing's order: its way is picked where libhost_plotter.a is at hand (rt staticlib host_plotter)")
     for said in notes:
@@ -244,8 +248,8 @@ def turned(options: argparse.Namespace, text: str) -> None:
         raise ValueError("the sheet of the text's view has no size")
     camera = turn.starting(of, yard.view, wide, high, options.step / sheet.scale(width, height))
     name = yard_name(options)
-    outlines = "" if options.outlines == "all" else f" --outlines {options.outlines}"
-    command = f"python3 -m larnt sheet {shlex.quote(options.yard)} sheet.svg --step {options.step:g}{outlines}"
+    how = "" if options.outlines == "all" else f" --outlines {options.outlines}"
+    command = f"python3 -m larnt sheet {shlex.quote(options.yard)} sheet.svg --step {options.step:g}{how}"
     turning = turn.Turning(of, camera, sheet, name, command)
     try:
         server = turn.Server(turning, options.port)
