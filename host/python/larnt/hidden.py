@@ -14,7 +14,7 @@ from . import library, matrices
 from .camera import View
 from .matrices import Vector
 from .refusals import Refused
-from .scene import Part, Scene, Slices, slots
+from .scene import Part, Scene, Slices, rows_of, slots
 from .solids import Cone, Cube, Cut, Cylinder, Round, Solid, Triangle, detail, parts, true_distance
 
 Spot = Tuple[float, float]
@@ -66,12 +66,6 @@ def cube_lines(cube: Cube) -> Iterator[List[Vector]]:
         for z in (az, bz):
             yield [(x, y, z), (u, y, z)]
             yield [(x, y, z), (x, v, z)]
-
-
-def rows_of(numbers: Sequence[float], starts: Sequence[int]) -> List[List[Vector]]:
-    """Lines, of three numbers a point and of where each starts, in points."""
-    points = list(zip(numbers[0::3], numbers[1::3], numbers[2::3]))
-    return [points[a:b] for a, b in zip(starts, [*starts[1:], len(points)])]
 
 
 def core_outline(made: Slices, entry: int, view: View) -> List[List[Vector]]:

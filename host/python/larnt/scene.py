@@ -316,6 +316,12 @@ def rooms(made: Slices, most: int) -> Iterator[int]:
         yield points
 
 
+def rows_of(numbers: Sequence[float], starts: Sequence[int]) -> List[List[Vector]]:
+    """Lines, of three numbers a point and of where each starts, in points."""
+    points = list(zip(numbers[0::3], numbers[1::3], numbers[2::3]))
+    return [points[a:b] for a, b in zip(starts, [*starts[1:], len(points)])]
+
+
 def slots(kind: type, count: int) -> list:
     """A slice to be filled, as the library takes it: a pointer, which is never null, and a count."""
     return [(kind * max(1, count))(), count]
@@ -364,7 +370,4 @@ class Room:
 
     def drawing(self, view: View) -> Drawing:
         """The last draw's, which was by this view."""
-        numbers, starts = self.out[0][: 3 * self.points_out.value], self.starts()
-        rows = list(zip(numbers[0::3], numbers[1::3], numbers[2::3]))
-        paths = [rows[a:b] for a, b in zip(starts, [*starts[1:], self.points_out.value])]
-        return Drawing(view.width, view.height, paths)
+        return Drawing(view.width, view.height, rows_of(self.out[0][: 3 * self.points_out.value], self.starts()))
