@@ -40,9 +40,9 @@ def arguments(given: Optional[Sequence[str]]) -> argparse.Namespace:
     add("--target", nargs=3, type=float, metavar=("X", "Y", "Z"), help="what one looks at (default: the middle of the yard where --eye is given)")
     add("--fov", type=float, metavar="DEGREES", help="field of view, from the lower edge to the upper (default: that of the text, or 40)")
     add("--step", type=float, metavar="MM", help="the longest piece between two tested points (default: that of the text; 0.5 without a view)")
-    add("--outlines", choices=LINES, help="round solids: the lines of the text kept as they stand (default), with rings rounded as fine as the step (default where "
-        "that is finer than the text's), an outline where lines are missing, an outline for all in place of their lines (default where the eye is moved), or "
-        "the core's own outlines, which lie in the surface")
+    add("--outlines", choices=OUTLINES, help="round solids: the lines of the text kept as they stand (default), with rings rounded as fine as the step (default where "
+        "that is finer than the text's), with those that were made for its eye turned to this one (default where the eye is moved), an outline where lines are "
+        "missing, an outline for all in place of their lines, or the core's own outlines, which lie in the surface")
     add("--threshold", type=float, default=scene.FINE, help="of simplification (default %(default)g; 1e-4 for fewer vertices)")
     add("--most-points", type=int, default=scene.MOST_POINTS, metavar="N", help="the most room that a draw is lent (default %(default)s)")
     add("--paper", default="A4", help="A0 to A5, or WIDTHxHEIGHT in millimetres (default A4, landscape)")
@@ -60,7 +60,7 @@ def arguments(given: Optional[Sequence[str]]) -> argparse.Namespace:
     add("--port", type=int, default=0, help="where to serve (default: any that is free)")
     add("--open", action="store_true", help="opens the page in the browser")
     add("--step", type=float, default=0.5, metavar="MM", help="at rest, the longest piece between two tested points, on an A4 sheet (default %(default)g)")
-    add("--outlines", choices=LINES, default="all", help="round solids, as of sheet; by default an outline for all in place of their lines")
+    add("--outlines", choices=OUTLINES, default="turned", help="round solids, as of sheet (default %(default)s)")
     rewriting = commands.add_parser("canonical", help="the text of a yard in canonical form", description="Prints a yard one form a line, counts in decimal and every other "
                                     "number by its bits, as the core writes it; what is drawn of it stays the same, bit for bit.")
     rewriting.add_argument("yard", help="the text, or - for standard input")
@@ -136,7 +136,7 @@ def middle(of: Scene) -> List[float]:
 
 def bare(solid: Solid) -> bool:
     """Whether a solid is left to the core: a round one without lines and stripes."""
-    return isinstance(solid, solids.Round) and solid.lines == solids.BY_CORE and not solids.detail(solid)
+    return isinstance(solid, solids.Round) and solid.lines == solids.BY_CORE and not isinstance(solid.lines, solids.Turned) and not solids.detail(solid)
 
 
 # what becomes of the lines of a round solid, by the words of --outlines
@@ -149,6 +149,9 @@ LINES: Dict[str, Callable[[Any], Optional[solids.Lines]]] = {
 }
 
 
+OUTLINES = (*LINES, "turned")
+
+
 def every_solid(of: Scene) -> List[Solid]:
     def within(solid: Solid) -> List[Solid]:
         return [solid, *(inner for part in solids.parts(solid) for inner in within(part))]
@@ -156,12 +159,32 @@ def every_solid(of: Scene) -> List[Solid]:
     return [solid for part in of.parts for solid in within(part.solid)]
 
 
-def with_outlines(how: str, of: Scene) -> Scene:
+def with_outlines(how: str, yard: forms.Yard) -> Scene:
     """The scene with the lines that --outlines asks for."""
     def lined(solid: Any) -> Solid:
         return dataclasses.replace(solid, lines=LINES[how](solid))
 
-    return Scene([solids.changed(part.solid, lined) for part in of.parts])
+    if how == "turned" and yard.view:
+        return Scene([turnable(part.solid, matrices.IDENTITY, yard.view.eye) for part in yard.scene.parts])
+    how = "all" if how == "turned" else how  # lines of nobody knows which eye
+    return Scene([solids.changed(part.solid, lined) for part in yard.scene.parts])
+
+
+def turnable(solid: Any, world: matrices.Matrix, eye: matrices.Vector) -> Solid:
+    """The solid without the lines that were made for an eye: others are made for each eye that looks at it."""
+    if isinstance(solid, solids.Placed):
+        return dataclasses.replace(solid, part=turnable(solid.part, matrices.product(world, solid.matrix), eye))
+    if isinstance(solid, solids.Cut):
+        return dataclasses.replace(solid, first=turnable(solid.first, world, eye), second=turnable(solid.second, world, eye))
+    if bare(solid):
+        return dataclasses.replace(solid, lines=None)
+    if not isinstance(solid, solids.Round) or not any(solid.lines or ()):
+        return solid
+    try:
+        own = matrices.placed(matrices.inverse(world), eye)
+    except ValueError:  # the core will refuse the placing
+        return solid
+    return dataclasses.replace(solid, lines=solids.Turned(line for line in solid.lines if not outlines.for_eye(solid, line, own)))
 
 
 def by_core(how: str, of: Scene) -> List[str]:
@@ -176,8 +199,8 @@ def default_outlines(options: argparse.Namespace, yard: forms.Yard, view: View) 
     """What --outlines is where it is not given, and what is said of that: the text's lines were made for one eye and one step."""
     lines = [line for solid in every_solid(yard.scene) if isinstance(solid, solids.Round) for line in solid.lines or ()]
     if options.eye or options.target:
-        said = "the eye is moved, so the outlines of round solids are made anew and the text's lines for them left out; --outlines kept keeps these"
-        return "all", [said] if lines else []
+        said = "the eye is moved, so outlines of the text, which were made for another, are made anew; --outlines kept keeps them"
+        return "turned", [said] if lines else []
     if yard.view and 0 < view.step and not 0 < yard.view.step < 1.001 * view.step:  # a step in millimetres is rounded
         said = "the step is finer than the text's, so the rings of its lines are made as fine; --outlines kept keeps them as they stand"
         return "rounded", [said] if any(map(outlines.centre, lines)) else []
@@ -215,7 +238,7 @@ def made(options: argparse.Namespace, text: str, sheet: Sheet) -> None:
     yard = forms.read(text)
     view = seen_by(options, yard, sheet)
     how, notes = (options.outlines, []) if options.outlines else default_outlines(options, yard, view)
-    of = with_outlines(how, yard.scene)
+    of = with_outlines(how, yard)
     notes += by_core(how, of)
     try:
         drawing = drawn(of, view, options)
@@ -241,14 +264,14 @@ def made(options: argparse.Namespace, text: str, sheet: Sheet) -> None:
 def turned(options: argparse.Namespace, text: str) -> None:
     """Serves the page until it is ended."""
     yard, sheet = forms.read(text), Sheet()
-    of = with_outlines(options.outlines, yard.scene)
+    of = with_outlines(options.outlines, yard)
     _, _, wide, high = sheet.area()
     width, height = (yard.view.width, yard.view.height) if yard.view else (wide, high)
     if not (0 < width < math.inf and 0 < height < math.inf):
         raise ValueError("the sheet of the text's view has no size")
     camera = turn.starting(of, yard.view, wide, high, options.step / sheet.scale(width, height))
     name = yard_name(options)
-    how = "" if options.outlines == "all" else f" --outlines {options.outlines}"
+    how = "" if options.outlines == "turned" else f" --outlines {options.outlines}"
     command = f"python3 -m larnt sheet {shlex.quote(options.yard)} sheet.svg --step {options.step:g}{how}"
     turning = turn.Turning(of, camera, sheet, name, command)
     try:

@@ -3,7 +3,7 @@
 `lines` of a round solid are handed to the core as they stand, in its own coordinates; None, the default, has the
 host make its outline as the eye sees it (outlines.py), a little off the surface. BY_CORE leaves it to the core, whose
 outlines lie in the surface, where the solid may hide parts of them; NO_LINES is none at all; `Rounded` lines are made as
-fine as the step. `source` is where a solid stands in a text (line and column from 1).
+fine as the step, and `Turned` ones have outlines added. `source` is where a solid stands in a text (line and column from 1).
 """
 from __future__ import annotations
 
@@ -28,6 +28,11 @@ class Rounded(tuple):
     circle, until its chords are no longer than the step of the view (outlines.py)."""
 
 
+class Turned(Rounded):
+    """The same, to which the host adds the lines in which the solid turns away from the eye: what was handed in has none
+    of them (outlines.py)."""
+
+
 class Operation(IntEnum):
     """What a cut leaves. The first two answer a ray as larnt's Rust does, by the t of the last ray; the others by
     the true distance, so that a cut behind the viewer hides nothing that stands clear."""
@@ -45,7 +50,7 @@ def hand_in(lines: Optional[Sequence[Sequence[Sequence[float]]]]) -> Optional[Li
     if lines is None:
         return None
     made = tuple(tuple(matrices.vector(p) for p in line) for line in lines)
-    return Rounded(made) if isinstance(lines, Rounded) else made
+    return type(lines)(made) if isinstance(lines, Rounded) else made
 
 
 @dataclass(frozen=True)

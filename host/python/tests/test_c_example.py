@@ -48,7 +48,7 @@ class Example(unittest.TestCase):
                 options = arguments(["sheet", str(path), "a.svg", *picture_options(path)])
                 yard = forms.read(path.read_text())
                 view = seen_by(options, yard, laid_out(options))
-                answer = self.answer(forms.write(with_outlines(options.outlines, yard.scene), view).encode()).decode()
+                answer = self.answer(forms.write(with_outlines(options.outlines, yard), view).encode()).decode()
                 core = [[(x, y) for x, y, _ in line] for line in drawing.read(answer, view.width, view.height).paths]
                 self.assertGreater(len(core), 10)
                 self.assertEqual(lines_of(ElementTree.parse(path.with_suffix(".svg")).getroot()), core)

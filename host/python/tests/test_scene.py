@@ -5,7 +5,7 @@ import unittest
 from unittest import mock
 
 import larnt
-from larnt import COARSE, DIFFERENCE, Camera, Cube, Cylinder, Refused, Scene, Sphere, forms, matrices, outlines, scene
+from larnt import COARSE, DIFFERENCE, Camera, Cone, Cube, Cylinder, Refused, Scene, Sphere, forms, matrices, outlines, scene
 
 from . import ROOT
 
@@ -274,6 +274,27 @@ class Rings(unittest.TestCase):
                 self.assertEqual(list(map(str, self.rounded(line))), [str(matrices.vector(p)) for p in line])
         ring = [(900 * math.cos(t), 0, 900 * math.sin(t)) for t in (math.pi * k / 18 for k in range(37))]
         self.assertEqual(len(self.rounded(ring, Camera((0, -9000, 0), (0, 0, 0), step=0).view())), 37)
+
+    def test_lines_that_were_made_for_an_eye_are_told_from_others(self):
+        """Those of the host's outlines: rings and slopes are nobody's; of those in which a solid turns away each is one eye's."""
+        for eye, other in (((30.0, -40.0, 9.0), (-35.0, -20.0, 9.0)), ((-4.0, 9.0, 2.0), (9.0, 3.0, 1.0))):
+            view = Camera(eye, (0, 0, 1)).view()
+            for in_cut in (False, True):
+                made = outlines.Outliner(view, matrices.IDENTITY, in_cut)
+                for solid, turning in ((Sphere((0.0, 0.0, 1.0), 1.0), 1), (Cylinder(1.0, 0.0, 2.0, rings=(1.0,)), 2), (Cone(1.0, 1.5, slopes=5), 2)):
+                    with self.subTest(eye=eye, solid=type(solid).__name__, in_cut=in_cut):
+                        lines = made.lines(solid)
+                        self.assertEqual(sum(outlines.for_eye(solid, line, eye) for line in lines), turning)
+                        self.assertEqual(sum(outlines.for_eye(solid, line, other) for line in made.turning(solid)), 0)
+
+    def test_turned_lines_have_the_outline_of_each_eye(self):
+        ring = outlines.level(1.01, 2.0, 36)
+        solid = Cylinder(1.0, 0.0, 2.0, lines=larnt.Turned([tuple(ring)]))
+        for eye in ((30, -40, 9), (-35, -20, 9)):
+            made = outlines.Outliner(Camera(eye, (0, 0, 1), step=100).view(), matrices.IDENTITY, False).lines(solid)
+            self.assertEqual((len(made), made[0]), (3, tuple(ring)))
+            self.assertTrue(all(outlines.for_eye(solid, line, matrices.vector(eye)) for line in made[1:]))
+            self.assertTrue(all(abs(math.hypot(*p[:2]) - 1.01) < 1e-12 for line in made[1:] for p in line))
 
     def test_a_cut_keeps_the_rim_of_a_hole_at_any_step(self):
         """A ball taken out of a wall: the circle in which they meet has 32 points, which are too few for the step."""

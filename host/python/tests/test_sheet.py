@@ -133,7 +133,9 @@ class Command(Typed):
     def test_a_moved_eye(self):
         _, err = self.run_sheet(SILOS, self.folder / "a.svg", "--eye", "-15000", "-26000", "13000", "--target", "0", "0", "4000", "--fov", "30")
         self.assertIn("--outlines kept", err)
+        self.assertIn("made anew", err)
         moved = self.lines(ElementTree.parse(self.folder / "a.svg").getroot())
+        self.assertGreater(len(moved), len(self.lines(self.svg(SILOS, "--eye", "-15000", "-26000", "13000", "--target", "0", "0", "4000", "--fov", "30", "--outlines", "all"))))  # which has no slopes
         self.assertGreater(len(moved), 30)
         self.assertNotEqual(moved, self.lines(self.svg(SILOS)))
         wide = self.lines(self.svg(SILOS, "--fov", "25"))

@@ -17,7 +17,7 @@ import unittest
 from array import array
 
 from larnt import BY_CORE, DIFFERENCE, Camera, Cube, Scene, Sphere, forms, hidden, sheets, turn
-from larnt.__main__ import LINES, main, with_outlines
+from larnt.__main__ import OUTLINES, main, with_outlines
 
 from . import ROOT, browser, wrong, yards
 from .test_examples import EXAMPLES
@@ -236,7 +236,7 @@ class Page(unittest.TestCase):
         cls.addClassCleanup(cls.program.terminate)
         cls.address = re.search(r"http://127\.0\.0\.1:\d+/", cls.program.stdout.readline())[0]
         yard = forms.read(SILOS.read_text())
-        cls.scene = Scene([turn.solids.changed(part.solid, lambda s: dataclasses.replace(s, lines=None)) for part in yard.scene.parts])
+        cls.scene = with_outlines("turned", yard)
         cls.camera = turn.starting(cls.scene, yard.view, 277, 190, 0.5 / (277 / 1200))
 
     def setUp(self):
@@ -390,10 +390,10 @@ class Command(unittest.TestCase):
                         self.assertAlmostEqual(x, y, places=4)
 
     def test_each_way_of_outlines_turns(self):
-        for how in LINES:
+        for how in OUTLINES:
             with self.subTest(how):
                 yard = forms.read(SILOS.read_text())
-                scene = with_outlines(how, yard.scene)
+                scene = with_outlines(how, yard)
                 page = turn.Turning(scene, turn.starting(scene, yard.view, 277, 190, 2), sheets.Sheet())
                 asked = {**asked_of(page.camera), "eye": [15000, 20000, 9000]}
                 drawn = paths_in(page.frame({**asked, "level": 1}))
