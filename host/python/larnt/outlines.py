@@ -35,6 +35,8 @@ HALVINGS = 8  # of a chord that is made round, at most
 GRAZING = 0.012  # the cosine, at most, between a look and the surface's normal where it turns away; TURNED is within it
 
 Line = List[Vector]
+Spot = Optional[Tuple[float, float]]  # on the sheet; None behind the eye
+End = Tuple[Vector, Spot]
 
 
 @functools.lru_cache(maxsize=256)
@@ -117,11 +119,20 @@ def through(a: Vector, b: Vector, c: Vector) -> Optional[Vector]:
     return matrices.along(c, across, 1 / (2 * square))
 
 
+def longer(a: Spot, b: Spot, step: float) -> bool:
+    """Whether a chord is longer than the step on the sheet; what is behind the eye is not."""
+    if a is None or b is None:
+        return False
+    x, y = a[0] - b[0], a[1] - b[1]
+    return x * x + y * y > step * step
+
+
 class Outliner:
     """Makes the lines of round solids as a view sees them, where `world` takes a solid's coordinates to the scene's."""
 
-    def __init__(self, view: View, world: Matrix, in_cut: bool) -> None:
-        self.view, self.world, self.in_cut = view, world, in_cut
+    def __init__(self, view: View, world: Matrix, in_cut: bool, rounds: bool = True) -> None:
+        """Without `rounds` handed-in lines stand as they are, in frames of a yard that moves."""
+        self.view, self.world, self.in_cut, self.rounds = view, world, in_cut, rounds
         try:
             self.eye: Optional[Vector] = matrices.placed(matrices.inverse(world), view.eye)
         except ValueError:  # the core will refuse the placing
@@ -164,10 +175,8 @@ class Outliner:
 
     def out(self, solid: Union[Cylinder, Cone]) -> float:
         """How far from the axis the lines of a wall stand: as those do that were handed in."""
-        if self.in_cut:
-            return solid.radius
-        handed = (math.hypot(p[0], p[1]) for line in solid.lines or () for p in line)
-        return max(handed, default=off(solid.radius, solid.points))
+        handed = solid.lines.out if isinstance(solid.lines, Turned) else 0.0
+        return solid.radius if self.in_cut else handed or off(solid.radius, solid.points)
 
     def uprights(self, solid: Cylinder) -> List[Line]:
         """The lines in which a tube turns away from the eye."""
@@ -205,30 +214,27 @@ class Outliner:
 
     def rounded(self, line: Tuple[Vector, ...]) -> Tuple[Vector, ...]:
         """A ring or a part of one as fine as the step; any other line as it stands."""
-        about = centre(line) if self.view.step > 0 else None
+        about = centre(line) if self.rounds and self.view.step > 0 else None
         if about is None:
             return line
+        ends = [(p, self.view.spot(matrices.placed(self.world, p))) for p in line]
         made = [line[0]]
-        for a, b in zip(line, line[1:]):
+        for a, b in zip(ends, ends[1:]):
             self.halved(a, b, about, HALVINGS, made)
         return tuple(made)
 
-    def halved(self, a: Vector, b: Vector, about: Vector, left: int, made: Line) -> None:
+    def halved(self, a: End, b: End, about: Vector, left: int, made: Line) -> None:
         """Adds what leads from a to b, both on a circle about a centre, in chords no longer than the step."""
-        if left and self.long(a, b):
-            half = matrices.along(a, matrices.minus(b, a), 0.5)
+        if left and longer(a[1], b[1], self.view.step):
+            half = matrices.along(a[0], matrices.minus(b[0], a[0]), 0.5)
             out = matrices.minus(half, about)
-            radius = (matrices.distance(a, about) + matrices.distance(b, about)) / 2
+            radius = (matrices.distance(a[0], about) + matrices.distance(b[0], about)) / 2
             middle = matrices.along(half, out, radius / matrices.length(out) - 1)
-            self.halved(a, middle, about, left - 1, made)
-            self.halved(middle, b, about, left - 1, made)
+            end = (middle, self.view.spot(matrices.placed(self.world, middle)))
+            self.halved(a, end, about, left - 1, made)
+            self.halved(end, b, about, left - 1, made)
         else:
-            made.append(b)
-
-    def long(self, a: Vector, b: Vector) -> bool:
-        """Whether a chord is longer than the step on the sheet; what is behind the eye is not."""
-        p, q = (self.view.spot(matrices.placed(self.world, end)) for end in (a, b))
-        return p is not None and q is not None and matrices.distance((*p, 0.0), (*q, 0.0)) > self.view.step
+            made.append(b[0])
 
     def lines(self, solid: Union[Sphere, Cylinder, Cone]) -> Lines:
         """Those that were handed in, or the outline."""

@@ -47,12 +47,12 @@ class Slices:
         self.marks += [solids.kind(solid), solids.detail(solid), *named, *[0] * (2 - len(named))]
         return entry
 
-    def outline(self, view: View) -> None:
-        """Hands in the lines of the round solids as a view sees them, in place of those there were."""
+    def outline(self, view: View, rounds: bool = True) -> None:
+        """Hands in the lines of the round solids as a view sees them, in place of those there were (Outliner)."""
         self.points, self.starts, self.owners = array("d"), [], []
         for entry, solid in enumerate(self.entries):
             if isinstance(solid, solids.Round):
-                for line in Outliner(view, self.worlds[entry], self.in_cut[entry]).lines(solid):
+                for line in Outliner(view, self.worlds[entry], self.in_cut[entry], rounds).lines(solid):
                     self.starts.append(len(self.points) // 3)
                     self.owners.append(entry)
                     self.points.extend(chain.from_iterable(line))

@@ -7,6 +7,8 @@ fine as the step, and `Turned` ones have outlines added. `source` is where a sol
 """
 from __future__ import annotations
 
+import functools
+import math
 from dataclasses import dataclass, field, replace
 from enum import IntEnum
 from typing import Callable, Optional, Sequence, Tuple, Union
@@ -31,6 +33,11 @@ class Rounded(tuple):
 class Turned(Rounded):
     """The same, to which the host adds the lines in which the solid turns away from the eye: what was handed in has none
     of them (outlines.py)."""
+
+    @functools.cached_property
+    def out(self) -> float:
+        """How far from the Z axis they reach."""
+        return max((math.hypot(p[0], p[1]) for line in self for p in line), default=0.0)
 
 
 class Operation(IntEnum):

@@ -17,6 +17,7 @@ import unittest
 from array import array
 
 from larnt import BY_CORE, DIFFERENCE, Camera, Cube, Scene, Sphere, forms, hidden, sheets, turn
+from larnt import scene as laid
 from larnt.__main__ import OUTLINES, main, with_outlines
 
 from . import ROOT, browser, wrong, yards
@@ -38,7 +39,10 @@ def core(scene, camera, asked, level):
     more, points = turn.LEVELS[level]
     solids = [turn.solids.changed(part.solid, lambda s: dataclasses.replace(s, points=min(points, s.points))) for part in scene.parts]
     seen = Camera(asked["eye"], asked["target"], field_of_view=asked["fov"], width=camera.width, height=camera.height, step=more * camera.step)
-    return [[x for p in path for x in p] for path in Scene(solids).draw(seen).paths]
+    made = Scene(solids).slices()
+    made.outline(seen.view(), level == 0)
+    drawing = laid.drawn(made, seen.view(), laid.FINE, laid.MOST_POINTS).drawing(seen.view())
+    return [[x for p in path for x in p] for path in drawing.paths]
 
 
 @contextlib.contextmanager
