@@ -14,6 +14,9 @@ turns away.
 Rings that a text hands in were made for one step. At a finer one the core halves their chords, and the middles lie
 beside the surface: a cut loses them, and a wall or a base may hide them. `Rounded` lines are made finer here first: the
 points in between lie on the ring's own circle, so on the same surface, or as far off it as the ring's own points.
+
+Of a text's lines some were made for one eye too: those in which a solid turns away from it. `for_eye` tells them by the
+surface, which each look grazes there, so that they can be left out; to `Turned` lines those of another eye are added.
 """
 from __future__ import annotations
 
