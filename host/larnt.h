@@ -331,6 +331,19 @@ typedef struct {
     larnt_tree tree;
 } larnt_work;
 
+/* Room for a scene that is made of two, and then how many entries, points and paths a call left in it. */
+typedef struct {
+    double *numbers; /* 16 an entry */
+    uint32_t *marks; /* 4 an entry */
+    size_t entries_room;
+    double *points; /* 3 a point */
+    size_t points_room;
+    size_t *starts;   /* 1 a path */
+    uint32_t *owners; /* 1 a path */
+    size_t paths_room;
+    size_t entries, points_count, paths;
+} larnt_merged;
+
 /* A path that was picked: of which drawing, its place there, its first point and the one after its last. */
 typedef struct {
     bool of_lines;
@@ -370,6 +383,11 @@ static inline void *larnt_nothing(void)
     LARNT_SLICE(size_t, (w)->work_starts, LARNT_WORK_SLICES * (w)->room), \
     LARNT_SLICE(double, (w)->chopped, LARNT_POINT_NUMBERS * (w)->room), \
     LARNT_SLICE(size_t, (w)->chopped_starts, (w)->room), LARNT_OF_TREE(&(w)->tree)
+#define LARNT_OF_MERGED(m) \
+    LARNT_SLICE(double, (m)->numbers, LARNT_ENTRY_NUMBERS * (m)->entries_room), \
+    LARNT_SLICE(uint32_t, (m)->marks, LARNT_ENTRY_MARKS * (m)->entries_room), \
+    LARNT_SLICE(double, (m)->points, LARNT_POINT_NUMBERS * (m)->points_room), \
+    LARNT_SLICE(size_t, (m)->starts, (m)->paths_room), LARNT_SLICE(uint32_t, (m)->owners, (m)->paths_room)
 
 static inline uint32_t larnt_scene_check(const larnt_scene *scene, double inverses[16 * LARNT_ENTRIES],
                                          double boxes[6 * LARNT_ENTRIES], uint32_t drawn[LARNT_ENTRIES], size_t *count)
@@ -448,6 +466,44 @@ static inline uint32_t larnt_scene_draw_with(const larnt_scene *scene, const dou
 {
     return larnt_draw_with(LARNT_OF_SCENE(scene), view, threshold, LARNT_OF_ROOM(out), LARNT_OF_WORK(work),
                            &out->points_count, &out->paths);
+}
+
+/* How many points and paths larnt_scene_draw_with leaves in `out` where that has room for them (libhost_preview.a): the
+   counts of `out` are filled, and nothing else of it is looked at, so a caller may size it by them. */
+static inline uint32_t larnt_scene_preview(const larnt_scene *scene, const double view[22], double threshold,
+                                           larnt_paths *out, larnt_work *work)
+{
+    return larnt_preview(LARNT_OF_SCENE(scene), view, threshold, SIZE_MAX, SIZE_MAX, LARNT_OF_WORK(work),
+                         &out->points_count, &out->paths);
+}
+
+/* One scene of two (libhost_merge.a): together their entries, points and paths are room enough. */
+static inline uint32_t larnt_scene_merge(const larnt_scene *first, const larnt_scene *second, larnt_merged *out)
+{
+    return larnt_merge(LARNT_OF_SCENE(first), LARNT_OF_SCENE(second), LARNT_OF_MERGED(out), &out->entries,
+                       &out->points_count, &out->paths);
+}
+
+/* What was merged, to be drawn or asked. */
+static inline larnt_scene larnt_merged_scene(const larnt_merged *merged)
+{
+    larnt_scene scene = {merged->numbers, merged->marks, merged->entries, merged->points, merged->points_count,
+                         merged->starts, merged->owners, merged->paths};
+    return scene;
+}
+
+/* The canonical text (libhost_text.a). */
+static inline uint32_t larnt_scene_write(const larnt_scene *scene, const double view[22], uint8_t *text,
+                                         size_t text_room, size_t *count)
+{
+    return larnt_write(LARNT_OF_SCENE(scene), view, LARNT_SLICE(uint8_t, text, text_room), count);
+}
+
+/* The outline of one solid. */
+static inline uint32_t larnt_lines_outline(uint32_t kind, const double numbers[16], const double eye[3],
+                                           const double place[16], const double view[22], larnt_paths *out)
+{
+    return larnt_outline(kind, numbers, eye, place, view, LARNT_OF_ROOM(out), &out->points_count, &out->paths);
 }
 
 /* `marks` has one byte a path, the yard's first. */

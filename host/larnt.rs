@@ -1,6 +1,6 @@
-//! The calls of libhost.a (`rt staticlib host`) for Rust, of libhost_preview.a of libhost_text.a and of libhost_plotter.a and libhost_merge.a. `tools/house`
-//! looks that none is missing; nothing checks their types against crates/host/src, crates/host_preview/src, crates/host_plotter/src and
-//! crates/host_merge/src. Matrices stand by rows; the kinds and the order of their numbers are in larnt.h, and so is
+//! The calls of libhost.a, libhost_preview.a, libhost_merge.a, libhost_text.a and libhost_plotter.a (`rt staticlib host`, and
+//! so on) for Rust; all five are linked. `tools/house` looks that none is missing; nothing checks their types against
+//! the crates of these names. Matrices stand by rows; the kinds and the order of their numbers are in larnt.h, and so is
 //! what a scene holds.
 
 /// The calls as they are.

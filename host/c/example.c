@@ -1,12 +1,13 @@
 /* Draws a yard with the proved library, as the program `yard` does: forms from standard input, the drawing to
    standard output. From the root of a clone:
 
-       rt staticlib host
-       cc -std=c99 -Wall -Wextra -O2 -Ihost host/c/example.c target/staticlib/libhost.a -o target/example
+       rt staticlib host && rt staticlib host_preview
+       cc -std=c99 -Wall -Wextra -O2 -Ihost host/c/example.c target/staticlib/libhost.a target/staticlib/libhost_preview.a -o target/example
        target/example < examples/silos.yard
 
    The reader takes what `yard` takes, and a little more: a form may go over several lines, and there is no limit on
-   how much it reads. The room lent to a draw grows until the drawing fits. */
+   how much it reads. What a draw works in grows until a preview finds it enough, and the drawing is lent the places that
+   this counts. */
 #include <inttypes.h>
 #include <stdio.h>
 #include <stdlib.h>
@@ -198,15 +199,13 @@ static void say(const larnt_paths *drawing)
     }
 }
 
-/* One draw with room for n points; answers as the library does. */
+/* Draws, working in room for n points; answers as the library does. */
 static uint32_t draw(const larnt_scene *scene, const double view[LARNT_VIEW_NUMBERS], size_t n)
 {
-    larnt_paths drawing = {.points_room = n, .paths_room = n};
+    larnt_paths drawing = {0};
     larnt_work work = {.room = n, .tree = {.nodes = larnt_tree_nodes(scene->entries)}};
     uint32_t answer;
 
-    drawing.points = room_for(NULL, LARNT_POINT_NUMBERS * n, sizeof *drawing.points);
-    drawing.starts = room_for(NULL, n, sizeof *drawing.starts);
     work.work = room_for(NULL, LARNT_WORK_SLICES * LARNT_POINT_NUMBERS * n, sizeof *work.work);
     work.work_starts = room_for(NULL, LARNT_WORK_SLICES * n, sizeof *work.work_starts);
     work.chopped = room_for(NULL, LARNT_POINT_NUMBERS * n, sizeof *work.chopped);
@@ -214,7 +213,13 @@ static uint32_t draw(const larnt_scene *scene, const double view[LARNT_VIEW_NUMB
     work.tree.boxes = room_for(NULL, LARNT_NODE_NUMBERS * work.tree.nodes, sizeof *work.tree.boxes);
     work.tree.marks = room_for(NULL, LARNT_NODE_MARKS * work.tree.nodes, sizeof *work.tree.marks);
     work.tree.order = room_for(NULL, work.tree.nodes, sizeof *work.tree.order);
-    answer = larnt_scene_draw_with(scene, view, FINE, &drawing, &work);
+    answer = larnt_scene_preview(scene, view, FINE, &drawing, &work);
+    if (answer == LARNT_DONE && drawing.paths > 0) {
+        drawing.points_room = drawing.points_count, drawing.paths_room = drawing.paths;
+        drawing.points = room_for(NULL, LARNT_POINT_NUMBERS * drawing.points_room, sizeof *drawing.points);
+        drawing.starts = room_for(NULL, drawing.paths_room, sizeof *drawing.starts);
+        answer = larnt_scene_draw_with(scene, view, FINE, &drawing, &work);
+    }
     if (answer == LARNT_DONE)
         say(&drawing);
     free(drawing.points), free(drawing.starts), free(work.work), free(work.work_starts), free(work.chopped);

@@ -1,7 +1,7 @@
 /* Each call on structs of host/larnt.h against the call under it: the same answer, and the same left in what is lent.
    Prints how many were compared; ends with 1 at the first difference.
 
-       cc -std=c99 -Wall -Wextra -O2 -Ihost host/c/structs.c target/staticlib/libhost.a target/staticlib/libhost_plotter.a -o target/structs && target/structs */
+       cc -std=c99 -Wall -Wextra -O2 -Ihost host/c/structs.c target/staticlib/libhost.a target/staticlib/libhost_plotter.a target/staticlib/libhost_preview.a target/staticlib/libhost_merge.a target/staticlib/libhost_text.a -o target/structs && target/structs */
 #include <stdio.h>
 #include <stdlib.h>
 #include <string.h>
@@ -65,8 +65,9 @@ static void draws(void)
     larnt_tree tree = {a.boxes, a.marks, a.order, NODES};
     larnt_work work = {a.work, a.work_starts, a.chopped, a.chopped_starts, ROOM, tree};
     uint32_t x, y;
-#define WORK b.points, 3 * ROOM, b.starts, ROOM, b.work, 24 * ROOM, b.work_starts, 8 * ROOM, b.chopped, 3 * ROOM, \
-             b.chopped_starts, ROOM, b.boxes, 6 * NODES, b.marks, 3 * NODES, b.order, NODES, &b.counts[0], &b.counts[1]
+#define WORKED b.work, 24 * ROOM, b.work_starts, 8 * ROOM, b.chopped, 3 * ROOM, b.chopped_starts, ROOM, b.boxes, \
+               6 * NODES, b.marks, 3 * NODES, b.order, NODES, &b.counts[0], &b.counts[1]
+#define WORK b.points, 3 * ROOM, b.starts, ROOM, WORKED
     room(&b);
     larnt_paths out = room(&a);
     x = larnt_scene_draw_with(&scene, view, 1e-6, &out, &work), y = larnt_draw_with(SCENE, view, 1e-6, WORK);
@@ -79,6 +80,55 @@ static void draws(void)
     room(&b), out = room(&a);
     x = larnt_scene_draw(&scene, view, &out, &work), y = larnt_draw(SCENE, view, WORK);
     drawn("draw", x, y, &out);
+
+    /* the preview has the draw's counts, and looks at no room for them */
+    size_t points_count = out.points_count, paths_count = out.paths;
+    room(&b), room(&a);
+    larnt_paths none = {NULL, 0, NULL, 0, 77, 77};
+    x = larnt_scene_preview(&scene, view, 1e-4, &none, &work), y = larnt_preview(SCENE, view, 1e-4, SIZE_MAX, SIZE_MAX, WORKED);
+    drawn("preview", x, y, &none);
+    same("preview's points", x, LARNT_DONE, &none.points_count, &points_count, sizeof points_count);
+    same("preview's paths", x, LARNT_DONE, &none.paths, &paths_count, sizeof paths_count);
+    room(&b), room(&a);
+    x = larnt_scene_preview(&scene, view, -1, &none, &work), y = larnt_preview(SCENE, view, -1, SIZE_MAX, SIZE_MAX, WORKED);
+    drawn("preview, refused", x, y, &none);
+}
+
+/* What a merge fills, twice. */
+static struct made {
+    double numbers[12 * LARNT_ENTRY_NUMBERS], points[30];
+    size_t starts[4], counts[3];
+    uint32_t marks[12 * LARNT_ENTRY_MARKS], owners[4];
+} c, d;
+
+static void merged(const char *what, uint32_t x, uint32_t y, const larnt_merged *out)
+{
+    c.counts[0] = out->entries, c.counts[1] = out->points_count, c.counts[2] = out->paths;
+    same(what, x, y, &c, &d, sizeof c);
+}
+
+static void merges(void)
+{
+    larnt_merged out = {c.numbers, c.marks, 12, c.points, 10, c.starts, c.owners, 4, 77, 77, 77};
+    const larnt_scene empty = {NULL, NULL, 9, NULL, 9, NULL, NULL, 9};
+    uint32_t x, y;
+#define MADE(entries) d.numbers, 16 * entries, d.marks, 4 * entries, d.points, 30, d.starts, 4, d.owners, 4, &d.counts[0], &d.counts[1], &d.counts[2]
+    memset(&c, 1, sizeof c), memset(&d, 1, sizeof d);
+    x = larnt_scene_merge(&scene, &scene, &out), y = larnt_merge(SCENE, SCENE, MADE(12));
+    merged("merge", x, y, &out);
+    larnt_scene both = larnt_merged_scene(&out);
+    same("merge's entries", x, LARNT_DONE, &both.entries, &(size_t){12}, sizeof both.entries);
+    same("merge's second part", both.marks[4 * 11 + 3], 10, "", "", 0);
+    same("merge's last owner", both.owners[both.paths - 1], 7, "", "", 0);
+    memset(&c, 1, sizeof c), memset(&d, 1, sizeof d);
+    x = larnt_scene_merge(&empty, &scene, &out), y = larnt_merge(numbers, 0, marks, 0, points, 0, starts, 0, owners, 0, SCENE, MADE(12));
+    merged("merge, empty", x, y, &out);
+    same("merge, empty: entries", x, LARNT_DONE, &out.entries, &scene.entries, sizeof out.entries);
+    memset(&c, 1, sizeof c), memset(&d, 1, sizeof d);
+    out.entries_room = 11;
+    x = larnt_scene_merge(&scene, &scene, &out), y = larnt_merge(SCENE, SCENE, MADE(11));
+    merged("merge, no room", x, y, &out);
+    same("merge, no room: 13", x, LARNT_REFUSED_ROOM, "", "", 0);
 }
 
 static void paths(void)
@@ -101,6 +151,13 @@ static void paths(void)
     drawn("simplify, empty", x, y, &out);
     larnt_paths full = {NULL, 9, NULL, 9, 77, 77};
     same("simplify, no room", larnt_lines_simplify(&lines, 5, &full), LARNT_REFUSED_ROOM, &full.points_count, &full.paths, sizeof full.paths);
+
+    const double ball[16] = {0, 0, 0, 1}, placed[16] = {1, 0, 0, 0, 0, 1, 0, 0, 0, 0, 1, 0, 0, 0, 0, 1};
+    room(&b), out = room(&a);
+    x = larnt_lines_outline(LARNT_SPHERE, ball, eye, placed, view, &out), y = larnt_outline(LARNT_SPHERE, ball, eye, placed, view, OUT);
+    drawn("outline", x, y, &out);
+    if (out.paths != 1 || out.points_count < 4)
+        printf("the outline has %zu points\n", out.points_count), exit(1);
 
     uint8_t drawn_a[2] = {0}, drawn_b[2] = {0};
     larnt_picked picked, wanted;
@@ -165,9 +222,22 @@ static void questions(void)
     same("check, empty: count", (uint32_t)n[0], 0, "", "", 0);
 }
 
+static void written(void)
+{
+    static uint8_t text[2][4096];
+    size_t n[2] = {77, 77};
+    uint32_t x, y;
+    x = larnt_scene_write(&scene, view, text[0], sizeof text[0], &n[0]), y = larnt_write(SCENE, view, text[1], sizeof text[1], &n[1]);
+    same("write", x, y, text[0], text[1], sizeof text[0]);
+    same("write's count", memcmp(text[0], "(view #", 7) == 0, true, &n[0], &n[1], sizeof *n);
+    same("write, no room", larnt_scene_write(&scene, view, NULL, 4096, &n[0]), LARNT_REFUSED_ROOM, "", "", 0);
+}
+
 int main(void)
 {
     draws();
+    written();
+    merges();
     paths();
     questions();
     printf("%d compared\n", compared);

@@ -8,7 +8,13 @@ fn main() {
         Some(named) => PathBuf::from(named),
         None => here.join("../../target/staticlib"),
     };
-    for name in ["host", "host_plotter"] {
+    for name in [
+        "host",
+        "host_preview",
+        "host_merge",
+        "host_text",
+        "host_plotter",
+    ] {
         let archive = folder.join(format!("lib{name}.a"));
         println!("cargo::rerun-if-changed={}", archive.display());
         if !archive.exists() {

@@ -19,9 +19,9 @@ from .library import Missing
 from .plotter import Plotter, pick, ways
 from .refusals import WORDS, Refused
 from .scene import COARSE, FINE, MOST_POINTS, Part, Scene
-from .solids import BY_CORE, DIFFERENCE, INTERSECTION, NO_LINES, Cone, Cube, Cut, Cylinder, Operation, Placed, Solid, Sphere, Triangle, pipe
+from .solids import BY_CORE, DIFFERENCE, INTERSECTION, NO_LINES, Cone, Cube, Cut, Cylinder, Operation, Placed, Rounded, Solid, Sphere, Triangle, Turned, pipe
 
 __all__ = (
     "BY_CORE COARSE DIFFERENCE FINE INTERSECTION MOST_POINTS NO_LINES WORDS Camera Cone Cube Cut Cylinder Drawing Missing Operation Part "
-    "Placed Plotter Refused Scene Solid Sphere Triangle View forms hidden matrices pick pipe sheets texts ways"
+    "Placed Plotter Refused Rounded Scene Solid Sphere Triangle Turned View forms hidden matrices pick pipe sheets texts ways"
 ).split()

@@ -10,14 +10,14 @@ import shlex
 import sys
 import time
 import webbrowser
-from typing import List, Optional, Sequence, Tuple
+from typing import Any, Callable, Dict, List, Optional, Sequence, Tuple
 
-from . import forms, matrices, plotter, progress, scene, sheets, solids, texts, turn
+from . import forms, library, matrices, outlines, progress, scene, sheets, solids, texts, turn
 from .camera import Camera, View
 from .drawing import Drawing
 from .library import Missing
 from .refusals import Refused
-from .scene import Scene
+from .scene import Part, Scene
 from .sheets import Sheet
 from .solids import Solid
 
@@ -40,8 +40,9 @@ def arguments(given: Optional[Sequence[str]]) -> argparse.Namespace:
     add("--target", nargs=3, type=float, metavar=("X", "Y", "Z"), help="what one looks at (default: the middle of the yard where --eye is given)")
     add("--fov", type=float, metavar="DEGREES", help="field of view, from the lower edge to the upper (default: that of the text, or 40)")
     add("--step", type=float, metavar="MM", help="the longest piece between two tested points (default: that of the text; 0.5 without a view)")
-    add("--outlines", choices=("kept", "missing", "all"), help="round solids: the lines of the text as they stand (default), an outline where there are none, "
-        "or an outline for all in place of their lines (default where the eye is moved)")
+    add("--outlines", choices=OUTLINES, help="round solids: the lines of the text kept as they stand (default), with rings rounded as fine as the step (default where "
+        "that is finer than the text's), with those that were made for its eye turned to this one (default where the eye is moved), an outline where lines are "
+        "missing, an outline for all in place of their lines, or the core's own outlines, which lie in the surface")
     add("--threshold", type=float, default=scene.FINE, help="of simplification (default %(default)g; 1e-4 for fewer vertices)")
     add("--most-points", type=int, default=scene.MOST_POINTS, metavar="N", help="the most room that a draw is lent (default %(default)s)")
     add("--paper", default="A4", help="A0 to A5, or WIDTHxHEIGHT in millimetres (default A4, landscape)")
@@ -59,8 +60,7 @@ def arguments(given: Optional[Sequence[str]]) -> argparse.Namespace:
     add("--port", type=int, default=0, help="where to serve (default: any that is free)")
     add("--open", action="store_true", help="opens the page in the browser")
     add("--step", type=float, default=0.5, metavar="MM", help="at rest, the longest piece between two tested points, on an A4 sheet (default %(default)g)")
-    add("--outlines", choices=("kept", "missing", "all"), default="all", help="round solids: an outline for all in place of their lines (default), an outline "
-        "where there are none, or the lines of the text as they stand")
+    add("--outlines", choices=OUTLINES, default="turned", help="round solids, as of sheet (default %(default)s)")
     rewriting = commands.add_parser("canonical", help="the text of a yard in canonical form", description="Prints a yard one form a line, counts in decimal and every other "
                                     "number by its bits, as the core writes it; what is drawn of it stays the same, bit for bit.")
     rewriting.add_argument("yard", help="the text, or - for standard input")
@@ -134,32 +134,77 @@ def middle(of: Scene) -> List[float]:
     return [(min(low[k] for low, _ in boxes) + max(high[k] for _, high in boxes)) / 2 for k in range(3)]
 
 
-def outlined(solid: Solid, every: bool) -> Solid:
-    """The solid with outlines by the host, for every round part of it or for those without lines and stripes."""
-    return solids.changed(solid, lambda inner: dataclasses.replace(inner, lines=None) if every or bare(inner) else inner)
-
-
 def bare(solid: Solid) -> bool:
-    return isinstance(solid, solids.Round) and solid.lines == () and not solids.detail(solid)
+    """Whether a solid is left to the core: a round one without lines and stripes."""
+    return isinstance(solid, solids.Round) and solid.lines == solids.BY_CORE and not isinstance(solid.lines, solids.Turned) and not solids.detail(solid)
 
 
-def every_solid(of: Sequence[Solid]) -> List[Solid]:
-    return [inner for solid in of for inner in [solid, *every_solid(solids.parts(solid))]]
+# what becomes of the lines of a round solid, by the words of --outlines
+LINES: Dict[str, Callable[[Any], Optional[solids.Lines]]] = {
+    "kept": lambda solid: solid.lines,
+    "rounded": lambda solid: solids.Rounded(solid.lines),
+    "missing": lambda solid: None if bare(solid) else solid.lines,
+    "all": lambda solid: None,
+    "core": lambda solid: solids.BY_CORE,
+}
 
 
-def with_outlines(options: argparse.Namespace, of: Scene) -> Tuple[Scene, List[str]]:
-    """The scene with the outlines that the options ask for, and what is to be noted of them."""
-    drawn = [part.solid for part in of.parts]
-    moved = bool(options.eye or options.target)
-    how = options.outlines or ("all" if moved else "kept")
-    if how == "kept":
-        lines = sorted({solid.source[0] for solid in every_solid(drawn) if bare(solid) and solid.source})
-        some = ", ".join(map(str, lines[:8])) + (", .." if len(lines) > 8 else "")
-        said = f"the core draws the outlines of round solids without lines, in their surface, where they may hide parts of them (text line {some}); --outlines missing draws them off it"
-        return of, [said] if lines else []
-    anew = moved and not options.outlines and any(isinstance(s, solids.Round) and s.lines for s in every_solid(drawn))
-    said = "the eye is moved, so the outlines of round solids are made anew and the text's lines for them left out; --outlines kept keeps these"
-    return Scene([outlined(solid, how == "all") for solid in drawn]), [said] if anew else []
+OUTLINES = (*LINES, "turned")
+
+
+def every_solid(of: Scene) -> List[Solid]:
+    def within(solid: Solid) -> List[Solid]:
+        return [solid, *(inner for part in solids.parts(solid) for inner in within(part))]
+
+    return [solid for part in of.parts for solid in within(part.solid)]
+
+
+def with_outlines(how: str, yard: forms.Yard) -> Scene:
+    """The scene with the lines that --outlines asks for."""
+    def lined(solid: Any) -> Solid:
+        return dataclasses.replace(solid, lines=LINES[how](solid))
+
+    if how == "turned" and yard.view:
+        return Scene([turnable(part.solid, matrices.IDENTITY, yard.view.eye) for part in yard.scene.parts])
+    how = "all" if how == "turned" else how  # lines of nobody knows which eye
+    return Scene([solids.changed(part.solid, lined) for part in yard.scene.parts])
+
+
+def turnable(solid: Any, world: matrices.Matrix, eye: matrices.Vector) -> Solid:
+    """The solid without the lines that were made for an eye: others are made for each eye that looks at it."""
+    if isinstance(solid, solids.Placed):
+        return dataclasses.replace(solid, part=turnable(solid.part, matrices.product(world, solid.matrix), eye))
+    if isinstance(solid, solids.Cut):
+        return dataclasses.replace(solid, first=turnable(solid.first, world, eye), second=turnable(solid.second, world, eye))
+    if bare(solid):
+        return dataclasses.replace(solid, lines=None)
+    if not isinstance(solid, solids.Round) or not any(solid.lines or ()):
+        return solid
+    try:
+        own = matrices.placed(matrices.inverse(world), eye)
+    except ValueError:  # the core will refuse the placing
+        return solid
+    return dataclasses.replace(solid, lines=solids.Turned(line for line in solid.lines if not outlines.for_eye(solid, line, own)))
+
+
+def by_core(how: str, of: Scene) -> List[str]:
+    """What is said where the core draws outlines."""
+    lines = sorted({solid.source[0] for solid in every_solid(of) if bare(solid) and solid.source})
+    some, other = ", ".join(map(str, lines[:8])) + (", .." if len(lines) > 8 else ""), "all" if how == "core" else "missing"
+    said = f"the core draws the outlines of round solids without lines, in their surface, where they may hide parts of them (text line {some}); --outlines {other} draws them off it"
+    return [said] if lines else []
+
+
+def default_outlines(options: argparse.Namespace, yard: forms.Yard, view: View) -> Tuple[str, List[str]]:
+    """What --outlines is where it is not given, and what is said of that: the text's lines were made for one eye and one step."""
+    lines = [line for solid in every_solid(yard.scene) if isinstance(solid, solids.Round) for line in solid.lines or ()]
+    if options.eye or options.target:
+        said = "the eye is moved, so outlines of the text, which were made for another, are made anew; --outlines kept keeps them"
+        return "turned", [said] if lines else []
+    if yard.view and 0 < view.step and not 0 < yard.view.step < 1.001 * view.step:  # a step in millimetres is rounded
+        said = "the step is finer than the text's, so the rings of its lines are made as fine; --outlines kept keeps them as they stand"
+        return "rounded", [said] if any(map(outlines.centre, lines)) else []
+    return "kept", []
 
 
 def drawn(of: Scene, view: View, options: argparse.Namespace) -> Drawing:
@@ -179,10 +224,22 @@ def drawn(of: Scene, view: View, options: argparse.Namespace) -> Drawing:
 # ---- the command
 
 
+def yard_name(options: argparse.Namespace) -> str:
+    return pathlib.Path(options.yard).name if options.yard != "-" else "yard"
+
+
+def listed(part: Part) -> str:
+    line = f", text line {part.solid.source[0]}" if part.solid.source else ""
+    return f"part {part.number}: {solids.described(part.solid)}{line}"
+
+
 def made(options: argparse.Namespace, text: str, sheet: Sheet) -> None:
+    """Draws, writes the sheets, and says what is to be said of them."""
     yard = forms.read(text)
-    of, notes = with_outlines(options, yard.scene)
-    view = seen_by(options, forms.Yard(yard.view, of), sheet)
+    view = seen_by(options, yard, sheet)
+    how, notes = (options.outlines, []) if options.outlines else default_outlines(options, yard, view)
+    of = with_outlines(how, yard)
+    notes += by_core(how, of)
     try:
         drawing = drawn(of, view, options)
     except Refused as refusal:
@@ -190,17 +247,15 @@ def made(options: argparse.Namespace, text: str, sheet: Sheet) -> None:
             refusal.line, refusal.column = yard.view_at
         raise
     if sheet.title and not sheet.notes:
-        sheet.notes = [pathlib.Path(options.yard).name, "eye " + " ".join(f"{x:g}" for x in view.eye)]
+        sheet.notes = [yard_name(options), "eye " + " ".join(f"{x:g}" for x in view.eye)]
     labels, unseen = sheets.numbered(of, view) if options.parts else ([], [])
     laid = sheet.laid(drawing, labels)
     for path in options.sheets:
         sheets.write(laid, path, options.dpi)
         print(f"{path}: {len(drawing.paths)} lines on {sheet.paper[0]:g} x {sheet.paper[1]:g} mm")
-    if options.parts:
-        for part in of.parts:
-            line = f", text line {part.solid.source[0]}" if part.solid.source else ""
-            print(f"part {part.number}: {solids.described(part.solid)}{line}{', not seen from here' if part in unseen else ''}")
-    if any(path.endswith((".hpgl", ".plt")) for path in options.sheets) and not plotter.there():
+    for part in of.parts if options.parts else ():
+        print(listed(part) + (", not seen from here" if part in unseen else ""))
+    if any(path.endswith((".hpgl", ".plt")) for path in options.sheets) and not library.there(library.plotter):
         notes.append("the pen goes in the drawing's order: its way is picked where libhost_plotter.a is at hand (rt staticlib host_plotter)")
     for said in notes:
         note(said)
@@ -209,23 +264,22 @@ def made(options: argparse.Namespace, text: str, sheet: Sheet) -> None:
 def turned(options: argparse.Namespace, text: str) -> None:
     """Serves the page until it is ended."""
     yard, sheet = forms.read(text), Sheet()
-    options.eye = options.target = None
-    of, notes = with_outlines(options, yard.scene)
+    of = with_outlines(options.outlines, yard)
     _, _, wide, high = sheet.area()
     width, height = (yard.view.width, yard.view.height) if yard.view else (wide, high)
     if not (0 < width < math.inf and 0 < height < math.inf):
         raise ValueError("the sheet of the text's view has no size")
     camera = turn.starting(of, yard.view, wide, high, options.step / sheet.scale(width, height))
-    name = pathlib.Path(options.yard).name if options.yard != "-" else "yard"
-    outlines = "" if options.outlines == "all" else f" --outlines {options.outlines}"
-    command = f"python3 -m larnt sheet {shlex.quote(options.yard)} sheet.svg --step {options.step:g}{outlines}"
+    name = yard_name(options)
+    how = "" if options.outlines == "turned" else f" --outlines {options.outlines}"
+    command = f"python3 -m larnt sheet {shlex.quote(options.yard)} sheet.svg --step {options.step:g}{how}"
     turning = turn.Turning(of, camera, sheet, name, command)
     try:
         server = turn.Server(turning, options.port)
     except (OSError, OverflowError) as error:
         raise ValueError(f"--port {options.port}: {getattr(error, 'strerror', None) or error}") from None
     with server:
-        for said in notes:
+        for said in by_core(options.outlines, of):
             note(said, "turn")
         print(f"{name}: {server.address()} (Ctrl-C ends it)", flush=True)
         if options.open:

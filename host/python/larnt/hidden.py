@@ -6,17 +6,19 @@ spot of the sheet, and asks the library of the nearest point of each which part 
 from __future__ import annotations
 
 import math
-from ctypes import byref, c_bool
+from ctypes import byref, c_bool, c_double, c_size_t
 from dataclasses import dataclass
 from typing import Dict, Iterator, List, Optional, Sequence, Tuple
 
 from . import library, matrices
 from .camera import View
 from .matrices import Vector
-from .scene import Part, Scene, Slices
-from .solids import Cone, Cube, Cut, Cylinder, Solid, Triangle, parts
+from .refusals import Refused
+from .scene import Part, Scene, Slices, rows_of, slots
+from .solids import Cone, Cube, Cut, Cylinder, Round, Solid, Triangle, detail, parts, true_distance
 
 Spot = Tuple[float, float]
+OUTLINE = 4096  # more points than an outline of the core has: two rings of 1,025, and two lines
 
 
 @dataclass(frozen=True)
@@ -66,18 +68,32 @@ def cube_lines(cube: Cube) -> Iterator[List[Vector]]:
             yield [(x, y, z), (x, v, z)]
 
 
-def every_line(made: Slices) -> Iterator[Tuple[int, List[Vector]]]:
+def core_outline(made: Slices, entry: int, view: View) -> List[List[Vector]]:
+    """The outline that a draw makes of a round solid with neither lines nor stripes."""
+    try:
+        eye = matrices.placed(matrices.inverse(made.worlds[entry]), view.eye)
+    except ValueError:  # a placing that Python finds no inverse of
+        return []
+    out, begins, points, paths = slots(c_double, 3 * OUTLINE), slots(c_size_t, OUTLINE), c_size_t(), c_size_t()
+    asked = [made.numbers[16 * entry : 16 * entry + 16], eye, matrices.flat(made.worlds[entry]), view.numbers()]
+    library.host().larnt_outline(made.marks[4 * entry], *map(library.numbers, asked), *out, *begins, byref(points), byref(paths))
+    return rows_of(out[0][: 3 * points.value], begins[0][: paths.value])
+
+
+def every_line(made: Slices, view: View) -> Iterator[Tuple[int, List[Vector]]]:
     """Each line, hidden or not, with its entry, in the entry's coordinates."""
-    ends = [*made.starts[1:], len(made.points) // 3]
-    rows = list(zip(made.points[0::3], made.points[1::3], made.points[2::3]))
-    yield from ((owner, rows[a:b]) for owner, a, b in zip(made.owners, made.starts, ends))
-    yield from ((entry, line) for entry, solid in enumerate(made.entries) for line in own_lines(solid))
+    yield from zip(made.owners, rows_of(made.points, made.starts))
+    lined = set(made.owners)
+    for entry, solid in enumerate(made.entries):
+        yield from ((entry, line) for line in own_lines(solid))
+        if isinstance(solid, Round) and entry not in lined and not detail(solid):
+            yield from ((entry, line) for line in core_outline(made, entry, view))
 
 
 def passing(made: Slices, view: View, at: Spot, within: float) -> Iterator[Near]:
     """Of each piece of a line that passes a spot of the sheet no farther than `within` the nearest place."""
     worlds = {id(world): matrices.product(view.matrix, world) for world in made.worlds}
-    for entry, line in every_line(made):
+    for entry, line in every_line(made, view):
         clipped = [matrices.projected(worlds[id(made.worlds[entry])], p) for p in line]
         spots = [((x / w + 1) * view.width / 2, (y / w + 1) * view.height / 2) if w > 0 else None for x, y, _, w in clipped]
         for k, (a, b) in enumerate(zip(spots, spots[1:])):
@@ -114,6 +130,23 @@ def kept(made: Slices, scene: Sequence[object], upper: Dict[int, int], near: Nea
             if library.host().larnt_own_contains(*scene, entry, library.numbers(own), 0.0, byref(inside)) or not inside.value:
                 return False
     return True
+
+
+def look(scene: Scene, eye: Sequence[float], point: Sequence[float]) -> Optional[Tuple[Part, Vector]]:
+    """What a look meets first, as the scene answers it; None too where the look has a refusal of its own: it may need
+    more restarts in a cut than there are."""
+    try:
+        return scene.first_met(eye, point)
+    except Refused as refusal:
+        if refusal.number in (11, 12):
+            return None
+        raise
+
+
+def first_met(scene: Scene, eye: Sequence[float], point: Sequence[float]) -> Optional[Part]:
+    """The part that a look meets first, by true distances: those of the Rust's cuts are too short for a look."""
+    met = look(Scene([true_distance(part.solid) for part in scene.parts]), eye, point)
+    return scene.parts[met[0].number - 1] if met else None
 
 
 def told(scene: Scene, view: View, at: Spot, within: float) -> Optional[Told]:

@@ -12,7 +12,7 @@ import pathlib
 import subprocess
 from array import array
 from ctypes import POINTER, c_bool, c_double, c_size_t, c_uint8, c_uint16, c_uint32
-from typing import Sequence
+from typing import Callable, Sequence
 
 ENTRIES = 1024  # the most entries of a scene
 NOBODY = 0xFFFFFFFF  # the entry that is named where none is
@@ -32,6 +32,7 @@ HOST = {
     "larnt_visible": SCENE + TREE + [ROW, ROW, FLAG],
     "larnt_occluder": SCENE + TREE + [ROW, ROW, POINTER(c_uint32)],
     "larnt_covered_all": SCENE + TREE + [ROW] + NUMBERS + BYTES,
+    "larnt_outline": [c_uint32, ROW, ROW, ROW, ROW] + NUMBERS + PLACES + [COUNT, COUNT],
     "larnt_draw_with": SCENE + [ROW, c_double] + NUMBERS + PLACES + WORK,
 }
 
@@ -124,6 +125,15 @@ def plotter() -> ctypes.CDLL:
     opened = loaded("host_plotter", PLOTTER)
     opened.larnt_plotter_step.restype = None
     return opened
+
+
+def there(archive: Callable[[], ctypes.CDLL]) -> bool:
+    """Whether one of the above is at hand."""
+    try:
+        archive()
+    except Missing:
+        return False
+    return True
 
 
 def numbers(values: Sequence[float]) -> "ctypes.Array[c_double]":

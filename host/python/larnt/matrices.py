@@ -1,4 +1,8 @@
-"""Vectors of three numbers, and matrices of four rows. Angles are degrees."""
+"""Vectors of three numbers, and matrices of four rows. Angles are degrees.
+
+Sums are written out: later versions of Python round those of `sum` and `math.dist` otherwise, and a sheet should have the
+same numbers with each.
+"""
 from __future__ import annotations
 
 import functools
@@ -26,7 +30,7 @@ def along(start: Sequence[float], way: Sequence[float], far: float) -> Vector:
 
 
 def dot(a: Sequence[float], b: Sequence[float]) -> float:
-    return sum(x * y for x, y in zip(a, b))
+    return a[0] * b[0] + a[1] * b[1] + a[2] * b[2]
 
 
 def cross(a: Sequence[float], b: Sequence[float]) -> Vector:
@@ -35,6 +39,10 @@ def cross(a: Sequence[float], b: Sequence[float]) -> Vector:
 
 def length(v: Sequence[float]) -> float:
     return math.sqrt(dot(v, v))
+
+
+def distance(a: Sequence[float], b: Sequence[float]) -> float:
+    return length(minus(a, b))
 
 
 def unit(v: Sequence[float]) -> Vector:
@@ -59,7 +67,8 @@ def flat(m: Matrix) -> list[float]:
 
 
 def product(a: Matrix, b: Matrix) -> Matrix:
-    return matrix([[sum(a[i][k] * b[k][j] for k in range(4)) for j in range(4)] for i in range(4)])
+    columns = list(zip(*b))
+    return matrix([[x * p + y * q + z * r + w * s for p, q, r, s in columns] for x, y, z, w in a])
 
 
 def moved(x: float, y: float, z: float) -> Matrix:

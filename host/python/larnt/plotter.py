@@ -60,15 +60,6 @@ def ways(drawing: Drawing) -> List[List[Vector]]:
     return [drawing.paths[path] for _, path in pick(flat)]
 
 
-def there() -> bool:
-    """Whether the library is at hand."""
-    try:
-        library.plotter()
-    except library.Missing:
-        return False
-    return True
-
-
 class Plotter:
     """A plotter's registers, all 0 at first: support staff try pen settings on them (host/larnt.h says what each byte is)."""
 

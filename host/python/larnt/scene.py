@@ -47,12 +47,12 @@ class Slices:
         self.marks += [solids.kind(solid), solids.detail(solid), *named, *[0] * (2 - len(named))]
         return entry
 
-    def outline(self, view: View) -> None:
-        """Hands in the lines of the round solids as a view sees them, in place of those there were."""
+    def outline(self, view: View, rounds: bool = True) -> None:
+        """Hands in the lines of the round solids as a view sees them, in place of those there were (Outliner)."""
         self.points, self.starts, self.owners = array("d"), [], []
         for entry, solid in enumerate(self.entries):
             if isinstance(solid, solids.Round):
-                for line in Outliner(view, self.worlds[entry], self.in_cut[entry]).lines(solid):
+                for line in Outliner(view, self.worlds[entry], self.in_cut[entry], rounds).lines(solid):
                     self.starts.append(len(self.points) // 3)
                     self.owners.append(entry)
                     self.points.extend(chain.from_iterable(line))
@@ -60,8 +60,20 @@ class Slices:
     def arguments(self) -> list:
         """The five slices, each a pointer and a count."""
         made = [library.numbers(self.numbers), library.marks(self.marks), library.numbers(self.points), library.places(self.starts), library.marks(self.owners)]
-        counts = [len(self.numbers), len(self.marks), len(self.points), len(self.starts), len(self.owners)]
-        return [x for pair in zip(made, counts) for x in pair]
+        return [x for pair in zip(made, self.counts()) for x in pair]
+
+    def counts(self) -> List[int]:
+        return [len(self.numbers), len(self.marks), len(self.points), len(self.starts), len(self.owners)]
+
+    def merged(self, other: "Slices") -> list:
+        """The five slices of one scene made of two by the library, as `arguments` has them; its refusals of either."""
+        kinds = (c_double, c_uint32, c_double, c_size_t, c_uint32)
+        filled = [x for kind, one, two in zip(kinds, self.counts(), other.counts()) for x in slots(kind, one + two)]
+        told = [byref(c_size_t()) for _ in range(3)]
+        answer = library.merging().larnt_merge(*self.arguments(), *other.arguments(), *filled, *told)
+        if answer:
+            raise Refused(answer, f"together they have {len(self.entries) + len(other.entries):,} entries" if answer == 2 else None)
+        return filled
 
 
 class Tree:
@@ -176,6 +188,16 @@ class Scene:
         """What an operation leaves of two parts; parts of this scene are then drawn as the cut alone."""
         return self.add(Cut(int(operation), self.taken(first), self.taken(second)), name)
 
+    def merge(self, other: "Scene") -> "Scene":
+        """One scene of two, the parts of this one first; judged by the library's merge (`libhost_merge.a`)."""
+        for scene in (self, other):
+            scene.boxes()
+        self.slices().merged(other.slices())
+        both = Scene()
+        for part in [*self.parts, *other.parts]:
+            both.add(part.solid, part.name)
+        return both
+
     # ---- what the library is handed
 
     def slices(self, view: Optional[View] = None) -> Slices:
@@ -246,32 +268,47 @@ class Scene:
 
     # ---- drawing
 
-    def fitted(self, ask: Callable[["Room", Slices, View, float], int], view: View, threshold: float, most_points: int) -> "Room":
-        """A room that is large enough, after a draw or a preview in it."""
-        made = self.lined(view)
-        for points in rooms(made, most_points):
-            room = Room(made, points)
-            answer = ask(room, made, view, threshold)
-            if answer != 13:
-                break
-        if answer:
-            raise diagnosis.refused(answer, made, view, threshold, most_points)
-        return room
-
     def draw(self, seen: Seen, *, threshold: float = FINE, most_points: int = MOST_POINTS) -> Drawing:
-        """The lines that the view sees. The room lent to the core grows until the drawing fits, up to `most_points`."""
+        """The lines that the view sees. What the core works in grows until it suffices, up to `most_points`."""
         view = as_view(seen)
-        return self.fitted(Room.draw, view, threshold, most_points).drawing(view)
+        made = self.lined(view)
+        return drawn(made, view, threshold, most_points).drawing(view)
 
     def preview(self, seen: Seen, *, threshold: float = FINE, most_points: int = MOST_POINTS) -> Tuple[int, int]:
         """How many points and paths `draw` would answer, without the drawing; where `libhost_preview.a` is there."""
-        room = self.fitted(Room.preview, as_view(seen), threshold, most_points)
-        return room.points_out.value, room.paths_out.value
+        view = as_view(seen)
+        return fitted(Room.preview, self.lined(view), view, threshold, most_points).counts()
+
+
+def fitted(ask: Callable[["Room", Slices, View, float], int], made: Slices, view: View, threshold: float, most_points: int) -> "Room":
+    """A room that is large enough, after a draw or a preview in it."""
+    for points in rooms(made, most_points):
+        room = Room(made, points)
+        answer = ask(room, made, view, threshold)
+        if answer != 13:
+            break
+    if answer:
+        raise diagnosis.refused(answer, made, view, threshold, most_points)
+    return room
+
+
+def drawn(made: Slices, view: View, threshold: float, most_points: int) -> "Room":
+    """The room with the drawing in it. Where the preview is there it finds the room, and the drawing is lent the places
+    that it counts; else the draw itself finds it, with as many places for the drawing as for the chop, which are enough:
+    no stage after the chop adds a point."""
+    if not library.there(library.preview):
+        return fitted(Room.draw, made, view, threshold, most_points)
+    room = fitted(Room.preview, made, view, threshold, most_points)
+    room.lend(*room.counts())
+    answer = room.draw(made, view, threshold)
+    if answer:
+        raise diagnosis.refused(answer, made, view, threshold, most_points)
+    return room
 
 
 def rooms(made: Slices, most: int) -> Iterator[int]:
-    """The rooms to try, in points. Most draws that do not fit say so at the chop, before the eye tests, which take most
-    of the time. A preview counts what a draw answers, not the room that it works in, so it would leave as many to try."""
+    """The rooms to try, in points. No call tells how much a draw works in, so they double; most draws and previews that do
+    not fit say so at the chop, before the eye tests, which take most of the time."""
     points = max(1, min(most, max(FIRST_POINTS, len(made.points) // 3)))
     yield points
     while points < most:
@@ -279,21 +316,42 @@ def rooms(made: Slices, most: int) -> Iterator[int]:
         yield points
 
 
+def rows_of(numbers: Sequence[float], starts: Sequence[int]) -> List[List[Vector]]:
+    """Lines, of three numbers a point and of where each starts, in points."""
+    points = list(zip(numbers[0::3], numbers[1::3], numbers[2::3]))
+    return [points[a:b] for a, b in zip(starts, [*starts[1:], len(points)])]
+
+
+def slots(kind: type, count: int) -> list:
+    """A slice to be filled, as the library takes it: a pointer, which is never null, and a count."""
+    return [(kind * max(1, count))(), count]
+
+
 class Room:
-    """What a draw is lent: room for so many points, and for the tree of a scene. It may be lent again and again."""
+    """What a draw is lent: work for so many points, the tree of a scene, and places for the drawing. It may be lent again
+    and again."""
 
     def __init__(self, made: Slices, points: int) -> None:
-        def slots(kind: type, count: int) -> list:
-            return [(kind * count)(), count]
-
         nodes = 2 * len(made.entries) + 1
-        self.points, self.out, self.begins = points, slots(c_double, 3 * points), slots(c_size_t, points)
+        self.points = points
+        self.out: list = []
+        self.begins: list = []
         self.work = slots(c_double, 8 * 3 * points) + slots(c_size_t, 8 * points) + slots(c_double, 3 * points) + slots(c_size_t, points)
         self.tree = slots(c_double, 6 * nodes) + slots(c_uint32, 3 * nodes) + slots(c_uint32, nodes)
         self.points_out, self.paths_out = c_size_t(), c_size_t()
 
+    def lend(self, points: int, paths: int) -> None:
+        """Places for a drawing."""
+        self.out, self.begins = slots(c_double, 3 * points), slots(c_size_t, paths)
+
+    def counts(self) -> Tuple[int, int]:
+        """The points and paths of the last draw or preview."""
+        return self.points_out.value, self.paths_out.value
+
     def draw(self, made: Slices, view: View, threshold: float) -> int:
-        """One call of the library; its answer."""
+        """One call of the library; its answer. Unless places were lent, there are as many as for the work."""
+        if not self.out:
+            self.lend(self.points, self.points)
         filled = [*self.out, *self.begins, *self.work, *self.tree, byref(self.points_out), byref(self.paths_out)]
         return library.host().larnt_draw_with(*made.arguments(), library.numbers(view.numbers()), threshold, *filled)
 
@@ -312,7 +370,4 @@ class Room:
 
     def drawing(self, view: View) -> Drawing:
         """The last draw's, which was by this view."""
-        numbers, starts = self.out[0][: 3 * self.points_out.value], self.starts()
-        rows = list(zip(numbers[0::3], numbers[1::3], numbers[2::3]))
-        paths = [rows[a:b] for a, b in zip(starts, [*starts[1:], self.points_out.value])]
-        return Drawing(view.width, view.height, paths)
+        return Drawing(view.width, view.height, rows_of(self.out[0][: 3 * self.points_out.value], self.starts()))

@@ -5,13 +5,15 @@ Lengths on paper are millimetres, y goes up from the lower edge; a drawing is sc
 from __future__ import annotations
 
 import html
+import itertools
 import pathlib
 import shutil
 import subprocess
+import unicodedata
 from dataclasses import dataclass, field
 from typing import Callable, Dict, List, Optional, Sequence, Tuple, Union
 
-from . import plotter
+from . import hidden, library, matrices, plotter, solids
 from .camera import View
 from .drawing import Drawing
 from .scene import Part, Scene
@@ -19,6 +21,9 @@ from .scene import Part, Scene
 PAPERS = {"A0": (1189.0, 841.0), "A1": (841.0, 594.0), "A2": (594.0, 420.0), "A3": (420.0, 297.0), "A4": (297.0, 210.0), "A5": (210.0, 148.0)}
 STRIP = 12.0  # how high the title block is
 HPGL_UNITS = 40  # to the millimetre
+LETTER = 0.6  # how wide a letter is, of its height
+STAND, SEEN = 1e-6, 1  # how far before a part the eye test is made, of the way to the eye; and its answer
+LOOKS = ((0.5,), (0.5, 0.3, 0.7, 0.1, 0.9), tuple((k + 0.37) / 19.5 for k in range(19)))  # where a part is looked at, in its box; the last is uneven, and meets few edges
 
 Spot = Tuple[float, float]
 
@@ -96,9 +101,22 @@ class Laid:
         end, upper, strip = self.sheet.paper[0] - right, self.sheet.paper[1] - top, bottom + STRIP
         self.strokes.append([(left, bottom), (end, bottom), (end, upper), (left, upper), (left, bottom)])
         self.strokes.append([(left, strip), (end, strip)])
-        self.texts.append(Text(self.sheet.title or "", left + 3, bottom + 4, 5.0))
-        for k, note in enumerate(list(self.sheet.notes)[:2]):
-            self.texts.append(Text(note, end - 3, bottom + 7 - 4.5 * k, 2.5, "end"))
+        title, notes, room = self.sheet.title or "", list(self.sheet.notes)[:2], max(end - left - 10, 1.0)
+        small = [fitting(note, 2.5, room / 2) for note in notes]
+        taken = max((width_of(note, high) for note, high in zip(notes, small)), default=0.0)
+        self.texts.append(Text(title, left + 3, bottom + 4, fitting(title, 5.0, room - taken)))
+        for k, (note, high) in enumerate(zip(notes, small)):
+            self.texts.append(Text(note, end - 3, bottom + 7 - 4.5 * k, high, "end"))
+
+
+def width_of(words: str, high: float) -> float:
+    """About how wide words are: letters differ, and few are wider than this on the whole."""
+    return LETTER * high * len(words)
+
+
+def fitting(words: str, high: float, room: float) -> float:
+    """How high letters may be, at most so high, for words to find room."""
+    return min(high, room / width_of(words, 1.0)) if words else high
 
 
 # ---- formats
@@ -122,7 +140,7 @@ def svg(laid: Laid) -> str:
     rows.append('</g>\n<g font-family="sans-serif" fill="black">')
     for text in laid.texts:
         halo = ' stroke="white" stroke-width="0.8" paint-order="stroke"' if text.halo else ""
-        rows.append(f'<text x="{text.x:.2f}" y="{high - text.y:.2f}" font-size="{text.high:g}" text-anchor="{text.anchor}"{halo}>{html.escape(text.words)}</text>')
+        rows.append(f'<text x="{text.x:.2f}" y="{high - text.y:.2f}" font-size="{text.high:.4g}" text-anchor="{text.anchor}"{halo}>{html.escape(text.words)}</text>')
     return "\n".join(rows + ["</g>", "</svg>", ""])
 
 
@@ -134,14 +152,20 @@ def hpgl(laid: Laid) -> str:
         first, *others = [f"{round(HPGL_UNITS * x)},{round(HPGL_UNITS * y)}" for x, y in points]
         rows.append(f"PU{first};PD{','.join(others)};")
     for text in laid.texts:
-        words = "".join(c if " " <= c <= "~" else "?" for c in text.words)
-        wide = 0.6 * text.high * len(words) * {"start": 0, "middle": 0.5, "end": 1}[text.anchor]
-        rows.append(f"PU{round(HPGL_UNITS * (text.x - wide))},{round(HPGL_UNITS * text.y)};SI{0.04 * text.high:.3f},{0.07 * text.high:.3f};LB{words}\x03")
+        words = plain_letters(text.words)
+        before = width_of(words, text.high) * {"start": 0, "middle": 0.5, "end": 1}[text.anchor]
+        rows.append(f"PU{round(HPGL_UNITS * (text.x - before))},{round(HPGL_UNITS * text.y)};SI{0.04 * text.high:.3f},{0.07 * text.high:.3f};LB{words}\x03")
     return "\n".join(rows + ["PU;SP0;", ""])
 
 
+def plain_letters(words: str) -> str:
+    """What a plotter's own letters can write of words: accents are left out, and a question mark stands for the rest."""
+    apart = unicodedata.normalize("NFKD", words.replace("\u00df", "ss"))
+    return "".join(c if " " <= c <= "~" else "?" for c in apart if not unicodedata.combining(c))
+
+
 def ordered(drawing: Drawing) -> List[list]:
-    return plotter.ways(drawing) if plotter.there() else drawing.paths
+    return plotter.ways(drawing) if library.there(library.plotter) else drawing.paths
 
 
 def dxf(laid: Laid) -> str:
@@ -207,7 +231,7 @@ def write(laid: Laid, path: Union[str, pathlib.Path], dpi: float = 150.0) -> Non
 
 
 def numbered(scene: Scene, view: View) -> Tuple[List[Tuple[str, Spot]], List[Part]]:
-    """A number for each part, at a spot where the eye meets that part first; and the parts that have none in sight."""
+    """A number for each part, at a spot where the eye sees it; and the parts that have none in sight."""
     labels, unseen = [], []
     for part, (low, high) in zip(scene.parts, scene.boxes()):
         spot = sighted(scene, view, part, low, high)
@@ -219,13 +243,24 @@ def numbered(scene: Scene, view: View) -> Tuple[List[Tuple[str, Spot]], List[Par
 
 
 def sighted(scene: Scene, view: View, part: Part, low: Sequence[float], high: Sequence[float]) -> Optional[Spot]:
-    """Tries the middle of the part's box first, then places about it."""
-    shares = (0.5, 0.3, 0.7, 0.1, 0.9)
-    tries = sorted(((i, j, k) for i in shares for j in shares for k in shares), key=lambda t: sum((s - 0.5) ** 2 for s in t))
-    for share in tries:
-        point = [a + s * (b - a) for a, b, s in zip(low, high, share)]
-        met = scene.first_met(view.eye, point)
-        spot = view.spot(met[1]) if met and met[0] is part else None
-        if spot and 0 <= spot[0] <= view.width and 0 <= spot[1] <= view.height:
-            return spot
+    """Looks at the middle of the part's box first, then at more and more places of it: where a look meets the part, taken
+    alone, the scene is asked whether the eye sees that place, as a draw asks it."""
+    alone = Scene([solids.true_distance(part.solid)])
+    for shares in LOOKS:
+        met = [hidden.look(alone, view.eye, point) for point in spread(low, high, shares)]
+        places = [at for _, at in filter(None, met) if on_sheet(view, view.spot(at))]
+        before = [matrices.along(at, matrices.minus(view.eye, at), STAND) for at in places]
+        for at, answer in zip(places, scene.told(view.eye, before)):
+            if answer == SEEN:
+                return view.spot(at)
     return None
+
+
+def spread(low: Sequence[float], high: Sequence[float], shares: Sequence[float]) -> List[List[float]]:
+    """Places of a box at these shares of its sides, those near its middle first."""
+    tries = sorted(itertools.product(shares, repeat=3), key=lambda t: sum((s - 0.5) ** 2 for s in t))
+    return [[a + s * (b - a) for a, b, s in zip(low, high, share)] for share in tries]
+
+
+def on_sheet(view: View, spot: Optional[Spot]) -> bool:
+    return spot is not None and 0 <= spot[0] <= view.width and 0 <= spot[1] <= view.height

@@ -2,11 +2,13 @@
 
 `lines` of a round solid are handed to the core as they stand, in its own coordinates; None, the default, has the
 host make its outline as the eye sees it (outlines.py), a little off the surface. BY_CORE leaves it to the core, whose
-outlines lie in the surface, where the solid may hide parts of them; NO_LINES is none at all. `source` is where a solid
-stands in a text (line and column from 1).
+outlines lie in the surface, where the solid may hide parts of them; NO_LINES is none at all; `Rounded` lines are made as
+fine as the step, and `Turned` ones have outlines added. `source` is where a solid stands in a text (line and column from 1).
 """
 from __future__ import annotations
 
+import functools
+import math
 from dataclasses import dataclass, field, replace
 from enum import IntEnum
 from typing import Callable, Optional, Sequence, Tuple, Union
@@ -23,6 +25,21 @@ BY_CORE: Lines = ()
 NO_LINES: Lines = ((),)  # a line without points
 
 
+class Rounded(tuple):
+    """Handed-in lines whose rings are round: where one bends as a circle does, points are put in between, on that
+    circle, until its chords are no longer than the step of the view (outlines.py)."""
+
+
+class Turned(Rounded):
+    """The same, to which the host adds the lines in which the solid turns away from the eye: what was handed in has none
+    of them (outlines.py)."""
+
+    @functools.cached_property
+    def out(self) -> float:
+        """How far from the Z axis they reach."""
+        return max((math.hypot(p[0], p[1]) for line in self for p in line), default=0.0)
+
+
 class Operation(IntEnum):
     """What a cut leaves. The first two answer a ray as larnt's Rust does, by the t of the last ray; the others by
     the true distance, so that a cut behind the viewer hides nothing that stands clear."""
@@ -37,7 +54,10 @@ INTERSECTION, DIFFERENCE = Operation.INTERSECTION, Operation.DIFFERENCE
 
 
 def hand_in(lines: Optional[Sequence[Sequence[Sequence[float]]]]) -> Optional[Lines]:
-    return None if lines is None else tuple(tuple(matrices.vector(p) for p in line) for line in lines)
+    if lines is None:
+        return None
+    made = tuple(tuple(matrices.vector(p) for p in line) for line in lines)
+    return type(lines)(made) if isinstance(lines, Rounded) else made
 
 
 @dataclass(frozen=True)
@@ -173,6 +193,16 @@ def changed(solid: Solid, change: Callable[[Solid], Solid]) -> Solid:
     if isinstance(solid, Cut):
         return replace(solid, first=changed(solid.first, change), second=changed(solid.second, change))
     return change(solid) if isinstance(solid, Round) else solid
+
+
+def true_distance(solid: Solid) -> Solid:
+    """The same solid with each cut in it told by the true distance."""
+    if isinstance(solid, Placed):
+        return replace(solid, part=true_distance(solid.part))
+    if isinstance(solid, Cut):
+        operation = {0: INTERSECTION, 1: DIFFERENCE}.get(solid.operation, solid.operation)
+        return replace(solid, operation=operation, first=true_distance(solid.first), second=true_distance(solid.second))
+    return solid
 
 
 def described(solid: Solid) -> str:

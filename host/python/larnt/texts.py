@@ -5,8 +5,8 @@ libhost_text.a (`rt staticlib host_text`), and to merge libhost_merge.a (`rt sta
 """
 from __future__ import annotations
 
-from ctypes import byref, c_double, c_size_t, c_uint8, c_uint32
-from typing import List, Optional
+from ctypes import byref, c_size_t, c_uint8
+from typing import Optional
 
 from . import diagnosis, forms, library
 from .camera import View
@@ -47,15 +47,7 @@ def merged(first: forms.Yard, second: forms.Yard) -> str:
     them, or the second's where the first has none."""
     view = needed(first.view or second.view)
     one, two = slices_of(first, view), slices_of(second, view)
-    lent: List[object] = []
-    for kind, parts in ((c_double, "numbers"), (c_uint32, "marks"), (c_double, "points"), (c_size_t, "starts"), (c_uint32, "owners")):
-        count = len(getattr(one, parts)) + len(getattr(two, parts))
-        lent += [(kind * max(1, count))(), count]
-    entries, points, paths = c_size_t(), c_size_t(), c_size_t()
-    answer = library.merging().larnt_merge(*one.arguments(), *two.arguments(), *lent, byref(entries), byref(points), byref(paths))
-    if answer:
-        raise Refused(answer, f"together they have {len(one.entries) + len(two.entries):,} entries" if answer == 2 else None)
-    return written(lent, view)
+    return written(one.merged(two), view)
 
 
 def needed(view: Optional[View]) -> View:

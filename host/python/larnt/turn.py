@@ -37,17 +37,18 @@ HEADERS = {
 class Frames:
     """Draws a scene again and again: its solids are laid out once, and the room that one draw needed is lent to the next."""
 
-    def __init__(self, scene: Scene, points: int) -> None:
+    def __init__(self, scene: Scene, points: int, rounds: bool) -> None:
         def coarser(solid: Any) -> Any:
             return dataclasses.replace(solid, points=min(points, solid.points))
 
         self.made = Scene([solids.changed(part.solid, coarser) for part in scene.parts]).slices()
+        self.rounds = rounds
         self.room: Optional[Room] = None
         self.lock = threading.Lock()
 
     def draw(self, view: View) -> Room:
         """The room with the drawing in it; the caller holds the lock."""
-        self.made.outline(view)
+        self.made.outline(view, self.rounds)
         answer = self.room.draw(self.made, view, FINE) if self.room else 13
         for points in rooms(self.made, MOST_POINTS) if answer == 13 else ():
             if not self.room or points > self.room.points:
@@ -74,7 +75,7 @@ class Turning:
     def __init__(self, scene: Scene, camera: Camera, sheet: sheets.Sheet, name: str = "yard", command: str = "") -> None:
         scene.boxes()  # a yard that is not accepted is told of before the page is
         self.scene, self.camera, self.sheet, self.name, self.command = scene, camera, sheet, name, command
-        self.frames = [Frames(scene, points) for _, points in LEVELS]
+        self.frames = [Frames(scene, points, level == 0) for level, (_, points) in enumerate(LEVELS)]
 
     def start(self) -> Dict[str, Any]:
         """Where the page begins."""
@@ -108,8 +109,8 @@ class Turning:
         if told.by is None:
             said += "seen here."
         else:
-            first = self.scene.first_met(view.eye, told.point)  # the library names the part that is nearest to the line
-            before = f"; the eye meets {named(first[0])} before that" if first and first[0] is not told.by else ""
+            first = hidden.first_met(self.scene, view.eye, told.point)  # the library names the part that is nearest to the line
+            before = f"; the eye meets {named(first)} before that" if first and first is not told.by else ""
             said += f"hidden here by {'itself' if told.by is told.line else named(told.by)}{before}."
         return {"said": said, "spot": told.spot, "line": told.line.number, "by": told.by and told.by.number}
 

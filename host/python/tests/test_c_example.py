@@ -6,10 +6,14 @@ import shutil
 import subprocess
 import tempfile
 import unittest
+from xml.etree import ElementTree
 
-from larnt import plotter
+from larnt import drawing, forms, library
+from larnt.__main__ import arguments, laid_out, seen_by, with_outlines
 
 from . import EXAMPLES, ROOT, wrong
+from .test_examples import lines_of, picture_options
+from .test_header import declared
 
 COMPILER, CPP = shutil.which(os.environ.get("CC", "cc")), shutil.which("c++")
 
@@ -20,7 +24,7 @@ def built(source, program):
     subprocess.run([COMPILER, *command.split(), "-Werror", "-o", program], cwd=ROOT, check=True)
 
 
-@unittest.skipUnless(COMPILER, "there is no C compiler")
+@unittest.skipUnless(COMPILER and library.there(library.preview), "there is no C compiler, or libhost_preview.a is not there")
 class Example(unittest.TestCase):
     @classmethod
     def setUpClass(cls):
@@ -37,6 +41,18 @@ class Example(unittest.TestCase):
             with self.subTest(path.name):
                 self.assertEqual(self.answer(path.read_bytes()), path.with_suffix(".drawing").read_bytes())
 
+    def test_the_pictures_have_its_lines_and_no_others(self):
+        """The command writes the text of what it draws; the C host reads and draws that."""
+        for path in EXAMPLES:
+            with self.subTest(path.name):
+                options = arguments(["sheet", str(path), "a.svg", *picture_options(path)])
+                yard = forms.read(path.read_text())
+                view = seen_by(options, yard, laid_out(options))
+                answer = self.answer(forms.write(with_outlines(options.outlines, yard), view).encode()).decode()
+                core = [[(x, y) for x, y, _ in line] for line in drawing.read(answer, view.width, view.height).paths]
+                self.assertGreater(len(core), 10)
+                self.assertEqual(lines_of(ElementTree.parse(path.with_suffix(".svg")).getroot()), core)
+
     def test_it_says_each_refusal(self):
         for number, (forms, options) in wrong.CASES.items():
             if not options:
@@ -49,16 +65,18 @@ class Example(unittest.TestCase):
 
 @unittest.skipUnless(COMPILER, "there is no C compiler")
 class Structs(unittest.TestCase):
-    @unittest.skipUnless(plotter.there(), "libhost_plotter.a is not there")
+    @unittest.skipUnless(all(map(library.there, (library.plotter, library.preview, library.merging, library.text))), "one of the five archives is not there")
     def test_each_call_on_structs_is_the_call_under_it(self):
         with tempfile.TemporaryDirectory() as folder:
             built("host/c/structs.c", folder + "/structs")
             done = subprocess.run([folder + "/structs"], capture_output=True, text=True)
-        self.assertEqual((done.returncode, done.stdout), (0, "35 compared\n"))
+        self.assertEqual((done.returncode, done.stdout), (0, "51 compared\n"))
 
     def test_it_compares_each_of_them(self):
         made = set(re.findall(r"^static inline uint32_t (larnt_\w+)\(", (ROOT / "host/larnt.h").read_text(), re.M))
-        self.assertEqual(len(made), 14)
+        self.assertEqual(len(made), 18)
+        long = {name[6:] for name, (_, parameters) in declared().items() if len(parameters) >= 10}
+        self.assertEqual({name.split("_", 2)[2] for name in made}, long)
         self.assertEqual(made, set(re.findall(r"\b(larnt_(?:scene|lines)_\w+)\(", (ROOT / "host/c/structs.c").read_text())))
 
     @unittest.skipUnless(CPP, "there is no C++ compiler")

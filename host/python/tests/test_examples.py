@@ -1,13 +1,36 @@
-"""The example yards through the package: their drawings, their texts and their sheets."""
+"""The example yards through the package: their drawings, their texts, their sheets and their pictures."""
+import contextlib
+import io
+import pathlib
 import re
+import tempfile
 import unittest
 from xml.etree import ElementTree
 
-from larnt import drawing, forms, sheets
+from larnt import drawing, forms, hidden, sheets
+from larnt.__main__ import main
 
-from . import EXAMPLES
+from . import EXAMPLES, ROOT
 
 SVG = "{http://www.w3.org/2000/svg}"
+OWN_STEP, PLAIN = ("post", "post_fine"), ("silos_plain", "round_plain")
+
+
+def group_of(root):
+    """What an SVG has of the core's drawing."""
+    (group,) = (g for g in root.iter(SVG + "g") if g.get("id") == "drawing")
+    return group
+
+
+def lines_of(root):
+    """The lines of the core's drawing in an SVG, by their numbers."""
+    return [[tuple(map(float, p.split(","))) for p in line.get("points").split()] for line in group_of(root).iter(SVG + "polyline")]
+
+
+def picture_options(path):
+    """The words with which tools/pictures draws an example."""
+    words = dict(re.findall(r'^(sheet|fine)="(.*)"$', (ROOT / "tools/pictures").read_text(), re.M))
+    return words["sheet"].split() + (words["fine"].split() if path.stem not in OWN_STEP else [])
 
 
 def yard_of(path):
@@ -49,10 +72,8 @@ class Sheets(unittest.TestCase):
             with self.subTest(path.name):
                 laid, core = self.laid(path)
                 root = ElementTree.fromstring(sheets.svg(laid))
-                (group,) = (g for g in root.iter(SVG + "g") if g.get("id") == "drawing")
-                lines = [[tuple(map(float, p.split(","))) for p in line.get("points").split()] for line in group.iter(SVG + "polyline")]
-                self.assertEqual(lines, [[(x, y) for x, y, _ in line] for line in core.paths])
-                left, down, right, up = map(float, re.findall(r"-?[\d.]+(?:e-?\d+)?", group.get("transform")))
+                self.assertEqual(lines_of(root), [[(x, y) for x, y, _ in line] for line in core.paths])
+                left, down, right, up = map(float, re.findall(r"-?[\d.]+(?:e-?\d+)?", group_of(root).get("transform")))
                 self.assertEqual((right, up), (laid.scale, -laid.scale))
                 self.assertAlmostEqual(left, (297 - laid.scale * core.width) / 2)
                 self.assertAlmostEqual(down, 210 - (210 - laid.scale * core.height) / 2)
@@ -82,6 +103,30 @@ class Sheets(unittest.TestCase):
                 wanted = [(*laid.spot(a), *laid.spot(b)) for line in core.paths for a, b in zip(line, line[1:])]
                 self.assertEqual(pieces, wanted)
                 self.assertEqual(pairs[-1], ("0", "EOF"))
+
+
+class Pictures(unittest.TestCase):
+    """The pictures in examples/: sheets at a fine step, by tools/pictures. That their lines are the core's is shown by way of
+    the C host too (test_c_example.py)."""
+
+    def test_each_is_what_the_sheet_command_writes(self):
+        with tempfile.TemporaryDirectory() as folder:
+            made = pathlib.Path(folder) / "a.svg"
+            for path in EXAMPLES:
+                with self.subTest(path.name), contextlib.redirect_stdout(io.StringIO()), contextlib.redirect_stderr(io.StringIO()):
+                    self.assertEqual(main(["sheet", str(path), str(made), *picture_options(path)]), 0)
+                    self.assertEqual(made.read_text(), path.with_suffix(".svg").read_text())
+
+    def test_each_line_of_the_coarse_drawing_stands_in_the_fine_picture(self):
+        """Of the plain yards it need not: which dashes of an outline its own solid hides is another matter at each step."""
+        for path in EXAMPLES:
+            if path.stem not in PLAIN:
+                with self.subTest(path.name):
+                    fine = [pair for line in lines_of(ElementTree.parse(path.with_suffix(".svg")).getroot()) for pair in zip(line, line[1:])]
+                    for line in stored(path, yard_of(path).view).paths:
+                        for a, b in zip(line, line[1:]):
+                            for at in ((a[0], a[1]), ((a[0] + b[0]) / 2, (a[1] + b[1]) / 2)):
+                                self.assertTrue(any(hidden.nearest(p, q, at)[1] < 1.5 for p, q in fine), at)
 
 
 if __name__ == "__main__":

@@ -2,13 +2,13 @@
 import math
 import unittest
 
-from larnt import Plotter, forms, pick, plotter, ways
+from larnt import Plotter, forms, library, pick, plotter, ways
 from larnt.refusals import Refused
 
 from . import EXAMPLES
 
 
-@unittest.skipUnless(plotter.there(), "libhost_plotter.a is not there")
+@unittest.skipUnless(library.there(library.plotter), "libhost_plotter.a is not there")
 class Picks(unittest.TestCase):
     YARD = [[(5.0, 0.0, 0.0), (9.0, 0.0, 0.0)], [(1.0, 0.0, 0.0), (5.0, 1.0, 0.0)], [(9.0, 1.0, 0.0), (0.0, 0.0, 0.0)]]
     LINES = [[(1.0, 0.0, 0.0), (0.0, 0.0, 0.0)]]
@@ -40,7 +40,7 @@ class Picks(unittest.TestCase):
                 self.assertLess(up(way), up(drawing.paths))
 
 
-@unittest.skipUnless(plotter.there(), "libhost_plotter.a is not there")
+@unittest.skipUnless(library.there(library.plotter), "libhost_plotter.a is not there")
 class Registers(unittest.TestCase):
     def test_a_move_lasts_as_long_as_its_longer_way(self):
         made = Plotter()

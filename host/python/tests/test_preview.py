@@ -1,20 +1,13 @@
 """The preview, where the library has it."""
 import unittest
+from unittest import mock
 
-from larnt import Camera, Refused, Scene, forms, library
+from larnt import Camera, Refused, Scene, forms, library, scene
 
 from . import EXAMPLES
 
 
-def there():
-    try:
-        library.preview()
-    except library.Missing:
-        return False
-    return True
-
-
-@unittest.skipUnless(there(), "libhost_preview.a is not there")
+@unittest.skipUnless(library.there(library.preview), "libhost_preview.a is not there")
 class Previews(unittest.TestCase):
     def test_each_example_has_the_counts_of_its_drawing(self):
         for path in EXAMPLES:
@@ -22,6 +15,17 @@ class Previews(unittest.TestCase):
                 yard = forms.read(path.read_text())
                 drawing = yard.scene.draw(yard.view)
                 self.assertEqual(yard.scene.preview(yard.view), (sum(map(len, drawing.paths)), len(drawing.paths)))
+
+    def test_a_drawing_is_lent_the_places_that_the_preview_counts(self):
+        for path in EXAMPLES[:4]:
+            yard = forms.read(path.read_text())
+            made = yard.scene.lined(yard.view)
+            room = scene.drawn(made, yard.view, scene.FINE, scene.MOST_POINTS)
+            self.assertEqual((room.out[1], room.begins[1]), (3 * room.counts()[0], room.counts()[1]))
+            with mock.patch.object(library, "preview", side_effect=library.Missing):
+                alone = scene.drawn(made, yard.view, scene.FINE, scene.MOST_POINTS)
+            self.assertEqual(alone.out[1], 3 * alone.points)
+            self.assertEqual(alone.drawing(yard.view), room.drawing(yard.view))
 
     def test_what_a_draw_refuses_has_no_counts(self):
         made = Scene()

@@ -5,7 +5,7 @@ import unittest
 from unittest import mock
 
 import larnt
-from larnt import COARSE, DIFFERENCE, Camera, Cube, Cylinder, Refused, Scene, Sphere, forms, matrices, outlines, scene
+from larnt import COARSE, DIFFERENCE, Camera, Cone, Cube, Cylinder, Refused, Scene, Sphere, forms, matrices, outlines, scene
 
 from . import ROOT
 
@@ -231,6 +231,81 @@ class Outlines(unittest.TestCase):
         rim = [view.spot((1000 * math.cos(t), 1000 * math.sin(t), 2000)) for t in (2 * math.pi * k / 90 for k in range(90))]
         on_rim = [min(math.dist(spot, p[:2]) for path in paths for p in path) for spot in rim]
         self.assertLess(max(on_rim), 8)
+
+
+class Rings(unittest.TestCase):
+    """Handed-in lines that are made as fine as the step."""
+
+    VIEW = Camera((0, -9000, 3000), (0, 0, 2500), step=1).view()
+
+    def rounded(self, line, view=VIEW):
+        return outlines.Outliner(view, matrices.IDENTITY, False).rounded(tuple(map(matrices.vector, line)))
+
+    def test_the_points_in_between_lie_on_the_circle_and_as_near_as_the_step(self):
+        for parts in (12, 36, 61):
+            for share in (1.0, 0.25):
+                turns = [2 * math.pi * share * k / parts for k in range(parts + 1)]
+                line = [(900 * math.cos(t) - 30, -200.0, 900 * math.sin(t) + 2500) for t in turns]
+                made = self.rounded(line)
+                self.assertEqual([p for p in made if p in line], line)
+                self.assertTrue(all(p[1] == -200 and abs(math.dist(p, (-30, -200, 2500)) - 900) < 1e-9 for p in made))
+                spots = [self.VIEW.spot(p) for p in made]
+                self.assertLessEqual(max(math.dist(a, b) for a, b in zip(spots, spots[1:])), 1.0)
+
+    def test_rings_of_whole_millimetres_stay_off_the_surface(self):
+        ring = [(round(237.5 * math.cos(t)), round(237.5 * math.sin(t)), 2500.0) for t in (math.pi * k / 8 for k in range(17))]
+        made = self.rounded(ring)
+        self.assertGreater(len(made), 100)
+        self.assertGreater(min(math.hypot(x, y) for x, y, _ in made), 235)
+
+    def test_what_is_no_ring_stays_as_it_is(self):
+        lines = {
+            "two points": [(0, 0, 0), (0, 0, 900)],
+            "straight": [(0, 0, 30 * k) for k in range(9)],
+            "a corner": [(0, -900, 0), (0, 0, 0), (900, 0, 0)],
+            "a square": [(0, 0, 0), (900, 0, 0), (900, 0, 900), (0, 0, 900), (0, 0, 0)],
+            "a spiral": [(9 * t * math.cos(t), 0, 9 * t * math.sin(t)) for t in (0.2 * k for k in range(60))],
+            "a point twice": [(900, 0, 0), (900, 0, 0), (880, 0, 100)],
+            "no number": [(900, 0, 0), (880, 0, math.nan), (860, 0, 100)],
+            "nothing": [],
+        }
+        for name, line in lines.items():
+            with self.subTest(name):
+                self.assertEqual(list(map(str, self.rounded(line))), [str(matrices.vector(p)) for p in line])
+        ring = [(900 * math.cos(t), 0, 900 * math.sin(t)) for t in (math.pi * k / 18 for k in range(37))]
+        self.assertEqual(len(self.rounded(ring, Camera((0, -9000, 0), (0, 0, 0), step=0).view())), 37)
+
+    def test_lines_that_were_made_for_an_eye_are_told_from_others(self):
+        """Those of the host's outlines: rings and slopes are nobody's; of those in which a solid turns away each is one eye's."""
+        for eye, other in (((30.0, -40.0, 9.0), (-35.0, -20.0, 9.0)), ((-4.0, 9.0, 2.0), (9.0, 3.0, 1.0))):
+            view = Camera(eye, (0, 0, 1)).view()
+            for in_cut in (False, True):
+                made = outlines.Outliner(view, matrices.IDENTITY, in_cut)
+                for solid, turning in ((Sphere((0.0, 0.0, 1.0), 1.0), 1), (Cylinder(1.0, 0.0, 2.0, rings=(1.0,)), 2), (Cone(1.0, 1.5, slopes=5), 2)):
+                    with self.subTest(eye=eye, solid=type(solid).__name__, in_cut=in_cut):
+                        lines = made.lines(solid)
+                        self.assertEqual(sum(outlines.for_eye(solid, line, eye) for line in lines), turning)
+                        self.assertEqual(sum(outlines.for_eye(solid, line, other) for line in made.turning(solid)), 0)
+
+    def test_turned_lines_have_the_outline_of_each_eye(self):
+        ring = outlines.level(1.01, 2.0, 36)
+        solid = Cylinder(1.0, 0.0, 2.0, lines=larnt.Turned([tuple(ring)]))
+        for eye in ((30, -40, 9), (-35, -20, 9)):
+            made = outlines.Outliner(Camera(eye, (0, 0, 1), step=100).view(), matrices.IDENTITY, False).lines(solid)
+            self.assertEqual((len(made), made[0]), (3, tuple(ring)))
+            self.assertTrue(all(outlines.for_eye(solid, line, matrices.vector(eye)) for line in made[1:]))
+            self.assertTrue(all(abs(math.hypot(*p[:2]) - 1.01) < 1e-12 for line in made[1:] for p in line))
+
+    def test_a_cut_keeps_the_rim_of_a_hole_at_any_step(self):
+        """A ball taken out of a wall: the circle in which they meet has 32 points, which are too few for the step."""
+        rim = [(math.sqrt(900**2 - 200**2) * math.cos(t), -200.0, math.sqrt(900**2 - 200**2) * math.sin(t) + 2500) for t in (math.pi * k / 16 for k in range(33))]
+        closed = {}
+        for kind in (tuple, larnt.Rounded):
+            made = Scene()
+            ball = made.sphere((0, 0, 2500), 900, lines=kind([rim]))
+            made.cut(DIFFERENCE, made.cube((-3000, -200, 0), (3000, 200, 5000)), ball)
+            closed[kind] = [path for path in made.draw(self.VIEW).paths if path[0] == path[-1] and len(path) > 100]
+        self.assertEqual((len(closed[tuple]), len(closed[larnt.Rounded])), (0, 1))
 
 
 if __name__ == "__main__":

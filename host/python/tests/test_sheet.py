@@ -13,11 +13,11 @@ import unittest
 from unittest import mock
 from xml.etree import ElementTree
 
-from larnt import drawing, progress
+from larnt import drawing, forms, progress
 from larnt.__main__ import main
 
 from . import EXAMPLES, ROOT, wrong
-from .test_examples import SVG
+from .test_examples import SVG, group_of, lines_of
 
 SILOS = str(ROOT / "examples/silos.yard")
 
@@ -47,15 +47,14 @@ class Command(Typed):
         return ElementTree.fromstring((self.folder / "a.svg").read_text())
 
     def lines(self, root):
-        (group,) = (g for g in root.iter(SVG + "g") if g.get("id") == "drawing")
-        return [line.get("points") for line in group.iter(SVG + "polyline")]
+        return [line.get("points") for line in group_of(root).iter(SVG + "polyline")]
 
     def test_each_example_s_sheet_is_the_core_s_drawing_line_for_line(self):
         for path in EXAMPLES:
             with self.subTest(path.name):
                 core = drawing.read(path.with_suffix(".drawing").read_text(), 0, 0)
                 wanted = [[(x, y) for x, y, _ in line] for line in core.paths]
-                self.assertEqual([[tuple(map(float, p.split(","))) for p in line.split()] for line in self.lines(self.svg(path))], wanted)
+                self.assertEqual(lines_of(self.svg(path)), wanted)
 
     def test_three_sheets_at_once(self):
         out, err = self.run_sheet(SILOS, *(self.folder / f"silos.{ending}" for ending in ("svg", "hpgl", "dxf")))
@@ -88,8 +87,30 @@ class Command(Typed):
         text = (self.folder / "a.dxf").read_text()
         self.assertIn("\nHof M\\U+00FCller\n", text)
         self.assertEqual(text.count("\nTEXT\n"), 12)
-        self.run_sheet(SILOS, self.folder / "a.hpgl", "--title", "Yard")
-        self.assertIn("LBYard\x03", (self.folder / "a.hpgl").read_text())
+        self.run_sheet(SILOS, self.folder / "a.hpgl", "--title", "Hof M\u00fcller, Stra\u00dfe \u2192")
+        self.assertIn("LBHof Muller, Strasse ?\x03", (self.folder / "a.hpgl").read_text())
+
+    def test_a_long_title_leaves_room_for_the_notes(self):
+        title, note = "A title that is as long as a line of a book may well be, and then goes on for some words", "a note that is longer than most, but has its place"
+        sizes = {text.text: float(text.get("font-size")) for text in self.svg(SILOS, "--title", title, "--note", note, "--note", "short").iter(SVG + "text")}
+        self.assertEqual((sizes[note], sizes["short"]), (2.5, 2.5))
+        self.assertLess(0.6 * (len(title) * sizes[title] + len(note) * 2.5), 277 - 9)
+        self.assertGreater(sizes[title], 3)
+        sizes = {text.text: float(text.get("font-size")) for text in self.svg(SILOS, "--title", "Yard", "--note", 9 * note).iter(SVG + "text")}
+        self.assertLess(0.6 * len(9 * note) * sizes[9 * note], 277 / 2)
+        self.assertEqual(sizes["Yard"], 5)
+
+    def test_the_parts_of_each_example_are_numbered(self):
+        """What a draw does not show has no number: a roof's far sides, the pipe that the plinth's cut strikes, the bin behind the
+        viewer. The heaps in the bunker's bays have theirs, though looks from the eye meet 11 there."""
+        unseen = {"blower": ["5", "6"], "bunker": ["2"], "hoppers": ["6"], "mixer": ["8"], "plinth": ["3", "5", "6", "9"], "plinth_true": ["9"]}
+        for path in EXAMPLES:
+            with self.subTest(path.name):
+                out, _ = self.run_sheet(path, self.folder / "a.svg", "--parts")
+                parts = len(forms.read(path.read_text()).scene.parts)
+                self.assertEqual(out.count("\npart "), parts)
+                self.assertEqual(re.findall(r"^part (\d+): .*, not seen from here$", out, re.M), unseen.get(path.stem, []))
+                self.assertEqual(len(list(ElementTree.parse(self.folder / "a.svg").getroot().iter(SVG + "text"))), parts - len(unseen.get(path.stem, [])))
 
     def test_a_part_that_nobody_sees_has_no_number(self):
         yard = self.folder / "a.yard"
@@ -112,7 +133,9 @@ class Command(Typed):
     def test_a_moved_eye(self):
         _, err = self.run_sheet(SILOS, self.folder / "a.svg", "--eye", "-15000", "-26000", "13000", "--target", "0", "0", "4000", "--fov", "30")
         self.assertIn("--outlines kept", err)
+        self.assertIn("made anew", err)
         moved = self.lines(ElementTree.parse(self.folder / "a.svg").getroot())
+        self.assertGreater(len(moved), len(self.lines(self.svg(SILOS, "--eye", "-15000", "-26000", "13000", "--target", "0", "0", "4000", "--fov", "30", "--outlines", "all"))))  # which has no slopes
         self.assertGreater(len(moved), 30)
         self.assertNotEqual(moved, self.lines(self.svg(SILOS)))
         wide = self.lines(self.svg(SILOS, "--fov", "25"))
@@ -139,6 +162,23 @@ class Command(Typed):
         out, err = self.run_sheet(yard, self.folder / "a.svg", "--outlines", "missing")
         self.assertNotIn(" 0 lines", out)
         self.assertEqual(err, "")
+
+    def test_rings_are_as_fine_as_the_step(self):
+        bunker = ROOT / "examples/bunker.yard"
+        _, err = self.run_sheet(bunker, self.folder / "a.svg", "--step", "0.2")
+        self.assertEqual(err, "sheet: the step is finer than the text's, so the rings of its lines are made as fine; --outlines kept keeps them as they stand\n")
+        fine = self.lines(ElementTree.parse(self.folder / "a.svg").getroot())
+        self.assertEqual(self.lines(self.svg(bunker, "--step", "0.2", "--outlines", "rounded")), fine)
+        self.assertNotEqual(self.lines(self.svg(bunker, "--step", "0.2", "--outlines", "kept")), fine)
+        for words in ((bunker, "--step", "5"), (ROOT / "examples/post.yard", "--step", "0.2"), (bunker,)):
+            self.assertEqual(self.run_sheet(words[0], self.folder / "a.svg", *words[1:])[1], "")
+
+    def test_outlines_by_the_core(self):
+        """The silos without their lines are those of the yard that has none."""
+        out, err = self.run_sheet(SILOS, self.folder / "a.svg", "--outlines", "core")
+        self.assertIn("(text line 2, 3, 4, 5, 6, 7, 9); --outlines all", err)
+        lines = self.lines(ElementTree.parse(self.folder / "a.svg").getroot())
+        self.assertEqual(lines, self.lines(self.svg(ROOT / "examples/silos_plain.yard")))
 
     def test_what_is_asked_wrongly(self):
         cases = [

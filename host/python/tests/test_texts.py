@@ -5,20 +5,12 @@ import pathlib
 import tempfile
 import unittest
 
-from larnt import Refused, forms, library, texts
+from larnt import Cube, Refused, Scene, forms, library, texts
 from larnt.__main__ import main
 
 from . import EXAMPLES, ROOT, wrong
 
 BUILDING, PLANT = ROOT / "examples/merge/building.yard", ROOT / "examples/merge/plant.yard"
-
-
-def there(load):
-    try:
-        load()
-    except library.Missing:
-        return False
-    return True
 
 
 def run(*words):
@@ -29,7 +21,7 @@ def run(*words):
     return code, out.getvalue(), err.getvalue()
 
 
-@unittest.skipUnless(there(library.text), "libhost_text.a is not there")
+@unittest.skipUnless(library.there(library.text), "libhost_text.a is not there")
 class Canonical(unittest.TestCase):
     def test_each_example_draws_the_same_and_is_printed_as_it_came(self):
         for path in EXAMPLES:
@@ -54,7 +46,7 @@ class Canonical(unittest.TestCase):
         self.assertIn("no (view ..)", err)
 
 
-@unittest.skipUnless(there(library.text) and there(library.merging), "libhost_text.a or libhost_merge.a is not there")
+@unittest.skipUnless(library.there(library.text) and library.there(library.merging), "libhost_text.a or libhost_merge.a is not there")
 class Merged(unittest.TestCase):
     def test_the_building_and_the_plant_are_the_blower_yard(self):
         code, out, err = run("merge", BUILDING, PLANT)
@@ -63,6 +55,18 @@ class Merged(unittest.TestCase):
         self.assertEqual(out, texts.canonical(forms.read(whole.read_text())))
         yard = forms.read(out)
         self.assertEqual(yard.scene.draw(yard.view).text().encode(), whole.with_suffix(".drawing").read_bytes())
+
+    def test_a_scene_of_both_is_what_the_library_makes_of_them(self):
+        building, plant = (forms.read(path.read_text()) for path in (BUILDING, PLANT))
+        building.scene.parts[0].name = "wall"
+        both = building.scene.merge(plant.scene)
+        self.assertEqual((both.parts[0].name, both.parts[-1].number), ("wall", len(building.scene.parts) + len(plant.scene.parts)))
+        made, filled = both.slices(building.view), building.scene.slices(building.view).merged(plant.scene.slices(building.view))
+        for mine, theirs in zip(made.arguments()[0::2], filled[0::2]):
+            self.assertEqual(list(mine), list(theirs))
+        with self.assertRaises(Refused) as caught:
+            Scene([Cube((0.0, 0.0, 0.0), (1.0, 1.0, 1.0))] * 1024).merge(building.scene)
+        self.assertEqual(caught.exception.number, 2)
 
     def test_the_order_is_first_and_then_second(self):
         both = texts.merged(forms.read(PLANT.read_text()), forms.read(BUILDING.read_text())).splitlines()

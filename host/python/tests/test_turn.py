@@ -16,8 +16,9 @@ import time
 import unittest
 from array import array
 
-from larnt import DIFFERENCE, Camera, Cube, Scene, Sphere, forms, hidden, sheets, turn
-from larnt.__main__ import main
+from larnt import BY_CORE, DIFFERENCE, Camera, Cube, Scene, Sphere, forms, hidden, sheets, turn
+from larnt import scene as laid
+from larnt.__main__ import OUTLINES, main, with_outlines
 
 from . import ROOT, browser, wrong, yards
 from .test_examples import EXAMPLES
@@ -38,7 +39,10 @@ def core(scene, camera, asked, level):
     more, points = turn.LEVELS[level]
     solids = [turn.solids.changed(part.solid, lambda s: dataclasses.replace(s, points=min(points, s.points))) for part in scene.parts]
     seen = Camera(asked["eye"], asked["target"], field_of_view=asked["fov"], width=camera.width, height=camera.height, step=more * camera.step)
-    return [[x for p in path for x in p] for path in Scene(solids).draw(seen).paths]
+    made = Scene(solids).slices()
+    made.outline(seen.view(), level == 0)
+    drawing = laid.drawn(made, seen.view(), laid.FINE, laid.MOST_POINTS).drawing(seen.view())
+    return [[x for p in path for x in p] for path in drawing.paths]
 
 
 @contextlib.contextmanager
@@ -194,9 +198,10 @@ class Why(unittest.TestCase):
         self.assertEqual((told.line, told.by), (tube, tube))
 
     def test_every_kind_of_line(self):
-        """Each stands behind a wall: outlines, stripes of tubes, cones and boxes, a triangle's edges, lines of placed ones."""
+        """Each stands behind a wall: outlines of the host and of the core, stripes of tubes, cones and boxes, a triangle's edges, lines of placed ones."""
         for add, point in (
             (lambda s: s.sphere((0, 5, 2), 1), None),
+            (lambda s: s.cylinder(1, 0, 3, at=(0, 5, 0), lines=BY_CORE), (0, 4, 3)),
             (lambda s: s.cylinder(1, 0, 3, at=(0, 5, 0), stripes=4, lines=()), (0, 4, 1.5)),
             (lambda s: s.cone(1, 3, at=(0, 5, 0), stripes=4, lines=()), (0, 4.5, 1.5)),
             (lambda s: s.cube((-1, 4, 0), (1, 6, 3), stripes=4), (-0.5, 4, 1.5)),
@@ -235,7 +240,7 @@ class Page(unittest.TestCase):
         cls.addClassCleanup(cls.program.terminate)
         cls.address = re.search(r"http://127\.0\.0\.1:\d+/", cls.program.stdout.readline())[0]
         yard = forms.read(SILOS.read_text())
-        cls.scene = Scene([turn.solids.changed(part.solid, lambda s: dataclasses.replace(s, lines=None)) for part in yard.scene.parts])
+        cls.scene = with_outlines("turned", yard)
         cls.camera = turn.starting(cls.scene, yard.view, 277, 190, 0.5 / (277 / 1200))
 
     def setUp(self):
@@ -388,6 +393,17 @@ class Command(unittest.TestCase):
                     for x, y in zip(camera.view().matrix[row][:3], yard.view.matrix[row][:3]):
                         self.assertAlmostEqual(x, y, places=4)
 
+    def test_each_way_of_outlines_turns(self):
+        for how in OUTLINES:
+            with self.subTest(how):
+                yard = forms.read(SILOS.read_text())
+                scene = with_outlines(how, yard)
+                page = turn.Turning(scene, turn.starting(scene, yard.view, 277, 190, 2), sheets.Sheet())
+                asked = {**asked_of(page.camera), "eye": [15000, 20000, 9000]}
+                drawn = paths_in(page.frame({**asked, "level": 1}))
+                self.assertGreater(len(drawn), 20)
+                self.assertEqual(drawn, core(scene, page.camera, asked, 1))
+
     def test_a_yard_without_a_view(self):
         scene = Scene([Sphere((5, 5, 5), 2)])
         camera = turn.starting(scene, None, 277, 190, 2)
@@ -397,7 +413,12 @@ class Command(unittest.TestCase):
             turn.starting(Scene(), None, 277, 190, 2)
 
     def test_it_ends_by_ctrl_c(self):
-        program = subprocess.Popen([sys.executable, "-m", "larnt", "turn", SILOS], cwd=ROOT / "host/python", stdout=subprocess.PIPE, stderr=subprocess.PIPE, text=True)
+        def heeding():
+            """What a shell runs beside others is told to pass over Ctrl-C, and so is what it starts."""
+            signal.signal(signal.SIGINT, signal.SIG_DFL)
+
+        program = subprocess.Popen([sys.executable, "-m", "larnt", "turn", SILOS], cwd=ROOT / "host/python", stdout=subprocess.PIPE, stderr=subprocess.PIPE, text=True, preexec_fn=heeding)
+        self.addCleanup(program.kill)
         self.assertRegex(program.stdout.readline(), r"^silos\.yard: http://127\.0\.0\.1:\d+/ \(Ctrl-C ends it\)$")
         program.send_signal(signal.SIGINT)
         self.assertEqual(program.communicate(timeout=60)[1], "turn: stopped\n")

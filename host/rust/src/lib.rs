@@ -18,8 +18,8 @@
 //! # Ok::<(), yard_core::Refused>(())
 //! ```
 //!
-//! The calls themselves, on slices that the caller lends, are in [`calls`]. What a draw is lent here grows until the
-//! drawing fits. Angles are no business of the core: cameras are made by the host, and outlines that
+//! The calls themselves, on slices that the caller lends, are in [`calls`]. What a draw works in grows here until it
+//! suffices, and the drawing has the places that a preview counts. Angles are no business of the core: cameras are made by the host, and outlines that
 //! stand off the surface; a round solid that is handed no lines has the core's own, which lie in it.
 
 #![deny(unsafe_code)]
@@ -215,45 +215,81 @@ impl Scene {
         self.draw_with(view, FINE, MOST_POINTS)
     }
 
-    /// The same simplified with a threshold, with room for `most` points at most: 13 where they do not suffice.
+    /// The same simplified with a threshold, with room for `most` points to work in at most: 13 where they do not suffice.
+    /// The drawing is lent the places that a preview counts.
     pub fn draw_with(&self, view: &View, threshold: f64, most: usize) -> Result<Drawing, Refused> {
+        let (mut room, (points, paths)) = self.counted(view, threshold, most)?;
+        let (mut out, mut starts) = (vec![[0.0; 3]; points], vec![0; paths]);
+        let (view, flat) = (view.numbers(), out.as_flattened_mut());
+        calls::draw_with(
+            self.lent(),
+            &view,
+            threshold,
+            flat,
+            &mut starts,
+            room.lent(),
+        )
+        .map_err(Refused)?;
+        Ok(Drawing {
+            points: out,
+            starts,
+        })
+    }
+
+    /// How many points and paths `draw` would answer, without the drawing. It takes about as long.
+    pub fn preview(&self, view: &View) -> Result<(usize, usize), Refused> {
+        self.preview_with(view, FINE, MOST_POINTS)
+    }
+
+    /// The same of `draw_with`.
+    pub fn preview_with(
+        &self,
+        view: &View,
+        threshold: f64,
+        most: usize,
+    ) -> Result<(usize, usize), Refused> {
+        Ok(self.counted(view, threshold, most)?.1)
+    }
+
+    /// A preview's counts, and the room that it was made in. No call tells how much room a draw works in, so it doubles
+    /// until it suffices; most previews that do not fit say so at the chop, before the eye tests.
+    fn counted(
+        &self,
+        view: &View,
+        threshold: f64,
+        most: usize,
+    ) -> Result<(Room, (usize, usize)), Refused> {
+        let (view, any) = (view.numbers(), usize::MAX);
         let mut points = FIRST_POINTS.max(self.points.len() / 3).min(most);
         loop {
-            match self.attempt(view, threshold, points) {
-                Err(Refused(13)) if points < most => points = (2 * points).clamp(1, most),
-                answer => return answer,
+            let mut room = Room::new(self, points);
+            match calls::preview(self.lent(), &view, threshold, any, any, room.lent()) {
+                Ok(counts) => return Ok((room, counts)),
+                Err(13) if points < most => points = (2 * points).clamp(1, most),
+                Err(number) => return Err(Refused(number)),
             }
         }
     }
 
-    /// One draw with room for so many points.
-    fn attempt(&self, view: &View, threshold: f64, points: usize) -> Result<Drawing, Refused> {
-        let nodes = nodes(self);
-        let (mut out, mut begins) = (vec![0.0; 3 * points], vec![0; points]);
-        let work = calls::Work {
-            work: &mut vec![0.0; 8 * 3 * points],
-            work_starts: &mut vec![0; 8 * points],
-            chopped: &mut vec![0.0; 3 * points],
-            chopped_starts: &mut vec![0; points],
-            node_boxes: &mut vec![0.0; 6 * nodes],
-            node_marks: &mut vec![0; 3 * nodes],
-            order: &mut vec![0; nodes],
+    /// One scene of two: this one's entries, then the other's. Either must be one that the library accepts, and they
+    /// may have 1,024 entries together.
+    pub fn merge(&self, other: &Scene) -> Result<Scene, Refused> {
+        let mut made = Scene {
+            numbers: vec![0.0; self.numbers.len() + other.numbers.len()],
+            marks: vec![0; self.marks.len() + other.marks.len()],
+            points: vec![0.0; self.points.len() + other.points.len()],
+            starts: vec![0; self.starts.len() + other.starts.len()],
+            owners: vec![0; self.owners.len() + other.owners.len()],
         };
-        let (points, paths) = calls::draw_with(
-            self.lent(),
-            &view.numbers(),
-            threshold,
-            &mut out,
-            &mut begins,
-            work,
-        )
-        .map_err(Refused)?;
-        begins.truncate(paths);
-        let (rows, _) = out.as_chunks::<3>();
-        Ok(Drawing {
-            points: rows[..points].to_vec(),
-            starts: begins,
-        })
+        let out = calls::MergedSlices {
+            numbers: &mut made.numbers,
+            marks: &mut made.marks,
+            points: &mut made.points,
+            starts: &mut made.starts,
+            owners: &mut made.owners,
+        };
+        calls::merge(self.lent(), other.lent(), out).map_err(Refused)?;
+        Ok(made)
     }
 
     /// The tree of the scene, for questions.
@@ -268,6 +304,44 @@ impl Scene {
             marks,
             order,
         })
+    }
+}
+
+/// What a draw works in, with room for so many points.
+struct Room {
+    work: Vec<f64>,
+    work_starts: Vec<usize>,
+    chopped: Vec<f64>,
+    chopped_starts: Vec<usize>,
+    node_boxes: Vec<f64>,
+    node_marks: Vec<u32>,
+    order: Vec<u32>,
+}
+
+impl Room {
+    fn new(scene: &Scene, points: usize) -> Room {
+        let nodes = nodes(scene);
+        Room {
+            work: vec![0.0; 8 * 3 * points],
+            work_starts: vec![0; 8 * points],
+            chopped: vec![0.0; 3 * points],
+            chopped_starts: vec![0; points],
+            node_boxes: vec![0.0; 6 * nodes],
+            node_marks: vec![0; 3 * nodes],
+            order: vec![0; nodes],
+        }
+    }
+
+    fn lent(&mut self) -> calls::Work<'_> {
+        calls::Work {
+            work: &mut self.work,
+            work_starts: &mut self.work_starts,
+            chopped: &mut self.chopped,
+            chopped_starts: &mut self.chopped_starts,
+            node_boxes: &mut self.node_boxes,
+            node_marks: &mut self.node_marks,
+            order: &mut self.order,
+        }
     }
 }
 

@@ -56,6 +56,51 @@ fn room_grows_and_changes_nothing() {
 }
 
 #[test]
+fn a_preview_has_the_counts_of_the_drawing() {
+    for (name, yard, _) in examples() {
+        let (view, scene) = forms::read(&yard).unwrap();
+        let drawing = scene.draw(&view).unwrap();
+        let points = drawing.paths().map(<[_]>::len).sum();
+        assert_eq!(
+            scene.preview(&view),
+            Ok((points, drawing.paths().count())),
+            "{name}"
+        );
+    }
+    let (mut scene, fine) = (Scene::new(), View { step: 0.25, ..VIEW });
+    scene.cube([-4.0, 0.0, 0.0], [4.0, 1.0, 3.0], 400);
+    assert_eq!(scene.preview_with(&fine, 0.0, 4096), Err(Refused(13)));
+    assert!(scene.preview_with(&fine, 0.0, MOST_POINTS).is_ok());
+    assert_eq!(
+        scene.preview_with(&VIEW, -1.0, MOST_POINTS),
+        Err(Refused(8))
+    );
+}
+
+#[test]
+fn two_scenes_are_one() {
+    let folder = Path::new(env!("CARGO_MANIFEST_DIR")).join("../../examples");
+    let read = |name: &str| fs::read_to_string(folder.join(name)).unwrap();
+    let (view, building) = forms::read(&read("merge/building.yard")).unwrap();
+    let (_, plant) = forms::read(&read("merge/plant.yard")).unwrap();
+    let both = building.merge(&plant).unwrap();
+    assert_eq!(both.entries(), building.entries() + plant.entries());
+    let drawn = |scene: &Scene| forms::write(&scene.draw(&view).unwrap());
+    assert!(drawn(&both) == read("blower.drawing"));
+    let empty = Scene::new();
+    assert!(drawn(&empty.merge(&plant).unwrap()) == drawn(&plant));
+    assert!(drawn(&plant.merge(&empty).unwrap()) == drawn(&plant));
+    let mut wrong = Scene::new();
+    wrong.sphere([0.0; 3], -1.0);
+    assert_eq!(plant.merge(&wrong).unwrap_err(), Refused(5));
+    let mut many = Scene::new();
+    for _ in 0..600 {
+        many.sphere([0.0; 3], 1.0);
+    }
+    assert_eq!(many.merge(&many).unwrap_err(), Refused(2));
+}
+
+#[test]
 fn what_is_refused() {
     let mut scene = Scene::new();
     scene.sphere([0.0; 3], -1.0);
