@@ -21,8 +21,8 @@ use mathlib.Core.Logic.{inl}
 use lib.ListN.{replicate}
 use Rattle.geometry.specs.Limits.{Within}
 use Rattle.tree_trust.specs.Trust.{Trusted, Uncut}
-use Rattle.tree_glance.specs.Glances.{noPlace, Kept}
-use Rattle.draw_clip.specs.Clip.{bySight, clipFilter, Ready}
+use Rattle.tree_glance.specs.Glances.{noPlace, LastCover}
+use Rattle.draw_clip.specs.Clip.{bySight, clipFilter, Prepared}
 
 module _ (matrix : Matrix) (seen : Vector → Sight) (v w : Vector) (ew : w ≡ mulPositionW matrix v) (b : Bool) (eb : b ≡ contains clipBox w) where
   pub clipped : b ≡ false → Drop ≡ clipFilter matrix seen v
@@ -57,13 +57,13 @@ module _ (matrix : Matrix) (seen : Vector → Sight) (v : Vector) (c : ℕ) (tol
 
 -- ---- what the eye test is handed on
 pub ready-kept : (numbers inverses : List Float) (marks : List ℕ) (boxes : List Float) (links order : List ℕ) (eye : Vector) (trusted calm : Bool) (cover stack : List ℕ)
-    → Ready numbers inverses marks boxes links order eye trusted calm cover stack → (cover′ stack′ : List ℕ) → Kept boxes links order cover′ stack′
-    → Ready numbers inverses marks boxes links order eye trusted calm cover′ stack′
+    → Prepared numbers inverses marks boxes links order eye trusted calm cover stack → (cover′ stack′ : List ℕ) → LastCover boxes links order cover′ stack′
+    → Prepared numbers inverses marks boxes links order eye trusted calm cover′ stack′
 ready-kept numbers inverses marks boxes links order eye trusted calm cover stack R cover′ stack′ K = record { tree = R .tree; solids = R .solids; kept = K }
 
 pub ready-start : (numbers inverses : List Float) (marks : List ℕ) (boxes : List Float) (links order : List ℕ) (eye : Vector) (trusted calm : Bool)
     → (trusted ≡ true → (order : List ℕ) → Trusted boxes links order × Within eye) → (calm ≡ true → Uncut numbers inverses marks)
-    → Ready numbers inverses marks boxes links order eye trusted calm (replicate 2 noPlace) (replicate 64 0)
+    → Prepared numbers inverses marks boxes links order eye trusted calm (replicate 2 noPlace) (replicate 64 0)
 ready-start numbers inverses marks boxes links order eye trusted calm t u = record {
   tree = λ e. t e order;
   solids = u;

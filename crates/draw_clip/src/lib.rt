@@ -10,7 +10,7 @@ ghost use Rattle.paths.specs.Ends.{places, allPoints, held, EndsBoth};
 ghost use Rattle.path_filter.specs.Filter.{filteredFrom, pathFilter};
 ghost use Rattle.tree_trust.specs.Trust.{Trusted};
 ghost use Rattle.geometry.specs.Limits.{Within};
-ghost use Rattle.draw_clip.specs.Clip.{bySight, clipFilter, clipPaths, seenFrom, Ready};
+ghost use Rattle.draw_clip.specs.Clip.{bySight, clipFilter, clipPaths, seenFrom, Prepared};
 use geometry::bounding_box::BBox;
 use geometry::vector::Vector;
 use matrix::Matrix;
@@ -90,8 +90,8 @@ fn quick_filter(
     cover: &mut [usize],
     stack: &mut [usize],
 ) -> Test
-    requires { ⌜ Ready (now numbers) (now inverses) (now marks) (now «node_boxes») (now «node_marks») (now order) eye trusted calm (now cover) (now stack) ⌝ }
-    ensures { λ r. ⌜ (r ≡ clipFilter matrix (seenFrom (now (numbers .entry)) (now (inverses .entry)) (now (marks .entry)) (now («node_boxes» .entry)) (now («node_marks» .entry)) (now (order .entry)) eye) v) × Ready (now (numbers .entry)) (now (inverses .entry)) (now (marks .entry)) (now («node_boxes» .entry)) (now («node_marks» .entry)) (now (order .entry)) eye trusted calm (now (cover .exit)) (now (stack .exit)) ⌝ }
+    requires { ⌜ Prepared (now numbers) (now inverses) (now marks) (now «node_boxes») (now «node_marks») (now order) eye trusted calm (now cover) (now stack) ⌝ }
+    ensures { λ r. ⌜ (r ≡ clipFilter matrix (seenFrom (now (numbers .entry)) (now (inverses .entry)) (now (marks .entry)) (now («node_boxes» .entry)) (now («node_marks» .entry)) (now (order .entry)) eye) v) × Prepared (now (numbers .entry)) (now (inverses .entry)) (now (marks .entry)) (now («node_boxes» .entry)) (now («node_marks» .entry)) (now (order .entry)) eye trusted calm (now (cover .exit)) (now (stack .exit)) ⌝ }
 {
     let w = matrix.mul_position_w(v);
     if !BBox::clips(w) {
@@ -135,8 +135,8 @@ fn end_filter(
     cover: &mut [usize],
     stack: &mut [usize],
 ) -> Test
-    requires { ⌜ Remembered (clipFilter matrix (seenFrom (now numbers) (now inverses) (now marks) (now «node_boxes») (now «node_marks») (now order) eye)) (now ends) (now known) × Ready (now numbers) (now inverses) (now marks) (now «node_boxes») (now «node_marks») (now order) eye trusted calm (now cover) (now stack) ⌝ }
-    ensures { λ r. ⌜ (r ≡ clipFilter matrix (seenFrom (now (numbers .entry)) (now (inverses .entry)) (now (marks .entry)) (now («node_boxes» .entry)) (now («node_marks» .entry)) (now (order .entry)) eye) v) × Remembered (clipFilter matrix (seenFrom (now (numbers .entry)) (now (inverses .entry)) (now (marks .entry)) (now («node_boxes» .entry)) (now («node_marks» .entry)) (now (order .entry)) eye)) (now (ends .exit)) (now (known .exit)) × Ready (now (numbers .entry)) (now (inverses .entry)) (now (marks .entry)) (now («node_boxes» .entry)) (now («node_marks» .entry)) (now (order .entry)) eye trusted calm (now (cover .exit)) (now (stack .exit)) ⌝ }
+    requires { ⌜ Remembered (clipFilter matrix (seenFrom (now numbers) (now inverses) (now marks) (now «node_boxes») (now «node_marks») (now order) eye)) (now ends) (now known) × Prepared (now numbers) (now inverses) (now marks) (now «node_boxes») (now «node_marks») (now order) eye trusted calm (now cover) (now stack) ⌝ }
+    ensures { λ r. ⌜ (r ≡ clipFilter matrix (seenFrom (now (numbers .entry)) (now (inverses .entry)) (now (marks .entry)) (now («node_boxes» .entry)) (now («node_marks» .entry)) (now (order .entry)) eye) v) × Remembered (clipFilter matrix (seenFrom (now (numbers .entry)) (now (inverses .entry)) (now (marks .entry)) (now («node_boxes» .entry)) (now («node_marks» .entry)) (now (order .entry)) eye)) (now (ends .exit)) (now (known .exit)) × Prepared (now (numbers .entry)) (now (inverses .entry)) (now (marks .entry)) (now («node_boxes» .entry)) (now («node_marks» .entry)) (now (order .entry)) eye trusted calm (now (cover .exit)) (now (stack .exit)) ⌝ }
 {
     let c = draw_memory::recall(ends, known, v);
     if c == 0 {
@@ -182,8 +182,8 @@ fn point_filter(
     cover: &mut [usize],
     stack: &mut [usize],
 ) -> Test
-    requires { ⌜ Remembered (clipFilter matrix (seenFrom (now numbers) (now inverses) (now marks) (now «node_boxes») (now «node_marks») (now order) eye)) (now ends) (now known) × Ready (now numbers) (now inverses) (now marks) (now «node_boxes») (now «node_marks») (now order) eye trusted calm (now cover) (now stack) ⌝ }
-    ensures { λ r. ⌜ (r ≡ clipFilter matrix (seenFrom (now (numbers .entry)) (now (inverses .entry)) (now (marks .entry)) (now («node_boxes» .entry)) (now («node_marks» .entry)) (now (order .entry)) eye) v) × Remembered (clipFilter matrix (seenFrom (now (numbers .entry)) (now (inverses .entry)) (now (marks .entry)) (now («node_boxes» .entry)) (now («node_marks» .entry)) (now (order .entry)) eye)) (now (ends .exit)) (now (known .exit)) × Ready (now (numbers .entry)) (now (inverses .entry)) (now (marks .entry)) (now («node_boxes» .entry)) (now («node_marks» .entry)) (now (order .entry)) eye trusted calm (now (cover .exit)) (now (stack .exit)) ⌝ }
+    requires { ⌜ Remembered (clipFilter matrix (seenFrom (now numbers) (now inverses) (now marks) (now «node_boxes») (now «node_marks») (now order) eye)) (now ends) (now known) × Prepared (now numbers) (now inverses) (now marks) (now «node_boxes») (now «node_marks») (now order) eye trusted calm (now cover) (now stack) ⌝ }
+    ensures { λ r. ⌜ (r ≡ clipFilter matrix (seenFrom (now (numbers .entry)) (now (inverses .entry)) (now (marks .entry)) (now («node_boxes» .entry)) (now («node_marks» .entry)) (now (order .entry)) eye) v) × Remembered (clipFilter matrix (seenFrom (now (numbers .entry)) (now (inverses .entry)) (now (marks .entry)) (now («node_boxes» .entry)) (now («node_marks» .entry)) (now (order .entry)) eye)) (now (ends .exit)) (now (known .exit)) × Prepared (now (numbers .entry)) (now (inverses .entry)) (now (marks .entry)) (now («node_boxes» .entry)) (now («node_marks» .entry)) (now (order .entry)) eye trusted calm (now (cover .exit)) (now (stack .exit)) ⌝ }
 {
     if inner {
         return quick_filter(
@@ -255,8 +255,8 @@ fn filter_from(
     cover: &mut [usize],
     stack: &mut [usize],
 ) -> Counts
-    requires { ⌜ (from ≤ end) × (end * 3 ≤ length (now path)) × (n * 3 ≤ length (now out)) × (m ≤ length (now begins)) × Remembered (clipFilter matrix (seenFrom (now numbers) (now inverses) (now marks) (now «node_boxes») (now «node_marks») (now order) eye)) (now ends) (now known) × Ready (now numbers) (now inverses) (now marks) (now «node_boxes») (now «node_marks») (now order) eye trusted calm (now cover) (now stack) ⌝ }
-    ensures { λ r. ⌜ (EndsBoth (filteredFrom (clipFilter matrix (seenFrom (now (numbers .entry)) (now (inverses .entry)) (now (marks .entry)) (now («node_boxes» .entry)) (now («node_marks» .entry)) (now (order .entry)) eye)) (places (now (out .entry))) (length (now (begins .entry))) (slice from end (allPoints (now (path .entry)))) (held n (now (out .entry)) m (now (begins .entry)))) (now (out .exit)) (now (begins .exit)) r) × Remembered (clipFilter matrix (seenFrom (now (numbers .entry)) (now (inverses .entry)) (now (marks .entry)) (now («node_boxes» .entry)) (now («node_marks» .entry)) (now (order .entry)) eye)) (now (ends .exit)) (now (known .exit)) × Ready (now (numbers .entry)) (now (inverses .entry)) (now (marks .entry)) (now («node_boxes» .entry)) (now («node_marks» .entry)) (now (order .entry)) eye trusted calm (now (cover .exit)) (now (stack .exit)) ⌝ }
+    requires { ⌜ (from ≤ end) × (end * 3 ≤ length (now path)) × (n * 3 ≤ length (now out)) × (m ≤ length (now begins)) × Remembered (clipFilter matrix (seenFrom (now numbers) (now inverses) (now marks) (now «node_boxes») (now «node_marks») (now order) eye)) (now ends) (now known) × Prepared (now numbers) (now inverses) (now marks) (now «node_boxes») (now «node_marks») (now order) eye trusted calm (now cover) (now stack) ⌝ }
+    ensures { λ r. ⌜ (EndsBoth (filteredFrom (clipFilter matrix (seenFrom (now (numbers .entry)) (now (inverses .entry)) (now (marks .entry)) (now («node_boxes» .entry)) (now («node_marks» .entry)) (now (order .entry)) eye)) (places (now (out .entry))) (length (now (begins .entry))) (slice from end (allPoints (now (path .entry)))) (held n (now (out .entry)) m (now (begins .entry)))) (now (out .exit)) (now (begins .exit)) r) × Remembered (clipFilter matrix (seenFrom (now (numbers .entry)) (now (inverses .entry)) (now (marks .entry)) (now («node_boxes» .entry)) (now («node_marks» .entry)) (now (order .entry)) eye)) (now (ends .exit)) (now (known .exit)) × Prepared (now (numbers .entry)) (now (inverses .entry)) (now (marks .entry)) (now («node_boxes» .entry)) (now («node_marks» .entry)) (now (order .entry)) eye trusted calm (now (cover .exit)) (now (stack .exit)) ⌝ }
 {
     let mut i = from;
     let mut a = n;
@@ -318,8 +318,8 @@ fn path_filter(
     cover: &mut [usize],
     stack: &mut [usize],
 ) -> Counts
-    requires { ⌜ (from ≤ end) × (end * 3 ≤ length (now path)) × (n * 3 ≤ length (now out)) × (m ≤ length (now begins)) × Remembered (clipFilter matrix (seenFrom (now numbers) (now inverses) (now marks) (now «node_boxes») (now «node_marks») (now order) eye)) (now ends) (now known) × Ready (now numbers) (now inverses) (now marks) (now «node_boxes») (now «node_marks») (now order) eye trusted calm (now cover) (now stack) ⌝ }
-    ensures { λ r. ⌜ (EndsBoth (pathFilter (clipFilter matrix (seenFrom (now (numbers .entry)) (now (inverses .entry)) (now (marks .entry)) (now («node_boxes» .entry)) (now («node_marks» .entry)) (now (order .entry)) eye)) (places (now (out .entry))) (length (now (begins .entry))) (slice from end (allPoints (now (path .entry)))) (held n (now (out .entry)) m (now (begins .entry)))) (now (out .exit)) (now (begins .exit)) r) × Remembered (clipFilter matrix (seenFrom (now (numbers .entry)) (now (inverses .entry)) (now (marks .entry)) (now («node_boxes» .entry)) (now («node_marks» .entry)) (now (order .entry)) eye)) (now (ends .exit)) (now (known .exit)) × Ready (now (numbers .entry)) (now (inverses .entry)) (now (marks .entry)) (now («node_boxes» .entry)) (now («node_marks» .entry)) (now (order .entry)) eye trusted calm (now (cover .exit)) (now (stack .exit)) ⌝ }
+    requires { ⌜ (from ≤ end) × (end * 3 ≤ length (now path)) × (n * 3 ≤ length (now out)) × (m ≤ length (now begins)) × Remembered (clipFilter matrix (seenFrom (now numbers) (now inverses) (now marks) (now «node_boxes») (now «node_marks») (now order) eye)) (now ends) (now known) × Prepared (now numbers) (now inverses) (now marks) (now «node_boxes») (now «node_marks») (now order) eye trusted calm (now cover) (now stack) ⌝ }
+    ensures { λ r. ⌜ (EndsBoth (pathFilter (clipFilter matrix (seenFrom (now (numbers .entry)) (now (inverses .entry)) (now (marks .entry)) (now («node_boxes» .entry)) (now («node_marks» .entry)) (now (order .entry)) eye)) (places (now (out .entry))) (length (now (begins .entry))) (slice from end (allPoints (now (path .entry)))) (held n (now (out .entry)) m (now (begins .entry)))) (now (out .exit)) (now (begins .exit)) r) × Remembered (clipFilter matrix (seenFrom (now (numbers .entry)) (now (inverses .entry)) (now (marks .entry)) (now («node_boxes» .entry)) (now («node_marks» .entry)) (now (order .entry)) eye)) (now (ends .exit)) (now (known .exit)) × Prepared (now (numbers .entry)) (now (inverses .entry)) (now (marks .entry)) (now («node_boxes» .entry)) (now («node_marks» .entry)) (now (order .entry)) eye trusted calm (now (cover .exit)) (now (stack .exit)) ⌝ }
 {
     let o = paths::new_path(begins, m, n);
     match o {

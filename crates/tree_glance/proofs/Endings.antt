@@ -34,7 +34,7 @@ use Rattle.tree_walk.proofs.Layouts.{walk-is-visit}
 use Rattle.tree_glance.specs.declared.Glance.{Glance}
 use Rattle.tree_glance.specs.declared.Glance.the-variants.{Hidden, Visible}
 use Rattle.tree_trust.specs.Trust.{wholeTree, Trusted}
-use Rattle.tree_glance.specs.Glances.{Kept, LeafIn, Tells, endedOf}
+use Rattle.tree_glance.specs.Glances.{LastCover, LeafIn, Tells, endedOf}
 use Rattle.tree_glance.proofs.Leaves.{Found-best, Answering, Clear, visit-answered, leaf-falls-short, clear-reaches}
 use Rattle.tree_glance.proofs.Glancing.{Hides, Whole}
 
@@ -107,14 +107,14 @@ module _ (hit : ℕ → Struck) (r : Ray) (distance : Float) (boxes : List Float
 
 -- ---- what is kept
 pub kept-cover : (boxes : List Float) (links order cover stack : List ℕ) → length cover ≡ 2 → length stack ≡ 64 → getD cover 0 0 * 6 + 6 ≤ length boxes
-    → LeafIn (boxOfRow (row 6 (getD cover 0 0) boxes)) (getD cover 1 0) (wholeTree boxes links order) → Kept boxes links order cover stack
+    → LeafIn (boxOfRow (row 6 (getD cover 0 0) boxes)) (getD cover 1 0) (wholeTree boxes links order) → LastCover boxes links order cover stack
 kept-cover boxes links order cover stack w s f l = record { wide = w; wide-stack = s; last = inr (f, l) }
 
-pub kept-stack : (boxes : List Float) (links order cover stack : List ℕ) → Kept boxes links order cover stack → (stack′ : List ℕ) → length stack′ ≡ 64 → Kept boxes links order cover stack′
+pub kept-stack : (boxes : List Float) (links order cover stack : List ℕ) → LastCover boxes links order cover stack → (stack′ : List ℕ) → length stack′ ≡ 64 → LastCover boxes links order cover stack′
 kept-stack boxes links order cover stack K stack′ l = record { wide = K .wide; wide-stack = l; last = K .last }
 
-pub kept-same : (boxes : List Float) (links order cover stack : List ℕ) → Kept boxes links order cover stack → (cover′ : List ℕ) → cover′ ≡ cover → Kept boxes links order cover′ stack
-kept-same boxes links order cover stack K cover′ e = subst (λ (l : List ℕ). Kept boxes links order l stack) (sym e) K
+pub kept-same : (boxes : List Float) (links order cover stack : List ℕ) → LastCover boxes links order cover stack → (cover′ : List ℕ) → cover′ ≡ cover → LastCover boxes links order cover′ stack
+kept-same boxes links order cover stack K cover′ e = subst (λ (l : List ℕ). LastCover boxes links order l stack) (sym e) K
 
 pub tells-as : (g h : Glance) (f : Found) (distance : Float) → g ≡ h → Tells h f distance → Tells g f distance
 tells-as g h f distance e = subst (λ (x : Glance). Tells x f distance) (sym e)

@@ -32,7 +32,7 @@ use Rattle.tree_walk.specs.Standing.{Stands}
 use Rattle.tree_walk.proofs.Rounds.{places-box}
 use Rattle.tree_glance.specs.declared.Glance.the-variants.{Hidden, Visible, Unsure}
 use Rattle.tree_trust.specs.Trust.{wholeTree, treeBox, Trusted}
-use Rattle.tree_glance.specs.Glances.{Kept, AllAnswer, Shorter, Tells, endedOf}
+use Rattle.tree_glance.specs.Glances.{LastCover, AllAnswer, Shorter, Tells, endedOf}
 use Rattle.tree_glance.proofs.Leaves.{Answering, Clear}
 use Rattle.tree_glance.proofs.Glancing.{Hides, Done, failed-done, Part, Glancing, Fork, fork, tree-sound, there, leaf-answers, leaf-clear, leaf-in, glancing-start, glancing-end, answers-end, glancing-back, glancing-hidden, go-near, go-far, go-neither, go-both}
 use Rattle.tree_glance.proofs.Endings.{whole-tells, hides-tells, clear-tells, all-answering, kept-cover}
@@ -126,7 +126,7 @@ module _ (hit : ℕ → Struck) (r : Ray) (distance : Float) (boxes : List Float
             short = S .short;
           }
 
-          pub leaf-kept : length stack ≡ 64 → Kept boxes links order cover stack
+          pub leaf-kept : length stack ≡ 64 → LastCover boxes links order cover stack
           leaf-kept w =
               kept-cover boxes links order cover stack (S .wide) w (subst (λ (p : ℕ). p * 6 + 6 ≤ length boxes) (sym (S .place)) place-fits)
               (rw (S .place) (leaf-in hit r distance N P order tree i stack sp hid g (leaf-is true l) (getD cover 1 0) in-leaf))

@@ -34,7 +34,7 @@ use Rattle.tree_sight.proofs.Answers.{short-hidden, reaching-visible}
 use Rattle.tree_trust.specs.Trust.{wholeTree, Trusted}
 use Rattle.tree_glance.specs.declared.Glance.{Glance}
 use Rattle.tree_glance.specs.declared.Glance.the-variants.{Hidden, Visible, Unsure}
-use Rattle.tree_glance.specs.Glances.{Kept, EnteredBefore, Covering, Tells, SeenAs}
+use Rattle.tree_glance.specs.Glances.{LastCover, EnteredBefore, Covering, Tells, SeenAs}
 use Rattle.tree_glance.proofs.Glancing.{Hides}
 use Rattle.tree_glance.proofs.Endings.{aimed-usable, all-answering, hides-tells}
 
@@ -83,7 +83,7 @@ module _ (eye point v : Vector) (d : Float) (ev : v ≡ subV eye point) (ed : d 
       told-as Unsure t = tt
 
 -- ---- what is kept hides
-module _ (hit : ℕ → Struck) (r : Ray) (distance : Float) (boxes : List Float) (links order cover stack : List ℕ) (t : Trusted boxes links order) (K : Kept boxes links order cover stack) where
+module _ (hit : ℕ → Struck) (r : Ray) (distance : Float) (boxes : List Float) (links order cover stack : List ℕ) (t : Trusted boxes links order) (K : LastCover boxes links order cover stack) where
   pub covering-tells : Usable r → ((i : ℕ) → (h : Hit) × (hit i ≡ At h)) → Covering hit r distance boxes cover → Tells Hidden (walkRows hit r boxes links order) distance
   covering-tells u A C = elim (K .last) [
     | inl e ↦ absurd (C .held e)
@@ -100,7 +100,7 @@ module _ (hit : ℕ → Struck) (r : Ray) (distance : Float) (boxes : List Float
   ]
 
 -- what `covered` asks for
-pub kept-fits : (boxes : List Float) (links order cover stack : List ℕ) (K : Kept boxes links order cover stack) → (getD cover 0 0 ≡ 0xffff_ffff) ⊎ (getD cover 0 0 * 6 + 6 ≤ length boxes)
+pub kept-fits : (boxes : List Float) (links order cover stack : List ℕ) (K : LastCover boxes links order cover stack) → (getD cover 0 0 ≡ 0xffff_ffff) ⊎ (getD cover 0 0 * 6 + 6 ≤ length boxes)
 kept-fits boxes links order cover stack K = elim (K .last) [ inl e ↦ inl e | inr z ↦ inr (z .0) ]
 
 pub fits-else : (boxes : List Float) (place : ℕ) → (place ≡ 0xffff_ffff) ⊎ (place * 6 + 6 ≤ length boxes) → (place ≡ 0xffff_ffff → ⊥) → place * 6 + 6 ≤ length boxes
@@ -112,7 +112,7 @@ module _ (hit : ℕ → Struck) (r : Ray) (distance : Float) (boxes : List Float
   covering n e h q s = record { held = n; entered = e; own = h; returned = q; short = subst T (sym s) tt }
 
 -- ---- what is kept afterwards
-pub kept-none : (boxes : List Float) (links order cover stack : List ℕ) → Kept boxes links order cover stack → Kept boxes links order (set cover 0 0xffff_ffff) stack
+pub kept-none : (boxes : List Float) (links order cover stack : List ℕ) → LastCover boxes links order cover stack → LastCover boxes links order (set cover 0 0xffff_ffff) stack
 kept-none boxes links order cover stack K = record {
   wide = length-set cover 0 0xffff_ffff ∙ K .wide;
   wide-stack = K .wide-stack;

@@ -46,7 +46,7 @@ abbrev pub noPlace : ℕ
 noPlace = 0xffff_ffff
 
 -- the leaf and the entry in it that hid a point last, or no place; and room for places that wait
-pub record Kept (boxes : List Float) (links order cover stack : List ℕ) : Type 0 where
+pub record LastCover (boxes : List Float) (links order cover stack : List ℕ) : Type 0 where
   pub wide : length cover ≡ 2
   pub wide-stack : length stack ≡ 64
   pub last : (getD cover 0 0 ≡ noPlace) ⊎ ((getD cover 0 0 * 6 + 6 ≤ length boxes) × LeafIn (boxOfRow (row 6 (getD cover 0 0) boxes)) (getD cover 1 0) (wholeTree boxes links order))

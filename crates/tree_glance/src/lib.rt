@@ -16,7 +16,7 @@ ghost use Rattle.tree_walk.specs.Walks.{entryHit, walkRows};
 ghost use Rattle.tree_glance.specs.Glances as Glances;
 ghost use Rattle.tree_trust.specs.Trust.{Trusted, Uncut};
 ghost use Rattle.tree_sight.specs.Sights.{sees};
-ghost use Rattle.tree_glance.specs.Glances.{noPlace, Kept, Covering, LeafTold, Tells, SeenAs};
+ghost use Rattle.tree_glance.specs.Glances.{noPlace, LastCover, Covering, LeafTold, Tells, SeenAs};
 use geometry::ray::Ray;
 use geometry::vector::Vector;
 use scene_shape::Struck;
@@ -187,8 +187,8 @@ pub fn look(
     cover: &mut [usize],
     stack: &mut [usize],
 ) -> Glance
-    requires { ⌜ Trusted (now «node_boxes») (now «node_marks») (now order) × (calm ≡ true → Uncut (now numbers) (now inverses) (now marks)) × Aimed b × T (le distance INF) × Kept (now «node_boxes») (now «node_marks») (now order) (now cover) (now stack) ⌝ }
-    ensures { λ a. ⌜ Tells a (walkRows (entryHit (now (numbers .entry)) (now (inverses .entry)) (now (marks .entry)) (b .ray)) (b .ray) (now («node_boxes» .entry)) (now («node_marks» .entry)) (now (order .entry))) distance × Kept (now («node_boxes» .entry)) (now («node_marks» .entry)) (now (order .entry)) (now (cover .exit)) (now (stack .exit)) ⌝ }
+    requires { ⌜ Trusted (now «node_boxes») (now «node_marks») (now order) × (calm ≡ true → Uncut (now numbers) (now inverses) (now marks)) × Aimed b × T (le distance INF) × LastCover (now «node_boxes») (now «node_marks») (now order) (now cover) (now stack) ⌝ }
+    ensures { λ a. ⌜ Tells a (walkRows (entryHit (now (numbers .entry)) (now (inverses .entry)) (now (marks .entry)) (b .ray)) (b .ray) (now («node_boxes» .entry)) (now («node_marks» .entry)) (now (order .entry))) distance × LastCover (now («node_boxes» .entry)) (now («node_marks» .entry)) (now (order .entry)) (now (cover .exit)) (now (stack .exit)) ⌝ }
 {
     if tree_beams::misses(node_boxes, 0, b) {
         return Glance::Visible;
@@ -313,8 +313,8 @@ fn glimpse(
     cover: &mut [usize],
     stack: &mut [usize],
 ) -> Glance
-    requires { ⌜ Trusted (now «node_boxes») (now «node_marks») (now order) × (calm ≡ true → Uncut (now numbers) (now inverses) (now marks)) × Within eye × Within point × Kept (now «node_boxes») (now «node_marks») (now order) (now cover) (now stack) ⌝ }
-    ensures { λ a. ⌜ SeenAs a (sees (λ (r : Ray). walkRows (entryHit (now (numbers .entry)) (now (inverses .entry)) (now (marks .entry)) r) r (now («node_boxes» .entry)) (now («node_marks» .entry)) (now (order .entry))) eye point) × Kept (now («node_boxes» .entry)) (now («node_marks» .entry)) (now (order .entry)) (now (cover .exit)) (now (stack .exit)) ⌝ }
+    requires { ⌜ Trusted (now «node_boxes») (now «node_marks») (now order) × (calm ≡ true → Uncut (now numbers) (now inverses) (now marks)) × Within eye × Within point × LastCover (now «node_boxes») (now «node_marks») (now order) (now cover) (now stack) ⌝ }
+    ensures { λ a. ⌜ SeenAs a (sees (λ (r : Ray). walkRows (entryHit (now (numbers .entry)) (now (inverses .entry)) (now (marks .entry)) r) r (now («node_boxes» .entry)) (now («node_marks» .entry)) (now (order .entry))) eye point) × LastCover (now («node_boxes» .entry)) (now («node_marks» .entry)) (now (order .entry)) (now (cover .exit)) (now (stack .exit)) ⌝ }
 {
     let v = eye.sub(point);
     let distance = v.norm();
@@ -369,8 +369,8 @@ pub fn sight(
     cover: &mut [usize],
     stack: &mut [usize],
 ) -> Sight
-    requires { ⌜ (trusted ≡ true → Trusted (now «node_boxes») (now «node_marks») (now order) × Within eye × Within point) × (calm ≡ true → Uncut (now numbers) (now inverses) (now marks)) × Kept (now «node_boxes») (now «node_marks») (now order) (now cover) (now stack) ⌝ }
-    ensures { λ s. ⌜ (s ≡ sees (λ (r : Ray). walkRows (entryHit (now (numbers .entry)) (now (inverses .entry)) (now (marks .entry)) r) r (now («node_boxes» .entry)) (now («node_marks» .entry)) (now (order .entry))) eye point) × Kept (now («node_boxes» .entry)) (now («node_marks» .entry)) (now (order .entry)) (now (cover .exit)) (now (stack .exit)) ⌝ }
+    requires { ⌜ (trusted ≡ true → Trusted (now «node_boxes») (now «node_marks») (now order) × Within eye × Within point) × (calm ≡ true → Uncut (now numbers) (now inverses) (now marks)) × LastCover (now «node_boxes») (now «node_marks») (now order) (now cover) (now stack) ⌝ }
+    ensures { λ s. ⌜ (s ≡ sees (λ (r : Ray). walkRows (entryHit (now (numbers .entry)) (now (inverses .entry)) (now (marks .entry)) r) r (now («node_boxes» .entry)) (now («node_marks» .entry)) (now (order .entry))) eye point) × LastCover (now («node_boxes» .entry)) (now («node_marks» .entry)) (now (order .entry)) (now (cover .exit)) (now (stack .exit)) ⌝ }
 {
     if trusted {
         let g = glimpse(

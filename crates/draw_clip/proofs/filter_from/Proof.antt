@@ -1,6 +1,6 @@
 use Rattle.path_filter.proofs.Filtering.{Filtering, filtering-start, filtering-turn, filtering-refused, filtering-end}
 use Rattle.draw_memory.specs.Memory.{Remembered}
-use Rattle.draw_clip.specs.Clip.{clipFilter, seenFrom, Ready}
+use Rattle.draw_clip.specs.Clip.{clipFilter, seenFrom, Prepared}
 use Prim.Native.Nat.{_-_}
 use mathlib.Core.Path.{sym, _∙_}
 use native.Mathlib.Omega.{arith}
@@ -12,7 +12,7 @@ abbrev Inv-loop : tie.InvT-loop
 Inv-loop matrix eye numbers inverses marks node-boxes node-marks order ends₀ known₀ path from end out₀ begins₀ n m trusted calm cover₀ stack₀ i₀ a₀ b₀ ends known out begins cover stack i a b =
     Filtering (clipFilter matrix (seenFrom numbers inverses marks node-boxes node-marks order eye)) path out₀ begins₀ from end n m out begins i a b
     × Remembered (clipFilter matrix (seenFrom numbers inverses marks node-boxes node-marks order eye)) ends known
-    × Ready numbers inverses marks node-boxes node-marks order eye trusted calm cover stack
+    × Prepared numbers inverses marks node-boxes node-marks order eye trusted calm cover stack
 
 abbrev μ-loop : tie.MeasureT-loop
 μ-loop matrix eye numbers inverses marks node-boxes node-marks order ends₀ known₀ path from end out₀ begins₀ n m trusted calm cover₀ stack₀ i₀ a₀ b₀ ends known out begins cover stack i a b = end - i

@@ -4,7 +4,7 @@ use Rattle.path_filter.specs.Filter.{pathFilter}
 use Rattle.floats.specs.Arith.{zeroF}
 use Rattle.draw_memory.specs.Memory.{Remembered}
 use Rattle.draw_memory.proofs.Memories.{known-start}
-use Rattle.draw_clip.specs.Clip.{clipFilter, seenFrom, Ready}
+use Rattle.draw_clip.specs.Clip.{clipFilter, seenFrom, Prepared}
 use Rattle.draw_clip.proofs.Clipping.{ready-start}
 use lib.ListN.{length}
 use Prim.Native.Nat.{_-_}
@@ -18,7 +18,7 @@ abbrev Inv-loop : tie.InvT-loop
 Inv-loop matrix eye numbers inverses marks node-boxes node-marks order path starts out₀ begins₀ total ends₀ known₀ trusted calm cover₀ stack₀ n₀ m₀ i₀ out begins ends known cover stack n m i =
     Staging (pathFilter (clipFilter matrix (seenFrom numbers inverses marks node-boxes node-marks order eye))) path starts out₀ begins₀ out begins i n m
     × Remembered (clipFilter matrix (seenFrom numbers inverses marks node-boxes node-marks order eye)) ends known
-    × Ready numbers inverses marks node-boxes node-marks order eye trusted calm cover stack
+    × Prepared numbers inverses marks node-boxes node-marks order eye trusted calm cover stack
 
 abbrev μ-loop : tie.MeasureT-loop
 μ-loop matrix eye numbers inverses marks node-boxes node-marks order path starts out₀ begins₀ total ends₀ known₀ trusted calm cover₀ stack₀ n₀ m₀ i₀ out begins ends known cover stack n m i = length starts - i

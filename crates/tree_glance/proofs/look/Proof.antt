@@ -6,7 +6,7 @@ use mathlib.Core.List.{List}
 use Prim.Native.Nat.{ℕ}
 use borrow.Author.Needs.{needs}
 use Rattle.tree_walk.specs.Walks.{entryHit}
-use Rattle.tree_glance.specs.Glances.{Kept}
+use Rattle.tree_glance.specs.Glances.{LastCover}
 use Rattle.tree_glance.proofs.Spots.{told-unsure, told-same, told-far, told-short}
 use Rattle.tree_glance.proofs.Endings.{aimed-usable, kept-stack, kept-same, tells-as}
 use Rattle.tree_glance.proofs.Looking.{At-place, root-asked, root-missed, look-start, place-fits, place-links, leaf-done, leaf-hides, leaf-kept, leaf-answered, near-asked, far-asked, to-far, to-neither, to-near, to-both, look-back, look-hidden, look-end, look-end-hidden, look-calm}
@@ -15,7 +15,7 @@ use Rattle.tree_glance.proofs.look.Tie as tie
 
 abbrev Inv-loop : tie.InvT-loop
 Inv-loop numbers inverses marks node-boxes node-marks order b distance calm cover₀ stack₀ r i₀ sp₀ hid₀ rounds₀ cover stack i sp hid rounds =
-    At-place (entryHit numbers inverses marks r) r distance node-boxes node-marks order i stack sp hid × Kept node-boxes node-marks order cover stack
+    At-place (entryHit numbers inverses marks r) r distance node-boxes node-marks order i stack sp hid × LastCover node-boxes node-marks order cover stack
 
 abbrev μ-loop : tie.MeasureT-loop
 μ-loop numbers inverses marks node-boxes node-marks order b distance calm cover₀ stack₀ r i₀ sp₀ hid₀ rounds₀ cover stack i sp hid rounds = rounds
