@@ -27,6 +27,17 @@ fn rescaled(scale: f64, a: Struck) -> Struck
     }
 }
 
+// An answer as it is, by its fields: copied whole, its hit's flag would be read as a word where a byte was written,
+// which waits.
+fn by_fields(a: Struck) -> Struck
+    ensures { λ r. ⌜ r ≡ a ⌝ }
+{
+    match a {
+        Struck::At(h) => Struck::At(Hit { t: h.t, ok: h.ok }),
+        Struck::Refused(n) => Struck::Refused(n),
+    }
+}
+
 // The first refusal, or the nearer hit.
 fn both(a: Struck, b: Struck) -> Struck
     ensures { λ r. ⌜ r ≡ Cuts.both a b ⌝ }
@@ -174,9 +185,11 @@ pub fn entry_hit(
         let op = scene::entry::op_of(m.detail);
         let a = rows::index(m.first);
         let b = rows::index(m.second);
-        return cut_hit(numbers, inverses, marks, op, a, b, r, depth - 1, 64, 0.0);
+        let c = cut_hit(numbers, inverses, marks, op, a, b, r, depth - 1, 64, 0.0);
+        return by_fields(c);
     }
-    Struck::At(scene_simple::hit(numbers, i, m.kind, r.origin, r.direction))
+    let h = scene_simple::hit(numbers, i, m.kind, r.origin, r.direction);
+    by_fields(Struck::At(h))
 }
 
 // The hit of a cut, with so many restarts left, for a ray that starts `sum` beyond the first origin.

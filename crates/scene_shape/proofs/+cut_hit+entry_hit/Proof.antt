@@ -15,6 +15,7 @@ use Rattle.scene_shape.proofs.entry_hit.Kinds as entry-hit-kinds
 use Rattle.scene_shape.proofs.+cut_hit+entry_hit.Lts-entry_hit as entry-hit-lts
 use Rattle.scene_shape.proofs.+cut_hit+entry_hit.{statement}
 use Rattle.scene_shape.proofs.both.Reads as both-reads
+use Rattle.scene_shape.proofs.by_fields.Reads as by-fields-reads
 use Rattle.scene_shape.proofs.cut_contains.Reads as cut-contains-reads
 use Rattle.geometry.proofs.hit.Hit.is_ok.Reads as is-ok-reads
 use Rattle.matrix.proofs.Matrix.mul_ray.Reads as mul-ray-reads
@@ -54,7 +55,7 @@ abbrev cut-hit-claims : ℕ → cut-hit-lts.Claims
 cut-hit-claims t = (entry-hit-below t, entry-hit.Post, both-reads.Asked, both-reads.Learnt, is-ok-reads.Asked, is-ok-reads.Learnt, tell-of-reads.Asked, tell-of-reads.Learnt, position-reads.Asked, position-reads.Learnt, cut-contains-reads.Asked, cut-contains-reads.Learnt, restarted-reads.Asked, restarted-reads.Learnt, cut-hit-below t, cut-hit.Post)
 
 abbrev entry-hit-claims : ℕ → entry-hit-lts.Claims
-entry-hit-claims t = (no-hit-reads.Asked, no-hit-reads.Learnt, is-there-reads.Asked, is-there-reads.Learnt, read-marks-reads.Asked, read-marks-reads.Learnt, inverse-at-reads.Asked, inverse-at-reads.Learnt, mul-ray-reads.Asked, mul-ray-reads.Learnt, index-reads.Asked, index-reads.Learnt, entry-hit-below t, entry-hit.Post, rescaled-reads.Asked, rescaled-reads.Learnt, op-of-reads.Asked, op-of-reads.Learnt, cut-hit-below t, cut-hit.Post, hit-reads.Asked, hit-reads.Learnt)
+entry-hit-claims t = (no-hit-reads.Asked, no-hit-reads.Learnt, is-there-reads.Asked, is-there-reads.Learnt, read-marks-reads.Asked, read-marks-reads.Learnt, inverse-at-reads.Asked, inverse-at-reads.Learnt, mul-ray-reads.Asked, mul-ray-reads.Learnt, index-reads.Asked, index-reads.Learnt, entry-hit-below t, entry-hit.Post, rescaled-reads.Asked, rescaled-reads.Learnt, op-of-reads.Asked, op-of-reads.Learnt, cut-hit-below t, cut-hit.Post, by-fields-reads.Asked, by-fields-reads.Learnt, hit-reads.Asked, hit-reads.Learnt)
 
 cut-hit-entry-hit-requires : (t : ℕ) → cut-hit-lts.Need-entry-hit-requires (cut-hit-claims t) (cut-hit-at t) cut-hit.Post
 cut-hit-entry-hit-requires t c κs = (omega arith, tt)
@@ -179,7 +180,7 @@ entry-hit-cut-hit-requires t c κs = (omega arith, tt)
 entry-hit-returns-5 : (t : ℕ) → entry-hit-lts.Need-returns-5 (entry-hit-claims t) (entry-hit-at t) entry-hit.Post
 unfolding shapeOf shapeHit
 entry-hit-returns-5 t c =
-    let at1 = c .before in let index3 = at1 .index3 in
+    let at1 = c .before .before in let index3 = at1 .index3 in
     let at2 = at1 .before in let index2 = at2 .index2 in
     let at3 = at2 .before in let op-of = at3 .op-of in
     let at4 = at3 .before in let if5 = at4 .if5 in
@@ -187,7 +188,7 @@ entry-hit-returns-5 t c =
     let at6 = at5 .before .before .before .before in let read-marks = at6 .read-marks in
     let at7 = at6 .before in let if2 = at7 .if2 in
     let at8 = at7 .before in let is-there = at8 .is-there in
-    rw (decode-is _ _ _ _ _ (at8 .before .if1 .left) (entry-cut _ _ _ _ (is-there .ensures) (not-false _ (if2 .left)) (read-marks .ensures) (if4 .taken) (if5 .left) (op-of .ensures) (index2 .ensures .0) (index3 .ensures .0))) (c .cut-hit .ensures)
+    c .by-fields .ensures ∙ rw (decode-is _ _ _ _ _ (at8 .before .if1 .left) (entry-cut _ _ _ _ (is-there .ensures) (not-false _ (if2 .left)) (read-marks .ensures) (if4 .taken) (if5 .left) (op-of .ensures) (index2 .ensures .0) (index3 .ensures .0))) (c .before .cut-hit .ensures)
 
 entry-hit-hit-requires : (t : ℕ) → entry-hit-lts.Need-hit-requires (entry-hit-claims t) (entry-hit-at t) entry-hit.Post
 entry-hit-hit-requires t c κs =
@@ -196,12 +197,12 @@ entry-hit-hit-requires t c κs =
 
 entry-hit-returns-6 : (t : ℕ) → entry-hit-lts.Need-returns-6 (entry-hit-claims t) (entry-hit-at t) entry-hit.Post
 entry-hit-returns-6 t c =
-    let at1 = c .before in let if4 = at1 .if4 in
+    let at1 = c .before .before in let if4 = at1 .if4 in
     let at2 = at1 .before .before in let if3 = at2 .if3 in
     let at3 = at2 .before .before in let read-marks = at3 .read-marks in
     let at4 = at3 .before in let if2 = at4 .if2 in
     let at5 = at4 .before in let is-there = at5 .is-there in
-    simple-hit _ _ _ _ _ _ (at5 .before .if1 .left) (entry-simple _ _ _ _ (is-there .ensures) (not-false _ (if2 .left)) (read-marks .ensures) (if3 .left) (if4 .left)) _ (c .hit .ensures)
+    c .by-fields2 .ensures ∙ simple-hit _ _ _ _ _ _ (at5 .before .if1 .left) (entry-simple _ _ _ _ (is-there .ensures) (not-false _ (if2 .left)) (read-marks .ensures) (if3 .left) (if4 .left)) _ (c .before .hit .ensures)
 
 pub +cut-hit+entry-hit-spec : {M : Type 1} → statement M
 +cut-hit+entry-hit-spec = close μ-cut-hit μ-entry-hit (λ t. cut-hit-lts.spec (cut-hit-claims t)
@@ -248,6 +249,8 @@ pub +cut-hit+entry-hit-spec : {M : Type 1} → statement M
     (λ c κs. tt)
     (λ c. search needs)
     (entry-hit-cut-hit-requires t)
+    (λ c κs. tt)
     (entry-hit-returns-5 t)
     (entry-hit-hit-requires t)
+    (λ c κs. tt)
     (entry-hit-returns-6 t)
