@@ -25,14 +25,10 @@ use Rattle.scene_shape.specs.declared.Struck.{Struck}
 use Rattle.scene_shape.specs.declared.Struck.the-variants.{At, Refused}
 
 -- where depth is left, a solid is its entry with the parts read a level down
-pub decode-as : (d : ℕ) (ns vs : List Float) (ms : List ℕ) (i : ℕ) {e x : Entry} → (d ≡ 0 → ⊥) → e ≡ entryAt ns vs ms i → e ≡ x → decode d ns vs ms i ≡ shapeOf (decode (d - 1) ns vs ms) x
-unfolding read
-decode-as zero ns vs ms i f p q = absurd (f refl)
-decode-as (suc d) ns vs ms i f p q = rw (sub-one, ← q, p)
-
--- the same where its entry is known
 pub decode-is : (d : ℕ) (ns vs : List Float) (ms : List ℕ) (i : ℕ) {x : Entry} → (d ≡ 0 → ⊥) → entryAt ns vs ms i ≡ x → decode d ns vs ms i ≡ shapeOf (decode (d - 1) ns vs ms) x
-decode-is d ns vs ms i f p = decode-as d ns vs ms i f refl p
+unfolding read
+decode-is zero ns vs ms i f p = absurd (f refl)
+decode-is (suc d) ns vs ms i f p = rw (sub-one, p)
 
 -- a simple solid, or none, has its own hit and insides
 hit-simply : (g : ℕ → Shape) (s : Simple) (r : Ray) → At (simpleHit s r) ≡ shapeHit (shapeOf g (simpleOr s None)) r
