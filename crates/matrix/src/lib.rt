@@ -288,7 +288,7 @@ impl Matrix {
         ensures { λ r. ⌜ r ≡ Matrices.mulRay self b ⌝ }
     {
         let d = self.mul_vector(b.direction);
-        let scale = d.norm();
+        let scale = d.norm_near();
         Scaled {
             ray: Ray::new(self.mul_position(b.origin), d.div_scalar(scale)),
             scale,

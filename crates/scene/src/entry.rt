@@ -165,7 +165,7 @@ pub enum Entry {
 }
 
 // Operations 0 to 3, in that order.
-fn op_of(detail: u32) -> Op
+pub fn op_of(detail: u32) -> Op
     ensures { λ o. ⌜ o ≡ opOf detail ⌝ }
 {
     if detail == 0 {

@@ -9,6 +9,7 @@ ghost use Rattle.rows.specs.Rows.{row};
 ghost use Rattle.rows.specs.Entries.{numbersOf};
 ghost use Rattle.scene.specs.Entries.{closedOf, simpleOf, matrixOf, entryAt};
 ghost use Rattle.scene_plain.specs.Plains as Plains;
+ghost use Rattle.scene_plain.specs.declared.Plain.the-variants.{At};
 use geometry::hit::Hit;
 use geometry::ray::Ray;
 use geometry::vector::Vector;
@@ -28,6 +29,14 @@ pub enum Plain {
     Other,
 }
 
+// A hit that was just made, by its fields: copied whole, its flag would be read as a word where a byte was written,
+// which waits.
+fn hit_at(h: Hit) -> Plain
+    ensures { λ p. ⌜ p ≡ At h ⌝ }
+{
+    Plain::At(Hit { t: h.t, ok: h.ok })
+}
+
 // The hit of kinds 8 and 9, by the row of the entry.
 fn closed_hit(numbers: &[f64], i: usize, kind: u32, o: Vector, d: Vector) -> Plain
     requires { ⌜ i * 16 + 16 ≤ length (now numbers) ⌝ }
@@ -36,12 +45,12 @@ fn closed_hit(numbers: &[f64], i: usize, kind: u32, o: Vector, d: Vector) -> Pla
     if kind == 8 {
         let n = rows::read_numbers(numbers, i);
         let h = cylinder::hit(n.x00, n.x01, n.x02, o, d);
-        return Plain::At(closed_cylinder::intersect(h, n.x00, n.x01, n.x02, Ray::new(o, d)));
+        return hit_at(closed_cylinder::intersect(h, n.x00, n.x01, n.x02, Ray::new(o, d)));
     }
     if kind == 9 {
         let n = rows::read_numbers(numbers, i);
         let h = cone::hit(n.x00, n.x01, o, d);
-        return Plain::At(closed_cone::intersect(h, n.x00, Ray::new(o, d)));
+        return hit_at(closed_cone::intersect(h, n.x00, Ray::new(o, d)));
     }
     Plain::Other
 }
@@ -55,28 +64,28 @@ fn measured_hit(numbers: &[f64], i: usize, kind: u32, o: Vector, d: Vector) -> P
     if kind == 1 {
         let n = rows::read_numbers(numbers, i);
         let a = Vector::new(n.x00, n.x01, n.x02);
-        return Plain::At(sphere::hit(a, n.x03, o, d));
+        return hit_at(sphere::hit(a, n.x03, o, d));
     }
     if kind == 2 {
         let n = rows::read_numbers(numbers, i);
-        return Plain::At(cylinder::hit(n.x00, n.x01, n.x02, o, d));
+        return hit_at(cylinder::hit(n.x00, n.x01, n.x02, o, d));
     }
     if kind == 3 {
         let n = rows::read_numbers(numbers, i);
-        return Plain::At(cone::hit(n.x00, n.x01, o, d));
+        return hit_at(cone::hit(n.x00, n.x01, o, d));
     }
     if kind == 4 {
         let n = rows::read_numbers(numbers, i);
         let a = Vector::new(n.x00, n.x01, n.x02);
         let b = Vector::new(n.x03, n.x10, n.x11);
-        return Plain::At(cube::hit(a, b, o, d));
+        return hit_at(cube::hit(a, b, o, d));
     }
     if kind == 5 {
         let n = rows::read_numbers(numbers, i);
         let a = Vector::new(n.x00, n.x01, n.x02);
         let b = Vector::new(n.x03, n.x10, n.x11);
         let c = Vector::new(n.x12, n.x13, n.x20);
-        return Plain::At(triangle::hit(a, b, c, o, d));
+        return hit_at(triangle::hit(a, b, c, o, d));
     }
     closed_hit(numbers, i, kind, o, d)
 }

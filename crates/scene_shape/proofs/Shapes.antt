@@ -11,20 +11,42 @@ use Rattle.geometry.specs.Hits.{isOk}
 use Rattle.geometry.specs.declared.vector.Vector.{Vector}
 use Rattle.geometry.specs.declared.ray.Ray.{Ray}
 use Rattle.geometry.specs.declared.hit.Hit.{Hit}
-use Rattle.scene.specs.Entries.{entryAt}
+use Rattle.scene.specs.Entries.{entryAt, simpleOr}
+use Rattle.scene.specs.declared.entry.Simple.{Simple}
+use Rattle.scene.specs.declared.entry.Simple.the-variants.{Is, Other}
 use Rattle.scene.specs.declared.entry.Entry.{Entry}
+use Rattle.scene.specs.declared.entry.Entry.the-variants.{None}
+use Rattle.scene_simple.specs.Simples.{simpleHit, simpleContains}
 use Rattle.refusals.specs.declared.Refusal.{Refusal}
 use Rattle.refusals.specs.declared.Refusal.the-variants.{Restarts}
-use Rattle.scene_shape.specs.Shapes.{read, decode, shapeOf, cutFrom}
+use Rattle.scene_shape.specs.Shapes.{Shape, read, decode, shapeOf, shapeHit, shapeContains, cutFrom}
 use Rattle.scene_shape.specs.Cuts.{both, step, acceptedOr, restarted}
 use Rattle.scene_shape.specs.declared.Struck.{Struck}
 use Rattle.scene_shape.specs.declared.Struck.the-variants.{At, Refused}
 
 -- where depth is left, a solid is its entry with the parts read a level down
-pub decode-as : (d : ℕ) (ns vs : List Float) (ms : List ℕ) (i : ℕ) {e x : Entry} → (d ≡ 0 → ⊥) → e ≡ entryAt ns vs ms i → e ≡ x → decode d ns vs ms i ≡ shapeOf (decode (d - 1) ns vs ms) x
+pub decode-is : (d : ℕ) (ns vs : List Float) (ms : List ℕ) (i : ℕ) {x : Entry} → (d ≡ 0 → ⊥) → entryAt ns vs ms i ≡ x → decode d ns vs ms i ≡ shapeOf (decode (d - 1) ns vs ms) x
 unfolding read
-decode-as zero ns vs ms i f p q = absurd (f refl)
-decode-as (suc d) ns vs ms i f p q = rw (sub-one, ← q, p)
+decode-is zero ns vs ms i f p = absurd (f refl)
+decode-is (suc d) ns vs ms i f p = rw (sub-one, p)
+
+-- a simple solid, or none, has its own hit and insides
+hit-simply : (g : ℕ → Shape) (s : Simple) (r : Ray) → At (simpleHit s r) ≡ shapeHit (shapeOf g (simpleOr s None)) r
+unfolding shapeOf shapeHit simpleOr simpleHit
+hit-simply g (Is s) r = refl
+hit-simply g Other r = refl
+
+contains-simply : (g : ℕ → Shape) (s : Simple) (p : Vector) (f : Float) → simpleContains s p f ≡ shapeContains (shapeOf g (simpleOr s None)) p f
+unfolding shapeOf shapeContains simpleOr simpleContains
+contains-simply g (Is s) p f = refl
+contains-simply g Other p f = refl
+
+module _ (d : ℕ) (ns vs : List Float) (ms : List ℕ) (i : ℕ) (s : Simple) (f : d ≡ 0 → ⊥) (e : entryAt ns vs ms i ≡ simpleOr s None) where
+  pub simple-hit : (r : Ray) {h : Hit} → h ≡ simpleHit s r → At h ≡ shapeHit (decode d ns vs ms i) r
+  simple-hit r eh = rw (decode-is d ns vs ms i f e) (ap At eh ∙ hit-simply (decode (d - 1) ns vs ms) s r)
+
+  pub simple-contains : (p : Vector) (w : Float) {b : Bool} → b ≡ simpleContains s p w → b ≡ shapeContains (decode d ns vs ms i) p w
+  simple-contains p w eb = rw (decode-is d ns vs ms i f e) (eb ∙ contains-simply (decode (d - 1) ns vs ms) s p w)
 
 pub and-then : {r a s b : Bool} → r ≡ a → r ≡ true → s ≡ b → s ≡ (a && b)
 and-then p h q = rw (← p, h, q)

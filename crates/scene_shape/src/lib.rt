@@ -7,7 +7,6 @@ use geometry::hit::Hit;
 use geometry::ray::Ray;
 use geometry::vector::Vector;
 use refusals::Refusal;
-use scene::entry::Entry;
 use scene::entry::Op;
 
 // The hit of a ray, or why there is none.
@@ -24,6 +23,17 @@ fn rescaled(scale: f64, a: Struck) -> Struck
             t: h.t / scale,
             ok: h.ok,
         }),
+        Struck::Refused(n) => Struck::Refused(n),
+    }
+}
+
+// An answer as it is, by its fields: copied whole, its hit's flag would be read as a word where a byte was written,
+// which waits.
+fn by_fields(a: Struck) -> Struck
+    ensures { λ r. ⌜ r ≡ a ⌝ }
+{
+    match a {
+        Struck::At(h) => Struck::At(Hit { t: h.t, ok: h.ok }),
         Struck::Refused(n) => Struck::Refused(n),
     }
 }
@@ -100,15 +110,25 @@ pub fn entry_contains(
     if depth == 0 {
         return false;
     }
-    let e = scene::entry::entry_at(numbers, inverses, marks, i);
-    match e {
-        Entry::Simple(s) => s.contains(p, f),
-        Entry::Placed(_, v, k) => {
-            entry_contains(numbers, inverses, marks, k, v.mul_position(p), f, depth - 1)
-        }
-        Entry::Cut(op, a, b) => cut_contains(numbers, inverses, marks, op, a, b, p, depth - 1),
-        Entry::None => false,
+    if !scene_simple::is_there(numbers, inverses, marks, i) {
+        return false;
     }
+    let m = rows::read_marks(marks, i);
+    if m.kind == 6 {
+        let v = scene_simple::inverse_at(inverses, i);
+        let k = rows::index(m.first);
+        return entry_contains(numbers, inverses, marks, k, v.mul_position(p), f, depth - 1);
+    }
+    if m.kind == 7 {
+        if m.detail > 3 {
+            return false;
+        }
+        let op = scene::entry::op_of(m.detail);
+        let a = rows::index(m.first);
+        let b = rows::index(m.second);
+        return cut_contains(numbers, inverses, marks, op, a, b, p, depth - 1);
+    }
+    scene_simple::contains(numbers, i, m.kind, p, f)
 }
 
 fn cut_contains(
@@ -146,19 +166,30 @@ pub fn entry_hit(
     if depth == 0 {
         return Struck::At(Hit::no_hit());
     }
-    let e = scene::entry::entry_at(numbers, inverses, marks, i);
-    match e {
-        Entry::Simple(s) => Struck::At(s.intersect(r)),
-        Entry::Placed(_, v, k) => {
-            let q = v.mul_ray(r);
-            rescaled(
-                q.scale,
-                entry_hit(numbers, inverses, marks, k, q.ray, depth - 1),
-            )
-        }
-        Entry::Cut(op, a, b) => cut_hit(numbers, inverses, marks, op, a, b, r, depth - 1, 64, 0.0),
-        Entry::None => Struck::At(Hit::no_hit()),
+    if !scene_simple::is_there(numbers, inverses, marks, i) {
+        return Struck::At(Hit::no_hit());
     }
+    let m = rows::read_marks(marks, i);
+    if m.kind == 6 {
+        let q = scene_simple::inverse_at(inverses, i).mul_ray(r);
+        let k = rows::index(m.first);
+        return rescaled(
+            q.scale,
+            entry_hit(numbers, inverses, marks, k, q.ray, depth - 1),
+        );
+    }
+    if m.kind == 7 {
+        if m.detail > 3 {
+            return Struck::At(Hit::no_hit());
+        }
+        let op = scene::entry::op_of(m.detail);
+        let a = rows::index(m.first);
+        let b = rows::index(m.second);
+        let c = cut_hit(numbers, inverses, marks, op, a, b, r, depth - 1, 64, 0.0);
+        return by_fields(c);
+    }
+    let h = scene_simple::hit(numbers, i, m.kind, r.origin, r.direction);
+    by_fields(Struck::At(h))
 }
 
 // The hit of a cut, with so many restarts left, for a ray that starts `sum` beyond the first origin.
