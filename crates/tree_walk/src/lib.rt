@@ -62,7 +62,8 @@ pub fn hit_from(
 {
     let a = scene_plain::plain_hit(numbers, inverses, marks, i, o, d);
     match a {
-        Plain::At(h) => Struck::At(h),
+        // by its fields: copied whole, its flag is waited for
+        Plain::At(h) => Struck::At(Hit { t: h.t, ok: h.ok }),
         Plain::Other => scene_shape::entry_hit(numbers, inverses, marks, i, Ray::new(o, d), 8),
     }
 }
