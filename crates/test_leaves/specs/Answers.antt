@@ -17,14 +17,14 @@ unfoldable pub simpleAnswer : Simple → ℕ
 simpleAnswer (Is x) = 0
 simpleAnswer Other = 3
 
-unfoldable pub simpleHit : Simple → Ray → Hit
-simpleHit (Is x) r = hitOf x r
-simpleHit Other r = record { t = zeroF; ok = false }
+unfoldable pub toldHit : Simple → Ray → Hit
+toldHit (Is x) r = hitOf x r
+toldHit Other r = record { t = zeroF; ok = false }
 
 unfoldable pub simpleBox : Simple → BBox
 simpleBox (Is x) = solidBox x
 simpleBox Other = boxOf (vec zeroF zeroF zeroF) (vec zeroF zeroF zeroF)
 
-unfoldable pub simpleContains : Simple → Vector → Float → Bool
-simpleContains (Is x) p f = containsOf x p f
-simpleContains Other p f = false
+unfoldable pub toldContains : Simple → Vector → Float → Bool
+toldContains (Is x) p f = containsOf x p f
+toldContains Other p f = false

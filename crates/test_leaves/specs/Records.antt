@@ -16,7 +16,7 @@ use Rattle.scene.specs.Entries.{matrixOf, matrixNumbers}
 use Rattle.test_words.specs.Words.{wordAt, floatAt, pointAt, rayAt, sameBits, allSame, flagOf, signedWord}
 use Rattle.test_words.specs.Counts.{wrongUpto}
 use Rattle.test_leaves.specs.Inputs.{boxFrom, numbersFrom, solidFrom}
-use Rattle.test_leaves.specs.Answers.{simpleAnswer, simpleHit, simpleBox, simpleContains}
+use Rattle.test_leaves.specs.Answers.{simpleAnswer, toldHit, simpleBox, toldContains}
 
 -- for each call, whether the answers of the record that starts at word k are right
 unfoldable pub boxTestRight : List ℕ → ℕ → Bool
@@ -36,7 +36,7 @@ inverseRight s k =
 unfoldable pub hitRight : List ℕ → ℕ → Bool
 hitRight s k =
     let x = solidFrom s (k + 1) in
-    let h = simpleHit x (rayAt s (k + 18)) in
+    let h = toldHit x (rayAt s (k + 18)) in
     eqb (wordAt s (k + 24)) (simpleAnswer x) && (sameBits (h .t) (wordAt s (k + 25)) && eqb (wordAt s (k + 26)) (flagOf (h .ok)))
 
 unfoldable pub boxRight : List ℕ → ℕ → Bool
@@ -47,7 +47,7 @@ boxRight s k =
 unfoldable pub containsRight : List ℕ → ℕ → Bool
 containsRight s k =
     let x = solidFrom s (k + 1) in
-    eqb (wordAt s (k + 24)) (simpleAnswer x) && eqb (wordAt s (k + 25)) (flagOf (simpleContains x (pointAt s (k + 18)) (floatAt s (k + 21))))
+    eqb (wordAt s (k + 24)) (simpleAnswer x) && eqb (wordAt s (k + 25)) (flagOf (toldContains x (pointAt s (k + 18)) (floatAt s (k + 21))))
 
 -- a root and its remainder
 unfoldable pub rootedRight : Float → ℤ → List ℕ → ℕ → Bool

@@ -4,7 +4,7 @@ ghost use mathlib.Core.Path.{_≡_};
 ghost use Prim.Native.Nat.{_+_, _*_, _≤_};
 ghost use lib.ListN.{length};
 ghost use Rattle.test_leaves.specs.Inputs.{boxFrom, numbersFrom, solidFrom};
-ghost use Rattle.test_leaves.specs.Answers.{simpleAnswer, simpleHit, simpleBox, simpleContains};
+ghost use Rattle.test_leaves.specs.Answers.{simpleAnswer, toldHit, simpleBox, toldContains};
 ghost use Rattle.test_leaves.specs.Records.{boxTestRight, projectionRight, inverseRight, hitRight, boxRight, containsRight, rootedRight, lengthRight, distanceRight, callRight, wrongCalls};
 use geometry::bounding_box::BBox;
 use geometry::hit::Hit;
@@ -53,7 +53,7 @@ fn simple_answer(x: Simple) -> u64
 }
 
 fn simple_hit(x: Simple, r: Ray) -> Hit
-    ensures { λ h. ⌜ h ≡ simpleHit x r ⌝ }
+    ensures { λ h. ⌜ h ≡ toldHit x r ⌝ }
 {
     match x {
         Simple::Is(y) => y.intersect(r),
@@ -82,7 +82,7 @@ fn simple_box(x: Simple) -> BBox
 }
 
 fn simple_contains(x: Simple, p: Vector, f: f64) -> bool
-    ensures { λ r. ⌜ r ≡ simpleContains x p f ⌝ }
+    ensures { λ r. ⌜ r ≡ toldContains x p f ⌝ }
 {
     match x {
         Simple::Is(y) => y.contains(p, f),

@@ -97,10 +97,6 @@ leaf-sound c s (leaf o a is) N L = subst Sound (L .0) N
 leaf-sound c s (split o a x y) N (inl L) = leaf-sound c s x (N .one) L
 leaf-sound c s (split o a x y) N (inr L) = leaf-sound c s y (N .two) L
 
-tree-sound : (x : Tree ℕ) → Nests x → Sound (treeBox x)
-tree-sound (leaf o a is) N = N
-tree-sound (split o a x y) N = N .sound
-
 -- ---- a leaf that passes, is entered before the distance and holds an entry that falls short of it
 module _ (hit : ℕ → Struck) (r : Ray) (u : Usable r) (c : BBox) (p : T (passes (boxTest c r))) (distance : Float) (e : T (lt (boxTest c r .tmin) distance))
     (s : ℕ) (d : Hit) (D : hit s ≡ At d) (short : T (lt (d .t) distance)) where
