@@ -654,6 +654,16 @@ impl Yard<'_> {
         self.place(tube, m);
     }
 
+    /// A block less one that stands in it and out of it at the top.
+    fn open_block(&mut self, at: Point) {
+        let whole = self.block(at, 1);
+        let end: Point = std::array::from_fn(|k| self.scene.numbers_of(whole as usize)[3 + k]);
+        let within = |share: Point| std::array::from_fn(|k| at[k] + share[k] * (end[k] - at[k]));
+        let (low, high): (Point, Point) = (within([0.2, 0.2, 0.3]), within([0.8, 0.8, 1.5]));
+        let hole = self.scene.push([4, 1, 0, 0], &[low, high].concat());
+        self.scene.push([7, 1, whole, hole], &[]);
+    }
+
     /// Something cut open, about the origin; seldom cut twice.
     fn opened(&mut self) -> u32 {
         let a = match self.rng.below(5) {
@@ -694,9 +704,18 @@ impl Yard<'_> {
 /// A yard of this many solids, most of them placed as far as the entries go, and a view of all of it on a
 /// sheet of 1,000 by 1,000.
 pub fn ordinary(rng: &mut Rng, n: usize, step: f64) -> (Scene, View) {
+    seen_whole(rng, n, 0, step)
+}
+
+/// The same, with one solid in `one_in` a block that is cut open from above.
+pub fn cut_open(rng: &mut Rng, n: usize, one_in: usize, step: f64) -> (Scene, View) {
+    seen_whole(rng, n, one_in, step)
+}
+
+fn seen_whole(rng: &mut Rng, n: usize, one_in: usize, step: f64) -> (Scene, View) {
     let placed = (3 * n / 4).min(1024 - n);
     let scene = loop {
-        let scene = full_yard(rng, n, placed);
+        let scene = full_yard(rng, n, placed, one_in);
         if oracle::check(&scene).is_ok() {
             break scene;
         }
@@ -706,11 +725,15 @@ pub fn ordinary(rng: &mut Rng, n: usize, step: f64) -> (Scene, View) {
     (scene, View { matrix, eye, width: 1000.0, height: 1000.0, step })
 }
 
-fn full_yard(rng: &mut Rng, n: usize, placed: usize) -> Scene {
+fn full_yard(rng: &mut Rng, n: usize, placed: usize, one_in: usize) -> Scene {
     let mut yard = Yard { rng, scale: 1.0, scene: Scene::default(), ours: false };
     for k in 0..n {
         let at = inputs::place(yard.rng, Grain::Any);
         let at = [at[0], at[1], at[2].abs() / 5.0];
+        if one_in > 0 && k % one_in == 0 {
+            yard.open_block(at);
+            continue;
+        }
         if k >= placed {
             yard.block(at, 1);
             continue;

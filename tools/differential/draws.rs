@@ -429,7 +429,16 @@ fn compare_one(
 pub fn speed() {
     for n in [100, 500, 1000] {
         for step in [0.0, 4.0, 1.0] {
-            time_draw(n, step, if step == 0.0 { 100 } else { 12 });
+            let (scene, view) = draw_inputs::ordinary(&mut Rng::new(1), n, step);
+            time_draw(&format!("draw ({n}, {step})"), &scene, &view, if step == 0.0 { 100 } else { 12 });
+        }
+    }
+    for one_in in [10, 4] {
+        for n in [20, 100, 300] {
+            for step in [0.0, 4.0, 1.0] {
+                let (scene, view) = draw_inputs::cut_open(&mut Rng::new(1), n, one_in, step);
+                time_draw(&format!("cut 1 in {one_in} ({n}, {step})"), &scene, &view, 12);
+            }
         }
     }
 }
@@ -438,33 +447,33 @@ pub fn speed() {
 pub fn growth() {
     for n in [10, 100, 1000] {
         for step in [4.0, 1.0, 0.25] {
-            time_draw(n, step, if step < 1.0 { 5 } else { 12 });
+            let (scene, view) = draw_inputs::ordinary(&mut Rng::new(1), n, step);
+            time_draw(&format!("draw ({n}, {step})"), &scene, &view, if step < 1.0 { 5 } else { 12 });
         }
     }
 }
 
 /// The Rust draws shapes that stand already, then makes them too; the core checks the scene first, and
 /// forms inverses and boxes. Its slices are exactly full.
-fn time_draw(n: usize, step: f64, rounds: usize) {
-    let (scene, view) = draw_inputs::ordinary(&mut Rng::new(1), n, step);
-    let (drawn, used) = draw_measured(&scene, &view, FINE, oracle::Room::ENDLESS);
+fn time_draw(name: &str, scene: &Scene, view: &View, rounds: usize) {
+    let (drawn, used) = draw_measured(scene, view, FINE, oracle::Room::ENDLESS);
     let drawn = drawn.unwrap_or_else(|trouble| panic!("{trouble:?}"));
-    let entries = plain::entries(&scene);
+    let entries = plain::entries(scene);
     let lengths = draw_inputs::exactly(&used);
     let lent = RefCell::new(Lent::new(&lengths));
-    let numbers = view_numbers(&view);
+    let numbers = view_numbers(view);
     let standing = || {
-        black_box(plain::draw(black_box(&entries), black_box(&view), FINE));
+        black_box(plain::draw(black_box(&entries), black_box(view), FINE));
     };
     let made = || {
-        let entries = plain::entries(black_box(&scene));
-        black_box(plain::draw(&entries, black_box(&view), FINE));
+        let entries = plain::entries(black_box(scene));
+        black_box(plain::draw(&entries, black_box(view), FINE));
     };
     let core = || {
-        let number = core_draw(black_box(&scene), &numbers, Some(FINE), &mut lent.borrow_mut());
+        let number = core_draw(black_box(scene), &numbers, Some(FINE), &mut lent.borrow_mut());
         assert_eq!(black_box(number), 0);
     };
-    time_rounds(&format!("draw ({n}, {step})"), 1, rounds, standing, core);
+    time_rounds(name, 1, rounds, standing, core);
     time_rounds("..and shapes", 1, rounds, made, core);
     println!(
         "({} points chopped, {} drawn in {} paths)",
