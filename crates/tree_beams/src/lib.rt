@@ -1,4 +1,5 @@
-// Boxes that a ray misses, shown by products with bounds on the reciprocals of its direction, in place of the six divisions of the box test.
+// Boxes that a ray misses, shown by products with bounds on the reciprocals of its direction, in place of the six
+// divisions of the box test.
 ghost use mathlib.Core.Path.{_≡_};
 ghost use mathlib.Core.Logic.{_⊎_};
 ghost use mathlib.Core.Bool.{true, not};
@@ -14,7 +15,8 @@ ghost use Rattle.rows.specs.Points.{boxOfRow};
 ghost use Rattle.tree_beams.specs.Beams.{Shown, Bounded, Aimed};
 use geometry::ray::Ray;
 
-// Bounds on 1 / d: `low` is nearer to 0, `high` farther. The nearer plane of a slab stands at `near` in a box's row, 0 or 3 places on.
+// Bounds on 1 / d: `low` is nearer to 0, `high` farther. The nearer plane of a slab stands at `near` in a box's
+// row, 0 or 3 places on.
 pub struct Bounds {
     pub low: f64,
     pub high: f64,
@@ -48,7 +50,8 @@ fn shown(d: f64, low: f64, high: f64) -> bool
     false
 }
 
-// Bounds on 1 / d, sure where products show them. That they are is tested and not proved, so nothing is said of the quotient and of the factors.
+// Bounds on 1 / d, sure where products show them. That they are is tested and not proved, so nothing is said of
+// the quotient and of the factors.
 fn bound(d: f64) -> Bounds
     ensures { λ r. ⌜ (r .sure ≡ true → Bounded d r) ⌝ }
 {

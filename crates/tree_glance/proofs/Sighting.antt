@@ -29,7 +29,7 @@ use Rattle.tree_walk.specs.declared.Found.{Found}
 use Rattle.tree_walk.specs.Walks.{walkRows}
 use Rattle.tree_sight.specs.Sights.{eyeRay, sees}
 use Rattle.tree_sight.specs.declared.Sight.{Sight}
-use Rattle.tree_sight.specs.declared.Sight.the-variants.{Visible as Seen, Hidden as NotSeen}
+use Rattle.tree_sight.specs.declared.Sight.the-variants.{Visible as InSight, Hidden as OutOfSight}
 use Rattle.tree_sight.proofs.Answers.{short-hidden, reaching-visible}
 use Rattle.tree_trust.specs.Trust.{wholeTree, Trusted}
 use Rattle.tree_glance.specs.declared.Glance.{Glance}
@@ -68,11 +68,11 @@ module _ (eye point v : Vector) (d : Float) (ev : v ≡ subV eye point) (ed : d 
       apart : T (not (eq (distanceOf eye point) zeroF))
       apart = subst (λ (x : Float). T (not (eq x zeroF))) length-is (subst (λ (k : Bool). T (not k)) (sym far) tt)
 
-      pub told-hidden : Tells Hidden (f (b .ray)) d → sees f eye point ≡ NotSeen
+      pub told-hidden : Tells Hidden (f (b .ray)) d → sees f eye point ≡ OutOfSight
       told-hidden t =
           short-hidden f eye point apart (t .0) (ap f (sym ray-is) ∙ t .1) (subst (λ (x : Float). T (lt (t .0 .hit .t) x)) length-is (t .2))
 
-      pub told-visible : Tells Visible (f (b .ray)) d → sees f eye point ≡ Seen
+      pub told-visible : Tells Visible (f (b .ray)) d → sees f eye point ≡ InSight
       told-visible t =
           reaching-visible f eye point (t .0) (ap f (sym ray-is) ∙ t .1) (subst (λ (x : Float). T (le x (t .0 .hit .t))) length-is (t .2))
 
@@ -121,10 +121,10 @@ kept-none boxes links order cover stack K = record {
 
 -- ---- what the glance at the eye test says
 module _ (a : Glance) (s : Sight) (S : SeenAs a s) where
-  pub as-hidden : a ≡ Hidden → NotSeen ≡ s
+  pub as-hidden : a ≡ Hidden → OutOfSight ≡ s
   as-hidden e = sym (subst (λ (x : Glance). SeenAs x s) e S)
 
-  pub as-visible : a ≡ Visible → Seen ≡ s
+  pub as-visible : a ≡ Visible → InSight ≡ s
   as-visible e = sym (subst (λ (x : Glance). SeenAs x s) e S)
 
 pub seen-as : (g h : Glance) (s : Sight) → g ≡ h → SeenAs g s → SeenAs h s

@@ -28,7 +28,7 @@ use Rattle.tree_walk.specs.declared.Nearest.{Nearest}
 use Rattle.tree_walk.specs.declared.Found.{Found}
 use Rattle.tree_walk.specs.declared.Found.the-variants.{Best}
 use Rattle.tree_sight.specs.declared.Sight.{Sight}
-use Rattle.tree_sight.specs.declared.Sight.the-variants.{Visible as Seen, Hidden as NotSeen}
+use Rattle.tree_sight.specs.declared.Sight.the-variants.{Visible as InSight, Hidden as OutOfSight}
 use Rattle.tree_glance.specs.declared.Glance.{Glance}
 use Rattle.tree_glance.specs.declared.Glance.the-variants.{Hidden, Visible, Unsure}
 use Rattle.tree_glance.specs.declared.Spotted.{Spotted}
@@ -114,6 +114,6 @@ endedOf hid = cond hid Hidden Visible
 
 -- what a glance says of the eye test
 abbrev pub SeenAs : Glance → Sight → Type 0
-SeenAs Hidden s = s ≡ NotSeen
-SeenAs Visible s = s ≡ Seen
+SeenAs Hidden s = s ≡ OutOfSight
+SeenAs Visible s = s ≡ InSight
 SeenAs Unsure s = Unit

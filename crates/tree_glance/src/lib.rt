@@ -1,5 +1,6 @@
-// The eye test by a glance: a walk that leaves out what cannot change its answer. It tells a box that the ray misses by products, stops at the first solid that falls short where no refusal
-// can follow, and tries the solid that hid the last point first. Where it is not sure, the full walk answers.
+// The eye test by a glance: a walk that leaves out what cannot change its answer. It tells a box that the ray
+// misses by products, stops at the first solid that falls short where no refusal can follow, and tries the solid
+// that hid the last point first. Where it is not sure, the full walk answers.
 ghost use mathlib.Core.Path.{_≡_};
 ghost use mathlib.Core.Logic.{_⊎_};
 ghost use mathlib.Core.Bool.{true, false};
@@ -51,7 +52,8 @@ fn judged(i: u32, a: Struck, distance: f64, found: Spotted) -> Spotted
     }
 }
 
-// The entries of a leaf in order, as many as are there: up to the first that falls short where every solid answers, else all of them.
+// The entries of a leaf in order, as many as are there: up to the first that falls short where every solid
+// answers, else all of them.
 fn spot(
     numbers: &[f64],
     inverses: &[f64],
@@ -172,8 +174,9 @@ fn ended(hid: bool) -> Glance
     Glance::Visible
 }
 
-// The walk: both children of a split are tested at once, the nearer one is gone to, the other waits. A solid that falls short ends it where every solid answers (`calm`); else each leaf that
-// the full walk may come to is looked at, so that no refusal is passed over.
+// The walk: both children of a split are tested at once, the nearer one is gone to, the other waits. A solid that
+// falls short ends it where every solid answers (`calm`); else each leaf that the full walk may come to is looked
+// at, so that no refusal is passed over.
 pub fn look(
     numbers: &[f64],
     inverses: &[f64],
@@ -299,7 +302,8 @@ fn covered(
     }
 }
 
-// The eye test by a glance, on a tree that is to be trusted. A point that is seen forgets what hid the one before it: the next is likely to be seen too.
+// The eye test by a glance, on a tree that is to be trusted. A point that is seen forgets what hid the one before
+// it: the next is likely to be seen too.
 fn glimpse(
     numbers: &[f64],
     inverses: &[f64],

@@ -1,4 +1,5 @@
-// Which trees a walk may leave something out of: those that are shallow, and whose boxes lie in one another. It is looked up in the slices, so that nothing is asked of who filled them.
+// Which trees a walk may leave something out of: those that are shallow, and whose boxes lie in one another. It is
+// looked up in the slices, so that nothing is asked of who filled them.
 ghost use mathlib.Core.Path.{_≡_};
 ghost use mathlib.Core.Bool.{true};
 ghost use mathlib.Core.List.{List};
