@@ -433,9 +433,10 @@ pub fn speed() {
             time_draw(&format!("draw ({n}, {step})"), &scene, &view, if step == 0.0 { 100 } else { 12 });
         }
     }
+    // at step 0 a cut's lines are chopped to millions of points, which takes seconds on either side
     for one_in in [10, 4] {
         for n in [20, 100, 300] {
-            for step in [0.0, 4.0, 1.0] {
+            for step in [4.0, 1.0] {
                 let (scene, view) = draw_inputs::cut_open(&mut Rng::new(1), n, one_in, step);
                 time_draw(&format!("cut 1 in {one_in} ({n}, {step})"), &scene, &view, 12);
             }
