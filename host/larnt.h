@@ -7,7 +7,7 @@
    198 KB, and 512 bytes for each level of the tree, at most 1,023 levels, so 740 KB at most.
    larnt_own_hit, larnt_own_contains, larnt_intersect, larnt_visible, larnt_occluder, larnt_covered and
    larnt_covered_all need about 200 KB, larnt_check 10 KB.
-   larnt_chop needs 25 KB, larnt_outline 13 KB and larnt_simplify 4 KB, however long the paths are. larnt_preview,
+   larnt_chop and larnt_simplify need 4 KB and larnt_outline 13 KB, however long the paths are. larnt_preview,
    larnt_merge, larnt_write and larnt_canonical were not measured: the first works as larnt_draw_with does, the others
    have the local arrays of a check, about 200 KB, and larnt_canonical those of a yard's text besides. */
 #ifndef LARNT_H

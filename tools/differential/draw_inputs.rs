@@ -279,6 +279,7 @@ pub fn scene_and_view(rng: &mut Rng) -> (Scene, View) {
             (scene, view)
         }
         96 => restarts(rng),
+        97 => at_zeros(rng),
         _ => {
             let scene = yard(rng, 1.0, 2);
             let mut view = view(rng, &scene);
@@ -433,6 +434,47 @@ fn restarts(rng: &mut Rng) -> (Scene, View) {
         step: rng.pick(&[100.0, 200.0, 500.0]),
     };
     (scene, view)
+}
+
+/// Blocks, whole, placed or cut, with corners on the planes of the axes, and an eye on some of these: directions
+/// with a component 0, zeros of either sign, and planes through the eye.
+fn at_zeros(rng: &mut Rng) -> (Scene, View) {
+    let zero = |rng: &mut Rng| rng.pick(&[0.0, -0.0]);
+    let mut scene = Scene::default();
+    let block = |rng: &mut Rng, scene: &mut Scene| {
+        let ends: [[f64; 2]; 3] = std::array::from_fn(|_| {
+            let (near, far) = (zero(rng), rng.pick(&[1.0, 2.0, 3.5]));
+            match rng.below(3) {
+                0 => [near, far],
+                1 => [-far, near],
+                _ => [far - 3.0, far],
+            }
+        });
+        scene.push([4, 1, 0, 0], &[ends.map(|e| e[0]), ends.map(|e| e[1])].concat())
+    };
+    for _ in 0..rng.pick(&[1, 2, 3, 6, 12]) {
+        let a = block(rng, &mut scene);
+        match rng.below(10) {
+            0..3 => {
+                let to = std::array::from_fn(|_| zero(rng));
+                scene.push([6, 0, a, 0], &moved(IDENTITY, to));
+            }
+            3..6 => {
+                let b = block(rng, &mut scene);
+                let operation = rng.below(4) as u32;
+                scene.push([7, operation, a, b], &[]);
+            }
+            _ => {}
+        }
+    }
+    let eye = std::array::from_fn(|_| match rng.below(3) {
+        0 => zero(rng),
+        1 => rng.pick(&[-6.0, 5.0, 9.0]),
+        _ => rng.between(-9.0, 9.0),
+    });
+    let matrix = camera(eye, [0.1, 0.0, 0.0], 0.7, 1.0, [0.1, 100.0]);
+    let step = rng.pick(&[20.0, 100.0, 250.0]);
+    (scene, View { matrix, eye, width: 1000.0, height: 1000.0, step })
 }
 
 // Yards.

@@ -438,7 +438,8 @@ pub fn speed() {
         for n in [20, 100, 300] {
             for step in [4.0, 1.0] {
                 let (scene, view) = draw_inputs::cut_open(&mut Rng::new(1), n, one_in, step);
-                time_draw(&format!("cut 1 in {one_in} ({n}, {step})"), &scene, &view, 12);
+                let rounds = if n < 100 { 200 } else { 20 };
+                time_draw(&format!("cut 1 in {one_in} ({n}, {step})"), &scene, &view, rounds);
             }
         }
     }
@@ -449,7 +450,12 @@ pub fn growth() {
     for n in [10, 100, 1000] {
         for step in [4.0, 1.0, 0.25] {
             let (scene, view) = draw_inputs::ordinary(&mut Rng::new(1), n, step);
-            time_draw(&format!("draw ({n}, {step})"), &scene, &view, if step < 1.0 { 5 } else { 12 });
+            let rounds = match n {
+                10 => 300,
+                100 => 30,
+                _ => 8,
+            };
+            time_draw(&format!("draw ({n}, {step})"), &scene, &view, rounds);
         }
     }
 }

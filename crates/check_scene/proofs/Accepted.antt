@@ -32,6 +32,13 @@ pub left-is : {A : Type 0} (z : A) {v : Verdict} (n : ℕ) → v ≡ Accepted n 
 unfolding ifAccepted
 left-is z n is L xs left = left ∙ rw is
 
+-- what is left of a list has all of it
+pub padded-room : {A : Type 0} (z : A) (L : ℕ) (xs : List A) {ys : List A} → ys ≡ padded z L xs → length xs ≤ length ys
+unfolding padded
+padded-room z L xs {ys} left =
+    let e : length ys ≡ length xs + length (replicate (L - length xs) z) = ap length left ∙ length-append xs (replicate (L - length xs) z) in
+    omega (arith, e)
+
 -- rows of a list of values, and then zeros, are read as those values
 module _ {A B : Type 0} (k : ℕ) (f : List A → B) (g : B → List A) (wide : (b : B) → length (g b) ≡ k) (back : (b : B) → f (g b) ≡ b)
     (z : A) (L : ℕ) (h : ℕ → B) (n : ℕ) {xs : List A} (left : xs ≡ padded z L (flat g (listTo h n))) where
@@ -43,12 +50,9 @@ module _ {A B : Type 0} (k : ℕ) (f : List A → B) (g : B → List A) (wide : 
       ∙ view-flat k f g wide back (listTo h n) (replicate (L - length (flat g (listTo h n))) z)
 
   long-enough : n * k ≤ length xs
-  unfolding padded
   long-enough =
-      let e : length xs ≡ length (flat g (listTo h n)) + length (replicate (L - length (flat g (listTo h n))) z) =
-      ap length left ∙ length-append (flat g (listTo h n)) (replicate (L - length (flat g (listTo h n))) z) in
       let w : length (flat g (listTo h n)) ≡ n * k = length-flat k f g wide (listTo h n) ∙ ap (λ (m : ℕ). m * k) (length-to h n) in
-      omega (arith, e, w)
+      omega (arith, padded-room z L (flat g (listTo h n)) left, w)
 
 module _ (s : Scene) (n : ℕ) (is : checkOf s ≡ Accepted n) where
   agrees : (t : Bool) → lengthsAgree s ≡ t → t ≡ true
@@ -75,8 +79,13 @@ module _ (s : Scene) (n : ℕ) (is : checkOf s ≡ Accepted n) where
     pub own-solid : (i : ℕ) → decode 8 (s .numbers) vs (s .marks) i ≡ solidOf (s .numbers) (s .marks) i
     own-solid i = stored-solid (s .numbers) vs (s .marks) (omega (arith, accepted-numbers)) room held 8 i
 
-  -- the box that is left of entry i is its own
+  -- the boxes that are left
   module _ (L : ℕ) (bs : List Float) (left : bs ≡ padded zeroF L (boxesOf s)) where
+    -- each entry has its places
+    pub box-room : entriesOf s * 6 ≤ length bs
+    box-room = long-enough 6 boxOfRow boxRow (λ b. refl) (λ b. refl) zeroF L (ownBox (s .numbers) (s .marks)) (entriesOf s) left
+
+    -- and the box of entry i is its own
     pub own-box : (i : ℕ) → i < entriesOf s → boxOfRow (row 6 i bs) ≡ ownBox (s .numbers) (s .marks) i
     own-box i h =
         sym (getD-view 6 boxOfRow (entriesOf s) i bs zeroBox h)

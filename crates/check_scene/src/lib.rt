@@ -7,7 +7,7 @@ ghost use Prim.Native.Nat.{ℕ, _≤_};
 ghost use lib.ListN.{length};
 ghost use Rattle.check_scene.specs.Checks.{lengthsAgree, checkOf, Checked};
 ghost use Rattle.scene.specs.Scenes.{sceneOf};
-ghost use Rattle.check_scene.specs.Stored.{Held};
+ghost use Rattle.check_scene.specs.Stored.{Held, RoomFor};
 use refusals::Refusal;
 
 // A scene is accepted, with so many drawn entries, or refused.
@@ -52,7 +52,7 @@ fn judge(
     boxes: &mut [f64],
     drawn: &mut [u32],
 ) -> Verdict
-    requires { ⌜ (16384 ≤ length (now inverses)) × ((6144 ≤ length (now boxes)) × (1024 ≤ length (now drawn))) ⌝ }
+    requires { ⌜ RoomFor (now marks) (now inverses) (now boxes) (now drawn) ⌝ }
     ensures { λ r. ⌜ r ≡ checkOf (sceneOf (now (numbers .entry)) (now (marks .entry)) (now (points .entry)) (now (starts .entry)) (now (owners .entry))) ⌝ }
     ensures { λ r. ⌜ ((n : ℕ) → r ≡ Verdict.Accepted n → Held (sceneOf (now (numbers .entry)) (now (marks .entry)) (now (points .entry)) (now (starts .entry)) (now (owners .entry))) n (now (inverses .exit)) (now (boxes .exit)) (now (drawn .exit))) ⌝ }
 {
@@ -89,7 +89,8 @@ fn judge(
 
 // Judges a scene by numbers 2, 3, 14 and 4 to 7. Of an accepted one the slices hold the inverses (zeros for what is
 // no placing), the boxes of all entries and the drawn entries, then zeros; else zeros throughout.
-pub fn check(
+// The slices need places for the entries that there are.
+pub fn check_in(
     numbers: &[f64],
     marks: &[u32],
     points: &[f64],
@@ -99,7 +100,7 @@ pub fn check(
     boxes: &mut [f64],
     drawn: &mut [u32],
 ) -> Verdict
-    requires { ⌜ (16384 ≤ length (now inverses)) × ((6144 ≤ length (now boxes)) × (1024 ≤ length (now drawn))) ⌝ }
+    requires { ⌜ RoomFor (now marks) (now inverses) (now boxes) (now drawn) ⌝ }
     ensures { λ r. ⌜ Checked (sceneOf (now (numbers .entry)) (now (marks .entry)) (now (points .entry)) (now (starts .entry)) (now (owners .entry))) (now (inverses .entry)) (now (boxes .entry)) (now (drawn .entry)) r (now (inverses .exit)) (now (boxes .exit)) (now (drawn .exit)) ⌝ }
 {
     let v = judge(
@@ -127,4 +128,30 @@ pub fn check(
             Verdict::Accepted(d)
         }
     }
+}
+
+// The same in slices with places for 1,024 entries.
+pub fn check(
+    numbers: &[f64],
+    marks: &[u32],
+    points: &[f64],
+    starts: &[usize],
+    owners: &[u32],
+    inverses: &mut [f64],
+    boxes: &mut [f64],
+    drawn: &mut [u32],
+) -> Verdict
+    requires { ⌜ (16384 ≤ length (now inverses)) × ((6144 ≤ length (now boxes)) × (1024 ≤ length (now drawn))) ⌝ }
+    ensures { λ r. ⌜ Checked (sceneOf (now (numbers .entry)) (now (marks .entry)) (now (points .entry)) (now (starts .entry)) (now (owners .entry))) (now (inverses .entry)) (now (boxes .entry)) (now (drawn .entry)) r (now (inverses .exit)) (now (boxes .exit)) (now (drawn .exit)) ⌝ }
+{
+    check_in(
+        numbers,
+        marks,
+        points,
+        starts,
+        owners,
+        inverses,
+        boxes,
+        drawn,
+    )
 }

@@ -3,10 +3,12 @@ use Prim.Native.Nat.{ℕ, _≤_}
 use mathlib.Core.Path.{_≡_, refl, sym, ap, ap₂, subst, fun-ext, _∙_}
 use mathlib.Core.List.{List, [], _∷_}
 use mathlib.Core.Bool.{_&&_, cond}
+use native.Mathlib.Omega.{arith}
 use lib.ListN.{length, take}
 use lib.Dec.{leb}
 use lib.Ieee.{Float}
 use Rattle.floats.specs.Arith.{zeroF}
+use Rattle.geometry.specs.Limits.{Sound}
 use Rattle.geometry.specs.declared.ray.Ray.{Ray}
 use Rattle.geometry.specs.declared.bounding_box.BBox.{BBox}
 use Rattle.rows.specs.Rows.{padded}
@@ -28,11 +30,12 @@ use Rattle.check_parts.specs.Drawn.{drawn}
 use Rattle.check_scene.specs.Extents.{ownBox}
 use Rattle.check_scene.specs.Checks.{checkOf, inversesOf, boxesOf}
 use Rattle.check_scene.specs.declared.Verdict.the-variants.{Accepted}
-use Rattle.check_scene.proofs.Accepted.{own-entry, own-box}
+use Rattle.check_scene.proofs.Accepted.{accepted-few, own-entry, box-room, own-box}
+use Rattle.check_sound.proofs.Sound.{accepted-sound}
 use Rattle.query_scene.specs.Queries.{plantedOf}
 use Rattle.query_scene.specs.declared.Built.{Built}
 use Rattle.query_scene.specs.declared.Built.the-variants.{Nodes, Refused as NotBuilt}
-use Rattle.query_scene.proofs.Plants.{each-unnamed, accepted-many, accepted-fits}
+use Rattle.query_scene.proofs.Plants.{each-unnamed, accepted-many}
 use Rattle.paths.specs.Answers.{Answer, answered, next}
 use Rattle.paths.specs.Paths.{Paths, noPaths}
 use Rattle.view.specs.Views.{viewport, argsOf}
@@ -109,12 +112,21 @@ module _ (s : Scene) (n : ℕ) (is : checkOf s ≡ Accepted n) where
         (λ i e. e ∙ sym (ap shapeBox (bare-read (ownEntry (s .numbers) (s .marks)) (ownLines (s .marks) (s .points) (s .starts) (s .owners)) 8 i)))
         (drawn (s .marks)) own-boxes
 
+    boxes-fit : Each (Fits bs) (drawn (s .marks))
+    boxes-fit =
+        each-unnamed (Fits bs) (namedBefore (s .marks) (entriesOf s)) (entriesOf s)
+        (λ i h. record {
+          there = omega (arith, box-room s n is L bs left);
+          low = omega (arith, accepted-few s n is);
+          sound = subst Sound (sym (own-box s n is L bs left i h)) (accepted-sound s n is i h);
+        })
+
     -- so many solids are listed, each with its box
-    pub accepted-listed : 6144 ≤ length bs → (ds : List ℕ) → n ≤ length ds → take n ds ≡ drawn (s .marks) → Listed bs ds n
-    accepted-listed long ds upto listed = record {
+    pub accepted-listed : (ds : List ℕ) → n ≤ length ds → take n ds ≡ drawn (s .marks) → Listed bs ds n
+    accepted-listed ds upto listed = record {
       upto = upto;
       few = accepted-many s n is;
-      boxed = subst (Each (Fits bs)) (sym listed) (accepted-fits s n is bs long L left);
+      boxed = subst (Each (Fits bs)) (sym listed) boxes-fit;
     }
 
   -- what the check leaves is drawn as the scene is

@@ -17,8 +17,8 @@ use Rattle.check_scene.specs.Checks.{checkOf, inversesOf, boxesOf, ifAccepted}
 use Rattle.scene.specs.Scenes.{Scene}
 use Rattle.check_scene.specs.declared.Verdict.{Verdict}
 use Rattle.check_scene.specs.declared.Verdict.the-variants.{Accepted, Refused}
-use Rattle.check_scene.proofs.Accepted.{left-is, own-drawn}
-use Rattle.query_scene.proofs.Plants.{accepted-count, accepted-many}
+use Rattle.check_scene.proofs.Accepted.{left-is, padded-room, own-drawn}
+use Rattle.query_scene.proofs.Plants.{accepted-count}
 use Rattle.paths.specs.Ends.{EndsBoth}
 use Rattle.paths.specs.declared.Counts.{Counts}
 use Rattle.paths.specs.declared.Counts.the-variants.{Refused as NotBoth}
@@ -63,8 +63,13 @@ module _ (t : Float) (s : Scene) (d : Verdict) (judged : d ≡ checkOf s) (v : V
       listed : take n ds ≡ drawn (s .marks)
       listed = own-drawn s n is O ds (left-is 0 n h O (drawn (s .marks)) ld) (accepted-count s n is)
 
+      pub scene-lists : Listed bs ds n
+      scene-lists =
+          let left = left-is 0 n h O (drawn (s .marks)) ld in
+          accepted-listed s n is M bs (left-is zeroF n h M (boxesOf s) lb) ds (omega (arith, accepted-count s n is, padded-room 0 O (drawn (s .marks)) left)) listed
+
       pub scene-listed : 6144 ≤ length bs → 1024 ≤ length ds → Listed bs ds n
-      scene-listed long room = accepted-listed s n is M bs (left-is zeroF n h M (boxesOf s) lb) long ds (omega (arith, accepted-many s n is)) listed
+      scene-listed long room = scene-lists
 
       pub drawn-as : (L : ℕ) (vs : List Float) → vs ≡ padded zeroF L (ifAccepted d (inversesOf s)) → {b c : Bool} → b ≡ viewOk v → b ≡ true → c ≡ thresholdOk t → c ≡ true
           → drawWith t s v w ≡ rendered t v w (linedAt 8 (s .numbers) vs (s .marks) (s .points) (s .starts) (s .owners)) (boxAt bs) (take n ds)

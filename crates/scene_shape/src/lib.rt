@@ -72,7 +72,7 @@ fn from_first(sum: f64, h: Hit) -> Hit
 }
 
 // What a cut answers for a hit that it accepts.
-fn tell_of(op: Op, sum: f64, h: Hit) -> Hit
+pub fn tell_of(op: Op, sum: f64, h: Hit) -> Hit
     ensures { λ r. ⌜ r ≡ Cuts.tellOf op sum h ⌝ }
 {
     match op {
@@ -84,7 +84,7 @@ fn tell_of(op: Op, sum: f64, h: Hit) -> Hit
 }
 
 // Whether an operation takes the second part away from the first.
-fn takes_away(op: Op) -> bool
+pub fn takes_away(op: Op) -> bool
     ensures { λ r. ⌜ r ≡ Cuts.takesAway op ⌝ }
 {
     match op {

@@ -1,45 +1,62 @@
 -- Where a slab is entered and left, against the products with bounds on 1 / d. Assumes nothing.
-use mathlib.Core.Path.{_≡_, refl, sym, subst, subst₂, ap, ap₂, _∙_}
-use mathlib.Core.Logic.{_⊎_, inl, inr}
-use mathlib.Core.Bool.{Bool, true, false, cond}
-use Prim.Native.Nat.{ℕ}
+use mathlib.Core.Logic.{inl, inr}
+use mathlib.Core.Bool.{Bool, true, false, cond, _||_}
 use lib.Dec.{T}
-use lib.Ieee.{Float, nan, inf, fin, neg, ofBits, lt, le}
+use lib.Ieee.{Float, nan, inf, fin, neg, ofBits, isNan, lt, le}
 use lib.Ieee.Scale.{finite}
-use lib.Ieee.Positive.{positive}
-use Rattle.floats.specs.Arith.{_⊖_, _⊗_, _⊘_, zeroF, oneF}
-use Rattle.floats.specs.Numbers.{within}
-use Rattle.floats.proofs.Order.{le-trans, le-or-gt, le-not-gt, lt→le, le-lt-trans, le-refl, neg-le, finite-number}
-use Rattle.floats.proofs.Rounding.{div-mono, sub-mono, neg-neg}
+use Rattle.floats.specs.Arith.{_⊖_, _⊗_, _⊘_, zeroF}
+use Rattle.floats.specs.Numbers.{within, minOf, maxOf}
+use Rattle.floats.proofs.Order.{le-trans, le-or-gt, le-not-gt, lt→le, le-refl, neg-le, finite-number}
+use Rattle.floats.proofs.Rounding.{div-mono, sub-mono}
 use Rattle.floats.proofs.Bounds.{within-finite, within-sub}
 use Rattle.geometry.specs.declared.bounding_box.Span.{Span}
-use Rattle.geometry.specs.Boxes.{spanOf, ordered, slab}
+use Rattle.geometry.specs.Boxes.{spanOf, ordered}
 use Rattle.tree_behind.proofs.Rejects.{over-ahead}
-use Rattle.tree_beams.specs.Beams.{Shown, Bounded}
+use Rattle.tree_beams.specs.Beams.{Shown}
 use Rattle.tree_beams.specs.declared.Bounds.{Bounds}
 use Rattle.tree_beams.proofs.Products.{quotient-under, quotient-over, product-under, mul-both, div-both}
 
--- what the products e and l say of a span: it is not entered before e and not left after l, where these are above 0
+-- what the products e and l say of a slab's two quotients: neither plane is met before e nor after l, where these are above 0
+pub record Bracketed (a b e l : Float) : Type 0 where
+  pub enters : T (lt zeroF e) → T (le e a) × T (le e b)
+  pub leaves : T (lt zeroF l) → T (le a l) × T (le b l)
+  pub behind : T (le l zeroF) → T (le a zeroF) × T (le b zeroF)
+
+-- and of a span that has one of these at each end
 pub record Told (s : Span) (e l : Float) : Type 0 where
   pub enters : T (lt zeroF e) → T (le e (s .tmin))
   pub leaves : T (lt zeroF l) → T (le (s .tmax) l)
   pub behind : T (le l zeroF) → T (le (s .tmax) zeroF)
 
-both-le : (a b u : Float) → T (le a u) → T (le b u) → T (le (ordered a b .tmax) u)
-unfolding ordered
-both-le a b u h k = go (lt b a)
+told-either : (a b e l : Float) (s t : Bool) → Bracketed a b e l → Told (spanOf (cond s a b) (cond t a b)) e l
+told-either a b e l s t k = record { enters = λ h. enters s (k .enters h); leaves = λ h. leaves l t (k .leaves h); behind = λ h. leaves zeroF t (k .behind h) }
   where
-    go : (t : Bool) → T (le (cond t (spanOf b a) (spanOf a b) .tmax) u)
-    go true = h
-    go false = k
+    enters : (s : Bool) → T (le e a) × T (le e b) → T (le e (cond s a b))
+    enters true h = h .0
+    enters false h = h .1
 
-le-both : (a b u : Float) → T (le u a) → T (le u b) → T (le u (ordered a b .tmin))
+    leaves : (u : Float) (t : Bool) → T (le a u) × T (le b u) → T (le (cond t a b) u)
+    leaves u true h = h .0
+    leaves u false h = h .1
+
+pub told-ordered : (a b e l : Float) → Bracketed a b e l → Told (ordered a b) e l
 unfolding ordered
-le-both a b u h k = go (lt b a)
+told-ordered a b e l k = go (lt b a)
   where
-    go : (t : Bool) → T (le u (cond t (spanOf b a) (spanOf a b) .tmin))
-    go true = k
-    go false = h
+    go : (t : Bool) → Told (cond t (spanOf b a) (spanOf a b)) e l
+    go true = told-either a b e l false true k
+    go false = told-either a b e l true false k
+
+-- by `min` and `max`, as a block has it
+pub told-extremes : (a b e l : Float) → Bracketed a b e l → Told (spanOf (minOf a b) (maxOf a b)) e l
+unfolding minOf maxOf
+told-extremes a b e l k = go (isNan a || lt b a) (isNan a || lt a b)
+  where
+    go : (s t : Bool) → Told (spanOf (cond s b a) (cond t b a)) e l
+    go true true = told-either a b e l false false k
+    go true false = told-either a b e l false true k
+    go false true = told-either a b e l true false k
+    go false false = told-either a b e l true true k
 
 -- n and f are how far the nearer and the farther plane are ahead
 module _ (n f d low high : Float) (n-in : T (finite n)) (f-in : T (finite f)) (fair : T (le n f)) (s : Shown d low high) where
@@ -67,20 +84,18 @@ module _ (n f d low high : Float) (n-in : T (finite n)) (f-in : T (finite f)) (f
     | inr p ↦ over-ahead f d (s .ahead) (lt→le f zeroF p)
   ]
 
-  -- in either order
-  pub told-forward : Told (ordered (n ⊘ d) (f ⊘ d)) (n ⊗ low) (f ⊗ high)
-  told-forward = record {
-    enters = λ h. le-both (n ⊘ d) (f ⊘ d) (n ⊗ low) (entered-after h) (le-trans (n ⊗ low) (n ⊘ d) (f ⊘ d) (entered-after h) nearer);
-    leaves = λ h. both-le (n ⊘ d) (f ⊘ d) (f ⊗ high) (le-trans (n ⊘ d) (f ⊘ d) (f ⊗ high) nearer (left-before h)) (left-before h);
-    behind = λ h. both-le (n ⊘ d) (f ⊘ d) zeroF (le-trans (n ⊘ d) (f ⊘ d) zeroF nearer (left-behind h)) (left-behind h);
+  pub forward : Bracketed (n ⊘ d) (f ⊘ d) (n ⊗ low) (f ⊗ high)
+  forward = record {
+    enters = λ h. (entered-after h, le-trans (n ⊗ low) (n ⊘ d) (f ⊘ d) (entered-after h) nearer);
+    leaves = λ h. (le-trans (n ⊘ d) (f ⊘ d) (f ⊗ high) nearer (left-before h), left-before h);
+    behind = λ h. (le-trans (n ⊘ d) (f ⊘ d) zeroF nearer (left-behind h), left-behind h);
   }
 
-  pub told-backward : Told (ordered (f ⊘ d) (n ⊘ d)) (n ⊗ low) (f ⊗ high)
-  told-backward = record {
-    enters = λ h. le-both (f ⊘ d) (n ⊘ d) (n ⊗ low) (le-trans (n ⊗ low) (n ⊘ d) (f ⊘ d) (entered-after h) nearer) (entered-after h);
-    leaves = λ h. both-le (f ⊘ d) (n ⊘ d) (f ⊗ high) (left-before h) (le-trans (n ⊘ d) (f ⊘ d) (f ⊗ high) nearer (left-before h));
-    behind = λ h. both-le (f ⊘ d) (n ⊘ d) zeroF (left-behind h) (le-trans (n ⊘ d) (f ⊘ d) zeroF nearer (left-behind h));
-  }
+swapped : (a b e l : Float) → Bracketed a b e l → Bracketed b a e l
+swapped a b e l k = record { enters = λ h. swap (k .enters h); leaves = λ h. swap (k .leaves h); behind = λ h. swap (k .behind h) }
+  where
+    swap : {A B : Type 0} → A × B → B × A
+    swap h = (h .1, h .0)
 
 neg-finite : (x : Float) → T (finite x) → T (finite (neg x))
 unfolding neg
@@ -101,12 +116,10 @@ module _ (lo hi o d : Float) (b : Bounds) (lo-in : T (within lo)) (hi-in : T (wi
       let f = within-finite o o-in in
       sub-mono lo hi o o (within-finite lo lo-in) (within-finite hi hi-in) f f fair (le-refl o (finite-number o f))
 
-  pub slab-forward : Shown d (b .low) (b .high) → Told (slab lo hi o d) ((lo ⊖ o) ⊗ b .low) ((hi ⊖ o) ⊗ b .high)
-  unfolding slab
-  slab-forward s = told-forward (lo ⊖ o) (hi ⊖ o) d (b .low) (b .high) lower upper above s
+  pub slab-forward : Shown d (b .low) (b .high) → Bracketed ((lo ⊖ o) ⊘ d) ((hi ⊖ o) ⊘ d) ((lo ⊖ o) ⊗ b .low) ((hi ⊖ o) ⊗ b .high)
+  slab-forward s = forward (lo ⊖ o) (hi ⊖ o) d (b .low) (b .high) lower upper above s
 
-  pub slab-backward : Shown (neg d) (neg (b .low)) (neg (b .high)) → Told (slab lo hi o d) ((hi ⊖ o) ⊗ b .low) ((lo ⊖ o) ⊗ b .high)
-  unfolding slab
+  pub slab-backward : Shown (neg d) (neg (b .low)) (neg (b .high)) → Bracketed ((lo ⊖ o) ⊘ d) ((hi ⊖ o) ⊘ d) ((hi ⊖ o) ⊗ b .low) ((lo ⊖ o) ⊗ b .high)
   slab-backward s =
-      let z = told-backward (neg (hi ⊖ o)) (neg (lo ⊖ o)) (neg d) (neg (b .low)) (neg (b .high)) (neg-finite (hi ⊖ o) upper) (neg-finite (lo ⊖ o) lower) (neg-le (lo ⊖ o) (hi ⊖ o) above) s in
-      rw (div-both (lo ⊖ o) d, div-both (hi ⊖ o) d, mul-both (hi ⊖ o) (b .low), mul-both (lo ⊖ o) (b .high)) at z
+      let z = forward (neg (hi ⊖ o)) (neg (lo ⊖ o)) (neg d) (neg (b .low)) (neg (b .high)) (neg-finite (hi ⊖ o) upper) (neg-finite (lo ⊖ o) lower) (neg-le (lo ⊖ o) (hi ⊖ o) above) s in
+      swapped ((hi ⊖ o) ⊘ d) ((lo ⊖ o) ⊘ d) ((hi ⊖ o) ⊗ b .low) ((lo ⊖ o) ⊗ b .high) (rw (div-both (lo ⊖ o) d, div-both (hi ⊖ o) d, mul-both (hi ⊖ o) (b .low), mul-both (lo ⊖ o) (b .high)) at z)

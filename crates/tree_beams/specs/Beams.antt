@@ -1,11 +1,13 @@
 -- Bounds on the reciprocals of a ray's direction, shown by products.
 use mathlib.Core.Path.{_≡_}
 use mathlib.Core.Logic.{_⊎_}
-use Prim.Native.Nat.{_≤_}
+use mathlib.Core.List.{List}
+use Prim.Native.Nat.{ℕ, _+_, _-_}
+use lib.ListN.{getD}
 use lib.Dec.{T}
-use lib.Ieee.{Float, neg, lt}
+use lib.Ieee.{Float, nan, neg, lt}
 use lib.Ieee.Positive.{positive}
-use Rattle.floats.specs.Arith.{_⊗_, oneF}
+use Rattle.floats.specs.Arith.{_⊖_, _⊗_, oneF}
 use Rattle.geometry.specs.Limits.{Within}
 use Rattle.tree_beams.specs.declared.Bounds.{Bounds}
 use Rattle.tree_beams.specs.declared.Beam.{Beam}
@@ -28,3 +30,13 @@ pub record Aimed (b : Beam) : Type 0 where
   pub x : Bounded (b .ray .direction .x) (b .x)
   pub y : Bounded (b .ray .direction .y) (b .y)
   pub z : Bounded (b .ray .direction .z) (b .z)
+
+-- ---- a slab of a box whose planes stand at k and three places on, by the products: the nearer plane's with the lower bound, the farther one's with the upper bound
+abbrev pub enterAt : List Float → ℕ → Bounds → Float → Float
+enterAt xs k b o = (getD xs (k + b .near) nan ⊖ o) ⊗ b .low
+
+abbrev pub leaveAt : List Float → ℕ → Bounds → Float → Float
+leaveAt xs k b o = (getD xs (k + 3 - b .near) nan ⊖ o) ⊗ b .high
+
+abbrev pub OneOf : Float → Float → Float → Float → Type 0
+OneOf x a b c = (x ≡ a) ⊎ ((x ≡ b) ⊎ (x ≡ c))

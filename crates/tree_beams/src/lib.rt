@@ -12,8 +12,9 @@ ghost use Rattle.geometry.specs.Boxes.{boxTest, passes};
 ghost use Rattle.geometry.specs.Limits.{Sound};
 ghost use Rattle.rows.specs.Rows.{row};
 ghost use Rattle.rows.specs.Points.{boxOfRow};
-ghost use Rattle.tree_beams.specs.Beams.{Shown, Bounded, Aimed};
+ghost use Rattle.tree_beams.specs.Beams.{Shown, Bounded, Aimed, OneOf, enterAt, leaveAt};
 use geometry::ray::Ray;
+use geometry::vector::Vector;
 
 // Bounds on 1 / d: `low` is nearer to 0, `high` farther. The nearer plane of a slab stands at `near` in a box's
 // row, 0 or 3 places on.
@@ -50,12 +51,11 @@ fn shown(d: f64, low: f64, high: f64) -> bool
     false
 }
 
-// Bounds on 1 / d, sure where products show them. That they are is tested and not proved, so nothing is said of
-// the quotient and of the factors.
-fn bound(d: f64) -> Bounds
+// Bounds on 1 / d from a number i next to it, sure where products show them. That they are is tested and not
+// proved, so nothing is asked of i, nor said of the factors.
+fn bound(d: f64, i: f64) -> Bounds
     ensures { λ r. ⌜ (r .sure ≡ true → Bounded d r) ⌝ }
 {
-    let i = 1.0 / d;
     let low = i * 0.9999999999999996;
     let high = i * 1.0000000000000004;
     if 0.0 < d {
@@ -74,12 +74,13 @@ fn bound(d: f64) -> Bounds
     }
 }
 
-pub fn aim(r: Ray) -> Beam
+// A ray of length one along v: 1 / d is next to length / v on each axis, which need not wait for d.
+pub fn aim(r: Ray, v: Vector, length: f64) -> Beam
     ensures { λ b. ⌜ (b .ray ≡ r) × (b .x .sure ≡ true → Bounded (r .direction .x) (b .x)) × (b .y .sure ≡ true → Bounded (r .direction .y) (b .y)) × (b .z .sure ≡ true → Bounded (r .direction .z) (b .z)) ⌝ }
 {
-    let x = bound(r.direction.x);
-    let y = bound(r.direction.y);
-    let z = bound(r.direction.z);
+    let x = bound(r.direction.x, length / v.x);
+    let y = bound(r.direction.y, length / v.y);
+    let z = bound(r.direction.z, length / v.z);
     Beam { ray: r, x, y, z }
 }
 
@@ -130,20 +131,35 @@ fn left(xs: &[f64], at: usize, near: usize, o: f64, high: f64) -> f64
     (xs[at + 3 - near] - o) * high
 }
 
+// Of the box whose numbers stand from `at` on: the product of one of the nearer planes, the greatest if none is a NaN.
+pub fn latest(xs: &[f64], at: usize, b: Beam) -> f64
+    requires { ⌜ (at + 6 ≤ length (now xs)) × Aimed b ⌝ }
+    ensures { λ r. ⌜ OneOf r (enterAt (now (xs .entry)) at (b .x) (b .ray .origin .x)) (enterAt (now (xs .entry)) (at + 1) (b .y) (b .ray .origin .y)) (enterAt (now (xs .entry)) (at + 2) (b .z) (b .ray .origin .z)) ⌝ }
+{
+    let x = entered(xs, at, b.x.near, b.ray.origin.x, b.x.low);
+    let y = entered(xs, at + 1, b.y.near, b.ray.origin.y, b.y.low);
+    let z = entered(xs, at + 2, b.z.near, b.ray.origin.z, b.z.low);
+    greater(greater(x, y), z)
+}
+
+// The product of one of its farther planes, the least if none is a NaN.
+pub fn soonest(xs: &[f64], at: usize, b: Beam) -> f64
+    requires { ⌜ (at + 6 ≤ length (now xs)) × Aimed b ⌝ }
+    ensures { λ r. ⌜ OneOf r (leaveAt (now (xs .entry)) at (b .x) (b .ray .origin .x)) (leaveAt (now (xs .entry)) (at + 1) (b .y) (b .ray .origin .y)) (leaveAt (now (xs .entry)) (at + 2) (b .z) (b .ray .origin .z)) ⌝ }
+{
+    let x = left(xs, at, b.x.near, b.ray.origin.x, b.x.high);
+    let y = left(xs, at + 1, b.y.near, b.ray.origin.y, b.y.high);
+    let z = left(xs, at + 2, b.z.near, b.ray.origin.z, b.z.high);
+    lesser(lesser(x, y), z)
+}
+
 // Whether the box in row i is shown to fail the box test.
 pub fn misses(xs: &[f64], i: usize, b: Beam) -> bool
     requires { ⌜ (i * 6 + 6 ≤ length (now xs)) × Aimed b × Sound (boxOfRow (row 6 i (now xs))) ⌝ }
     ensures { λ r. ⌜ (r ≡ true → T (not (passes (boxTest (boxOfRow (row 6 i (now (xs .entry)))) (b .ray))))) ⌝ }
 {
-    let at = i * 6;
-    let ex = entered(xs, at, b.x.near, b.ray.origin.x, b.x.low);
-    let ey = entered(xs, at + 1, b.y.near, b.ray.origin.y, b.y.low);
-    let ez = entered(xs, at + 2, b.z.near, b.ray.origin.z, b.z.low);
-    let lx = left(xs, at, b.x.near, b.ray.origin.x, b.x.high);
-    let ly = left(xs, at + 1, b.y.near, b.ray.origin.y, b.y.high);
-    let lz = left(xs, at + 2, b.z.near, b.ray.origin.z, b.z.high);
-    let e = greater(greater(ex, ey), ez);
-    let l = lesser(lesser(lx, ly), lz);
+    let e = latest(xs, i * 6, b);
+    let l = soonest(xs, i * 6, b);
     if l <= 0.0 {
         return true;
     }

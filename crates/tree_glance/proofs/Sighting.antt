@@ -11,7 +11,7 @@ use lib.Dec.{T}
 use lib.Ieee.{Float, eq, lt, le}
 use Rattle.floats.specs.Arith.{zeroF, INF}
 use Rattle.floats.proofs.Tests.{clash}
-use Rattle.geometry.specs.Vectors.{subV, divScalar, lengthOf, distanceOf}
+use Rattle.geometry.specs.Vectors.{subV, divScalar, distanceOf}
 use Rattle.geometry.specs.Rays.{rayOf}
 use Rattle.geometry.specs.Limits.{Within, Usable}
 use Rattle.geometry.specs.declared.hit.Hit.{Hit}
@@ -38,12 +38,13 @@ use Rattle.tree_glance.specs.Glances.{LastCover, EnteredBefore, Covering
 use Rattle.tree_glance.proofs.Glancing.{Hides}
 use Rattle.tree_glance.proofs.Endings.{aimed-usable, all-answering, hides-tells}
 
--- ---- the ray of the eye test, as the code makes it
-module _ (eye point v : Vector) (d : Float) (ev : v ≡ subV eye point) (ed : d ≡ lengthOf v) where
-  pub length-is : d ≡ distanceOf eye point
-  unfolding distanceOf
-  length-is = ed ∙ ap lengthOf ev
+-- ---- a point at the eye is seen
+pub near-seen : (f : Ray → Found) (eye point : Vector) (d : Float) → d ≡ distanceOf eye point → eq d zeroF ≡ true → sees f eye point ≡ InSight
+unfolding sees
+near-seen f eye point d e h = rw (← e, h)
 
+-- ---- the ray of the eye test, as the code makes it
+module _ (eye point v : Vector) (d : Float) (ev : v ≡ subV eye point) (length-is : d ≡ distanceOf eye point) where
   pub length-reached : Within eye → Within point → T (le d INF)
   length-reached E P = subst (λ (x : Float). T (le x INF)) (sym length-is) (distance-le eye point E P)
 
@@ -51,9 +52,6 @@ module _ (eye point v : Vector) (d : Float) (ev : v ≡ subV eye point) (ed : d 
     pub ray-is : b .ray ≡ eyeRay eye point
     unfolding eyeRay
     ray-is = eb ∙ er ∙ rw (eq′, ev, length-is)
-
-    pub ray-made : r ≡ b .ray
-    ray-made = sym eb
 
     pub aimed : Within point → (b .x .sure ≡ true → Bounded (r .direction .x) (b .x)) → (b .y .sure ≡ true → Bounded (r .direction .y) (b .y)) → (b .z .sure ≡ true → Bounded (r .direction .z) (b .z))
         → (b .x .sure ≡ true) × (b .y .sure ≡ true) × (b .z .sure ≡ true) → Aimed b

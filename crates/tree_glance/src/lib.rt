@@ -16,6 +16,8 @@ ghost use Rattle.tree_beams.specs.Beams.{Aimed};
 ghost use Rattle.tree_walk.specs.Walks.{entryHit, walkRows};
 ghost use Rattle.tree_glance.specs.Glances as Glances;
 ghost use Rattle.tree_trust.specs.Trust.{Trusted, Uncut};
+ghost use Rattle.tree_blocks.specs.Blocks.{SoundBlocks};
+ghost use Rattle.geometry.specs.Vectors.{distanceOf};
 ghost use Rattle.tree_sight.specs.Sights.{sees};
 ghost use Rattle.tree_glance.specs.Glances.{noPlace, LastCover, Covering, LeafTold, Tells, SeenAs};
 use geometry::ray::Ray;
@@ -53,7 +55,7 @@ fn judged(i: u32, a: Struck, distance: f64, found: Spotted) -> Spotted
 }
 
 // The entries of a leaf in order, as many as are there: up to the first that falls short where every solid
-// answers, else all of them.
+// answers, else all of them. A block that is shown to be missed is passed by.
 fn spot(
     numbers: &[f64],
     inverses: &[f64],
@@ -61,12 +63,12 @@ fn spot(
     order: &[u32],
     first: usize,
     count: usize,
-    r: Ray,
+    b: Beam,
     distance: f64,
     calm: bool,
 ) -> Spotted
-    requires { ⌜ first + count ≤ 8589934592 ⌝ }
-    ensures { λ a. ⌜ a ≡ Glances.spottedOf distance calm (entryHit (now (numbers .entry)) (now (inverses .entry)) (now (marks .entry)) r) (take count (drop first (now (order .entry)))) Glances.clear ⌝ }
+    requires { ⌜ (first + count ≤ 8589934592) × Aimed b × T (le distance INF) × SoundBlocks (now numbers) (now marks) ⌝ }
+    ensures { λ a. ⌜ a ≡ Glances.spottedOf distance calm (entryHit (now (numbers .entry)) (now (inverses .entry)) (now (marks .entry)) (b .ray)) (take count (drop first (now (order .entry)))) Glances.clear ⌝ }
 {
     let n = order.len();
     let mut found = Spotted::Clear;
@@ -77,14 +79,12 @@ fn spot(
             return found;
         }
         let i = order[at];
-        let a = tree_walk::hit_from(
-            numbers,
-            inverses,
-            marks,
-            r.origin,
-            r.direction,
-            rows::index(i),
-        );
+        let w = rows::index(i);
+        if tree_blocks::missed(numbers, inverses, marks, w, b) {
+            k += 1;
+            continue;
+        }
+        let a = tree_walk::hit_from(numbers, inverses, marks, b.ray.origin, b.ray.direction, w);
         let s = judged(i, a, distance, found);
         match s {
             Spotted::Unknown => return Spotted::Unknown,
@@ -131,13 +131,13 @@ fn at_leaf(
     i: usize,
     first: usize,
     count: usize,
-    r: Ray,
+    b: Beam,
     distance: f64,
     calm: bool,
     cover: &mut [usize],
 ) -> Glance
-    requires { ⌜ (first + count ≤ 8589934592) × (i * 6 + 6 ≤ length (now boxes)) × (length (now cover) ≡ 2) ⌝ }
-    ensures { λ a. ⌜ LeafTold (entryHit (now (numbers .entry)) (now (inverses .entry)) (now (marks .entry)) r) r distance calm (now (boxes .entry)) i (take count (drop first (now (order .entry)))) (now (cover .entry)) (now (cover .exit)) a ⌝ }
+    requires { ⌜ (first + count ≤ 8589934592) × (i * 6 + 6 ≤ length (now boxes)) × (length (now cover) ≡ 2) × Aimed b × T (le distance INF) × SoundBlocks (now numbers) (now marks) ⌝ }
+    ensures { λ a. ⌜ LeafTold (entryHit (now (numbers .entry)) (now (inverses .entry)) (now (marks .entry)) (b .ray)) (b .ray) distance calm (now (boxes .entry)) i (take count (drop first (now (order .entry)))) (now (cover .entry)) (now (cover .exit)) a ⌝ }
 {
     let a = spot(
         numbers,
@@ -146,7 +146,7 @@ fn at_leaf(
         order,
         first,
         count,
-        r,
+        b,
         distance,
         calm,
     );
@@ -154,7 +154,7 @@ fn at_leaf(
         Spotted::Unknown => Glance::Unsure,
         Spotted::Clear => Glance::Visible,
         Spotted::Short(e) => {
-            if enters(boxes, i, r, distance) {
+            if enters(boxes, i, b.ray, distance) {
                 cover[0] = i;
                 cover[1] = rows::index(e);
                 return Glance::Hidden;
@@ -190,7 +190,7 @@ pub fn look(
     cover: &mut [usize],
     stack: &mut [usize],
 ) -> Glance
-    requires { ⌜ Trusted (now «node_boxes») (now «node_marks») (now order) × (calm ≡ true → Uncut (now numbers) (now inverses) (now marks)) × Aimed b × T (le distance INF) × LastCover (now «node_boxes») (now «node_marks») (now order) (now cover) (now stack) ⌝ }
+    requires { ⌜ Trusted (now «node_boxes») (now «node_marks») (now order) × (calm ≡ true → Uncut (now numbers) (now inverses) (now marks)) × Aimed b × T (le distance INF) × LastCover (now «node_boxes») (now «node_marks») (now order) (now cover) (now stack) × SoundBlocks (now numbers) (now marks) ⌝ }
     ensures { λ a. ⌜ Tells a (walkRows (entryHit (now (numbers .entry)) (now (inverses .entry)) (now (marks .entry)) (b .ray)) (b .ray) (now («node_boxes» .entry)) (now («node_marks» .entry)) (now (order .entry))) distance × LastCover (now («node_boxes» .entry)) (now («node_marks» .entry)) (now (order .entry)) (now (cover .exit)) (now (stack .exit)) ⌝ }
 {
     if tree_beams::misses(node_boxes, 0, b) {
@@ -215,7 +215,7 @@ pub fn look(
                 i,
                 first,
                 rows::index(n.b),
-                r,
+                b,
                 distance,
                 calm,
                 cover,
@@ -313,20 +313,20 @@ fn glimpse(
     order: &[u32],
     eye: Vector,
     point: Vector,
+    distance: f64,
     calm: bool,
     cover: &mut [usize],
     stack: &mut [usize],
 ) -> Glance
-    requires { ⌜ Trusted (now «node_boxes») (now «node_marks») (now order) × (calm ≡ true → Uncut (now numbers) (now inverses) (now marks)) × Within eye × Within point × LastCover (now «node_boxes») (now «node_marks») (now order) (now cover) (now stack) ⌝ }
+    requires { ⌜ Trusted (now «node_boxes») (now «node_marks») (now order) × (calm ≡ true → Uncut (now numbers) (now inverses) (now marks)) × Within eye × Within point × LastCover (now «node_boxes») (now «node_marks») (now order) (now cover) (now stack) × SoundBlocks (now numbers) (now marks) × (distance ≡ distanceOf eye point) ⌝ }
     ensures { λ a. ⌜ SeenAs a (sees (λ (r : Ray). walkRows (entryHit (now (numbers .entry)) (now (inverses .entry)) (now (marks .entry)) r) r (now («node_boxes» .entry)) (now («node_marks» .entry)) (now (order .entry))) eye point) × LastCover (now («node_boxes» .entry)) (now («node_marks» .entry)) (now (order .entry)) (now (cover .exit)) (now (stack .exit)) ⌝ }
 {
-    let v = eye.sub(point);
-    let distance = v.norm();
     if distance == 0.0 {
         return Glance::Visible;
     }
+    let v = eye.sub(point);
     let r = Ray::new(point, v.div_scalar(distance));
-    let b = tree_beams::aim(r);
+    let b = tree_beams::aim(r, v, distance);
     if !tree_beams::sure(b) {
         return Glance::Unsure;
     }
@@ -358,7 +358,8 @@ fn glimpse(
     }
 }
 
-// The eye test: by a glance where the tree is to be trusted, else and where that is not sure by the full walk.
+// The eye test of a point at this distance from the eye: by a glance where the tree is to be trusted, else and where
+// that is not sure by the full walk.
 pub fn sight(
     numbers: &[f64],
     inverses: &[f64],
@@ -368,12 +369,13 @@ pub fn sight(
     order: &[u32],
     eye: Vector,
     point: Vector,
+    distance: f64,
     trusted: bool,
     calm: bool,
     cover: &mut [usize],
     stack: &mut [usize],
 ) -> Sight
-    requires { ⌜ (trusted ≡ true → Trusted (now «node_boxes») (now «node_marks») (now order) × Within eye × Within point) × (calm ≡ true → Uncut (now numbers) (now inverses) (now marks)) × LastCover (now «node_boxes») (now «node_marks») (now order) (now cover) (now stack) ⌝ }
+    requires { ⌜ (trusted ≡ true → Trusted (now «node_boxes») (now «node_marks») (now order) × Within eye × Within point × SoundBlocks (now numbers) (now marks)) × (calm ≡ true → Uncut (now numbers) (now inverses) (now marks)) × LastCover (now «node_boxes») (now «node_marks») (now order) (now cover) (now stack) × (distance ≡ distanceOf eye point) ⌝ }
     ensures { λ s. ⌜ (s ≡ sees (λ (r : Ray). walkRows (entryHit (now (numbers .entry)) (now (inverses .entry)) (now (marks .entry)) r) r (now («node_boxes» .entry)) (now («node_marks» .entry)) (now (order .entry))) eye point) × LastCover (now («node_boxes» .entry)) (now («node_marks» .entry)) (now (order .entry)) (now (cover .exit)) (now (stack .exit)) ⌝ }
 {
     if trusted {
@@ -386,6 +388,7 @@ pub fn sight(
             order,
             eye,
             point,
+            distance,
             calm,
             cover,
             stack,

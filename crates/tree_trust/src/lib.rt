@@ -24,7 +24,7 @@ fn under(a: Vector, b: Vector) -> bool
 }
 
 // Whether a box is within a million, its min not above its max.
-fn sound(b: BBox) -> bool
+pub fn sound(b: BBox) -> bool
     ensures { λ r. ⌜ (r ≡ true → Sound b) ⌝ }
 {
     if limits::within_box(b) {

@@ -64,7 +64,7 @@ pub fn hit_from(
     match a {
         // by its fields: copied whole, its flag is waited for
         Plain::At(h) => Struck::At(Hit { t: h.t, ok: h.ok }),
-        Plain::Other => scene_shape::entry_hit(numbers, inverses, marks, i, Ray::new(o, d), 8),
+        Plain::Other => scene_open::entry_hit(numbers, inverses, marks, i, o, d),
     }
 }
 

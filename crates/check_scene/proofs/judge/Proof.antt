@@ -102,7 +102,7 @@ invert-all-requires c κs =
     let at15 = c .before .before .before .before .before .before .before .before .before .before .before .before .before .before .before in let if1 = at15 .if1 in
     let at16 = at15 .before in let lengths-agree = at16 .lengths-agree in
     let at25 = at16 .before .before .before .before .before .before .before .before .before in let pre = at25 .pre in
-    (omega (arith, lengths-numbers _ (lengths-agree .ensures) (not-false _ (if1 .left))), omega (arith, lengths-few _ (lengths-agree .ensures) (not-false _ (if1 .left)), pre .0))
+    (omega (arith, lengths-numbers _ (lengths-agree .ensures) (not-false _ (if1 .left))), omega (arith, lengths-few _ (lengths-agree .ensures) (not-false _ (if1 .left)), pre (lengths-few _ (lengths-agree .ensures) (not-false _ (if1 .left))) .0))
 
 returns-8 : tie.Need-returns-8
 returns-8 c =
@@ -132,7 +132,7 @@ all-within-requires c κs =
     let at21 = at15 .before .before .before .before .before .before in let if1 = at21 .if1 in
     let at22 = at21 .before in let lengths-agree = at22 .lengths-agree in
     let at31 = at22 .before .before .before .before .before .before .before .before .before in let pre = at31 .pre in
-    (omega (arith, lengths-few _ (lengths-agree .ensures) (not-false _ (if1 .left)), pre .1 .0), record { parts = sym (well-named .ensures .0) ∙ (not-false _ (if4 .left)); same = stored-entry _ _ _ (omega (arith, lengths-numbers _ (lengths-agree .ensures) (not-false _ (if1 .left)))) (omega (arith, lengths-few _ (lengths-agree .ensures) (not-false _ (if1 .left)), pre .0, invert-all .kept .1 .1 .0)) (invert-all .ensures .1 (not-false _ (if8 .left))) })
+    (omega (arith, lengths-few _ (lengths-agree .ensures) (not-false _ (if1 .left)), pre (lengths-few _ (lengths-agree .ensures) (not-false _ (if1 .left))) .1 .0), record { parts = sym (well-named .ensures .0) ∙ (not-false _ (if4 .left)); same = stored-entry _ _ _ (omega (arith, lengths-numbers _ (lengths-agree .ensures) (not-false _ (if1 .left)))) (omega (arith, lengths-few _ (lengths-agree .ensures) (not-false _ (if1 .left)), pre (lengths-few _ (lengths-agree .ensures) (not-false _ (if1 .left))) .0, invert-all .kept .1 .1 .0)) (invert-all .ensures .1 (not-false _ (if8 .left))) })
 
 returns-9 : tie.Need-returns-9
 returns-9 c =
@@ -161,7 +161,7 @@ list-unnamed-requires c κs =
     let at27 = at21 .before .before .before .before .before .before in let if1 = at27 .if1 in
     let at28 = at27 .before in let lengths-agree = at28 .lengths-agree in
     let at37 = at28 .before .before .before .before .before .before .before .before .before in let pre = at37 .pre in
-    (omega (arith, lengths-few _ (lengths-agree .ensures) (not-false _ (if1 .left)), well-named .kept .1 .0), (omega (arith, lengths-few _ (lengths-agree .ensures) (not-false _ (if1 .left)), pre .1 .1), lengths-few _ (lengths-agree .ensures) (not-false _ (if1 .left))))
+    (omega (arith, lengths-few _ (lengths-agree .ensures) (not-false _ (if1 .left)), well-named .kept .1 .0), (omega (arith, lengths-few _ (lengths-agree .ensures) (not-false _ (if1 .left)), pre (lengths-few _ (lengths-agree .ensures) (not-false _ (if1 .left))) .1 .1), lengths-few _ (lengths-agree .ensures) (not-false _ (if1 .left))))
 
 returns-10 : tie.Need-returns-10
 returns-10 c =

@@ -1,7 +1,6 @@
 use Rattle.draw.proofs.Endings.{drawn-finished, zeros-as}
 use Rattle.floats.specs.Arith.{zeroF}
 use mathlib.Core.Path.{_∙_}
-use borrow.Author.Needs.{needs}
 use Rattle.draw.proofs.draw_with.Statement.{statement}
 use Rattle.draw.proofs.draw_with.Tie as tie
 
@@ -29,9 +28,22 @@ returns c =
     let at47 = at21 .before .before .before .before .before .before .before .before .before .before .before .before .before .before .before .before .before .before .before .before .before .before .before .before .before .before in let drawing = at47 .drawing in
     (drawn-finished (drawing .ensures) (drawing .kept .1 .1 .1 .1 .1 .1 .1 .0) (drawing .kept .1 .1 .1 .1 .1 .1 .1 .1 .0) (finish .ensures), (zeros-as zeroF (drawing .kept .1 .1 .1 .1 .1 .1 .1 .1 .1 .0) (clear-work .ensures .0), (zeros-as 0 (drawing .kept .1 .1 .1 .1 .1 .1 .1 .1 .1 .1 .0) (clear-work .ensures .1 .0), (zeros-as zeroF (drawing .kept .1 .1 .1 .1 .1 .1 .1 .1 .1 .1 .1 .0) (clear-work .ensures .1 .1 .0), (zeros-as 0 (drawing .kept .1 .1 .1 .1 .1 .1 .1 .1 .1 .1 .1 .1 .0) (clear-work .ensures .1 .1 .1 .0), (zeros-as zeroF (drawing .kept .1 .1 .1 .1 .1 .1 .1 .1 .1 .1 .1 .1 .1 .0) (clear-work .ensures .1 .1 .1 .1 .0), (zeros-as 0 (drawing .kept .1 .1 .1 .1 .1 .1 .1 .1 .1 .1 .1 .1 .1 .1 .0) (clear-work .ensures .1 .1 .1 .1 .1 .0), zeros-as 0 (drawing .kept .1 .1 .1 .1 .1 .1 .1 .1 .1 .1 .1 .1 .1 .1 .1 .0) (clear-work .ensures .1 .1 .1 .1 .1 .1))))))))
 
+-- the calls, each from an end that comes after it
+abbrev cleared : tie.After-slice-known27 → tie.After-clear-work
+cleared c = c .before .before .before .before .before .before .before .before .before .before .before .before .before .before .before .before .before .before .before .before .before
+
+abbrev drawn : tie.After-slice-known27 → tie.After-drawing
+drawn c = c .before .before .before .before .before .before .before .before .before .before .before .before .before .before .before .before .before .before .before .before .before .before .before .before .before .before .before .before .before .before .before .before .before .before .before .before .before .before .before .before .before .before .before .before .before .before .before
+
 pub draw-with-spec : {M : Type 1} → statement M
 draw-with-spec =
     tie.close
     (tie.spec
-    (λ c κs. tt) (λ c κs. tt) finish-requires same-length same-length-2 (λ c. search needs) (λ c. search needs) (λ c. search needs)
-    (λ c. search needs) (λ c. search needs) (λ c. search needs) (λ c. search needs) returns)
+    (λ c κs. tt) (λ c κs. tt) finish-requires same-length same-length-2
+    (λ c. (cleared c .clear-work .kept .0) ∙ (drawn c .drawing .kept .1 .1 .1 .1 .1 .1 .1 .1 .1 .0))
+    (λ c. (cleared c .clear-work .kept .1 .0) ∙ (drawn c .drawing .kept .1 .1 .1 .1 .1 .1 .1 .1 .1 .1 .0))
+    (λ c. (cleared c .clear-work .kept .1 .1 .0) ∙ (drawn c .drawing .kept .1 .1 .1 .1 .1 .1 .1 .1 .1 .1 .1 .0))
+    (λ c. (cleared c .clear-work .kept .1 .1 .1 .0) ∙ (drawn c .drawing .kept .1 .1 .1 .1 .1 .1 .1 .1 .1 .1 .1 .1 .0))
+    (λ c. (cleared c .clear-work .kept .1 .1 .1 .1 .0) ∙ (drawn c .drawing .kept .1 .1 .1 .1 .1 .1 .1 .1 .1 .1 .1 .1 .1 .0))
+    (λ c. (cleared c .clear-work .kept .1 .1 .1 .1 .1 .0) ∙ (drawn c .drawing .kept .1 .1 .1 .1 .1 .1 .1 .1 .1 .1 .1 .1 .1 .1 .0))
+    (λ c. (cleared c .clear-work .kept .1 .1 .1 .1 .1 .1 .0) ∙ (drawn c .drawing .kept .1 .1 .1 .1 .1 .1 .1 .1 .1 .1 .1 .1 .1 .1 .1 .0)) returns)

@@ -22,7 +22,8 @@ abbrev μ-loop : tie.MeasureT-loop
 
 misses-requires : tie.Need-misses-requires Inv-loop μ-loop
 misses-requires c κs =
-    let at8 = c .before .before .before .before .before .before .before .before in let args = at8 .args in
+    let at7 = c .before .before .before .before .before .before .before in let before = at7 .before in
+    let at8 = before in let args = at8 .args in
     let pre = at8 .pre in
     (root-asked (entryHit (args .numbers .now) (args .inverses .now) (args .marks .now) (args .b .ray)) (args .b .ray) (args .distance) (args .node-boxes .now) (args .node-marks .now) (args .order .now) (pre .0) .0, pre .2, root-asked (entryHit (args .numbers .now) (args .inverses .now) (args .marks .now) (args .b .ray)) (args .b .ray) (args .distance) (args .node-boxes .now) (args .node-marks .now) (args .order .now) (pre .0) .1)
 
@@ -34,7 +35,8 @@ returns c =
 
 loop-holds : tie.Need-loop-holds Inv-loop μ-loop
 loop-holds c =
-    let at11 = c .before .before .before .before .before .before .before .before .before .before .before in let pre = at11 .pre in
+    let at10 = c .before .before .before .before .before .before .before .before .before .before in let before = at10 .before in
+    let at11 = before in let pre = at11 .pre in
     (look-start _ _ _ _ _ _ (pre .0) _ (pre .4 .wide-stack), pre .4)
 
 read-triple-requires : tie.Need-read-triple-requires Inv-loop μ-loop
@@ -42,14 +44,16 @@ read-triple-requires c κs = place-links _ _ _ _ _ _ _ _ _ _ (c .before .loop .i
 
 at-leaf-requires : tie.Need-at-leaf-requires Inv-loop μ-loop
 at-leaf-requires c κs =
+    let at19 = c .before .before .before .before .before .before .before .before .before .before .before .before .before .before .before .before .before .before .before in let pre = at19 .pre in
     let at1 = c .before in let index2 = at1 .index2 in
     let at4 = at1 .before .before .before in let index = at4 .index in
     let at7 = at4 .before .before .before in let loop = at7 .loop in
-    (omega (arith, index .ensures .1, index2 .ensures .1), place-fits _ _ _ _ _ _ _ _ _ _ (loop .inv .0), loop .inv .1 .wide)
+    (omega (arith, index .ensures .1, index2 .ensures .1), place-fits _ _ _ _ _ _ _ _ _ _ (loop .inv .0), loop .inv .1 .wide, pre .2, pre .3, pre .5)
 
 returns-2 : tie.Need-returns-2 Inv-loop μ-loop
 returns-2 c =
-    let at4 = c .before .before .before .before in let at-leaf = at4 .at-leaf in
+    let at3 = c .before .before .before in let before = at3 .before in
+    let at4 = before in let at-leaf = at4 .at-leaf in
     let at12 = at4 .before .before .before .before .before .before .before .before in let loop = at12 .loop in
     (tt, kept-same _ _ _ _ _ (loop .inv .1) _ (told-unsure _ _ _ _ _ _ _ _ _ _ (at-leaf .ensures) (c .enum-told .given .1)))
 
@@ -135,7 +139,8 @@ sided-requires c κs = c .before .before .before .index .ensures .1
 
 misses-requires-2 : tie.Need-misses-requires-2 Inv-loop μ-loop
 misses-requires-2 c κs =
-    let at2 = c .before .before in let if2 = at2 .if2 in
+    let at1 = c .before in let before = at1 .before in
+    let at2 = before in let if2 = at2 .if2 in
     let at3 = at2 .before in let is-leaf = at3 .is-leaf in
     let at4 = at3 .before in let index = at4 .index in
     let at5 = at4 .before in let read-triple = at5 .read-triple in
@@ -199,7 +204,8 @@ loop-again-4 c =
 
 loop-again-5 : tie.Need-loop-again-5 Inv-loop μ-loop
 loop-again-5 c =
-    let at2 = c .before .before in let misses3 = at2 .misses3 in
+    let at1 = c .before in let before = at1 .before in
+    let at2 = before in let misses3 = at2 .misses3 in
     let at4 = at2 .before .before in let sided = at4 .sided in
     let at6 = at4 .before .before in let if2 = at6 .if2 in
     let at7 = at6 .before in let is-leaf = at7 .is-leaf in
@@ -210,12 +216,14 @@ loop-again-5 c =
 
 returns-7 : tie.Need-returns-7 Inv-loop μ-loop
 returns-7 c =
-    let at12 = c .before .before .before .before .before .before .before .before .before .before .before .before in let loop = at12 .loop in
+    let at11 = c .before .before .before .before .before .before .before .before .before .before .before in let before = at11 .before in
+    let at12 = before in let loop = at12 .loop in
     (tt, loop .inv .1)
 
 loop-again-6 : tie.Need-loop-again-6 Inv-loop μ-loop
 loop-again-6 c =
-    let at5 = c .before .before .before .before .before in let sided = at5 .sided in
+    let at4 = c .before .before .before .before in let before = at4 .before in
+    let at5 = before in let sided = at5 .sided in
     let at7 = at5 .before .before in let if2 = at7 .if2 in
     let at8 = at7 .before in let is-leaf = at8 .is-leaf in
     let at9 = at8 .before in let index = at9 .index in
@@ -246,7 +254,8 @@ slice-read-i-3 c =
 
 slice-write-stack : tie.Need-slice-write-stack Inv-loop μ-loop
 slice-write-stack c =
-    let at12 = c .before .before .before .before .before .before .before .before .before .before .before .before in let loop = at12 .loop in
+    let at11 = c .before .before .before .before .before .before .before .before .before .before .before in let before = at11 .before in
+    let at12 = before in let loop = at12 .loop in
     omega (arith, c .if10 .left, loop .inv .0 .broad)
 
 mul-stack : tie.Need-mul-stack Inv-loop μ-loop
@@ -254,20 +263,23 @@ mul-stack c = omega (arith, c .if10 .left)
 
 same-length : tie.Need-same-length Inv-loop μ-loop
 same-length c =
-    let at4 = c .before .before .before .before in let at-leaf = at4 .at-leaf in
+    let at3 = c .before .before .before in let before = at3 .before in
+    let at4 = before in let at-leaf = at4 .at-leaf in
     let at12 = at4 .before .before .before .before .before .before .before .before in let loop = at12 .loop in
     let at24 = at12 .before .before .before .before .before .before .before .before .before .before .before .before in let pre = at24 .pre in
     ap length (told-unsure _ _ _ _ _ _ _ _ _ _ (at-leaf .ensures) (c .enum-told .given .1)) ∙ loop .inv .1 .wide ∙ sym (pre .4 .wide)
 
 same-length-2 : tie.Need-same-length-2 Inv-loop μ-loop
 same-length-2 c =
-    let at12 = c .before .before .before .before .before .before .before .before .before .before .before .before in let loop = at12 .loop in
+    let at11 = c .before .before .before .before .before .before .before .before .before .before .before in let before = at11 .before in
+    let at12 = before in let loop = at12 .loop in
     let at24 = at12 .before .before .before .before .before .before .before .before .before .before .before .before in let pre = at24 .pre in
     loop .inv .1 .wide-stack ∙ sym (pre .4 .wide-stack)
 
 same-length-3 : tie.Need-same-length-3 Inv-loop μ-loop
 same-length-3 c =
-    let at2 = c .before .before in let enum-told2 = at2 .enum-told2 in
+    let at1 = c .before in let before = at1 .before in
+    let at2 = before in let enum-told2 = at2 .enum-told2 in
     let at6 = at2 .before .before .before .before in let at-leaf = at6 .at-leaf in
     let at14 = at6 .before .before .before .before .before .before .before .before in let loop = at14 .loop in
     let at26 = at14 .before .before .before .before .before .before .before .before .before .before .before .before in let pre = at26 .pre in
@@ -275,7 +287,8 @@ same-length-3 c =
 
 same-length-4 : tie.Need-same-length-4 Inv-loop μ-loop
 same-length-4 c =
-    let at14 = c .before .before .before .before .before .before .before .before .before .before .before .before .before .before in let loop = at14 .loop in
+    let at13 = c .before .before .before .before .before .before .before .before .before .before .before .before .before in let before = at13 .before in
+    let at14 = before in let loop = at14 .loop in
     let at26 = at14 .before .before .before .before .before .before .before .before .before .before .before .before in let pre = at26 .pre in
     loop .inv .1 .wide-stack ∙ sym (pre .4 .wide-stack)
 
@@ -288,44 +301,51 @@ same-length-5 c =
 
 same-length-6 : tie.Need-same-length-6 Inv-loop μ-loop
 same-length-6 c =
-    let at13 = c .before .before .before .before .before .before .before .before .before .before .before .before .before in let loop = at13 .loop in
+    let at12 = c .before .before .before .before .before .before .before .before .before .before .before .before in let before = at12 .before in
+    let at13 = before in let loop = at13 .loop in
     let at25 = at13 .before .before .before .before .before .before .before .before .before .before .before .before in let pre = at25 .pre in
     loop .inv .1 .wide-stack ∙ sym (pre .4 .wide-stack)
 
 same-length-7 : tie.Need-same-length-7 Inv-loop μ-loop
 same-length-7 c =
-    let at2 = c .before .before in let enum-told3 = at2 .enum-told3 in
+    let at1 = c .before in let before = at1 .before in
+    let at2 = before in let enum-told3 = at2 .enum-told3 in
     let at6 = at2 .before .before .before .before in let at-leaf = at6 .at-leaf in
     let at26 = at6 .before .before .before .before .before .before .before .before .before .before .before .before .before .before .before .before .before .before .before .before in let pre = at26 .pre in
     (told-short _ _ _ _ _ _ _ _ _ _ (at-leaf .ensures) (enum-told3 .given .1)) .wide ∙ sym (pre .4 .wide)
 
 same-length-8 : tie.Need-same-length-8 Inv-loop μ-loop
 same-length-8 c =
-    let at14 = c .before .before .before .before .before .before .before .before .before .before .before .before .before .before in let loop = at14 .loop in
+    let at13 = c .before .before .before .before .before .before .before .before .before .before .before .before .before in let before = at13 .before in
+    let at14 = before in let loop = at14 .loop in
     let at26 = at14 .before .before .before .before .before .before .before .before .before .before .before .before in let pre = at26 .pre in
     loop .inv .1 .wide-stack ∙ sym (pre .4 .wide-stack)
 
 same-length-9 : tie.Need-same-length-9 Inv-loop μ-loop
 same-length-9 c =
-    let at13 = c .before .before .before .before .before .before .before .before .before .before .before .before .before in let loop = at13 .loop in
+    let at12 = c .before .before .before .before .before .before .before .before .before .before .before .before in let before = at12 .before in
+    let at13 = before in let loop = at13 .loop in
     let at25 = at13 .before .before .before .before .before .before .before .before .before .before .before .before in let pre = at25 .pre in
     loop .inv .1 .wide ∙ sym (pre .4 .wide)
 
 same-length-10 : tie.Need-same-length-10 Inv-loop μ-loop
 same-length-10 c =
-    let at13 = c .before .before .before .before .before .before .before .before .before .before .before .before .before in let loop = at13 .loop in
+    let at12 = c .before .before .before .before .before .before .before .before .before .before .before .before in let before = at12 .before in
+    let at13 = before in let loop = at13 .loop in
     let at25 = at13 .before .before .before .before .before .before .before .before .before .before .before .before in let pre = at25 .pre in
     loop .inv .1 .wide-stack ∙ sym (pre .4 .wide-stack)
 
 same-length-11 : tie.Need-same-length-11 Inv-loop μ-loop
 same-length-11 c =
-    let at12 = c .before .before .before .before .before .before .before .before .before .before .before .before in let loop = at12 .loop in
+    let at11 = c .before .before .before .before .before .before .before .before .before .before .before in let before = at11 .before in
+    let at12 = before in let loop = at12 .loop in
     let at24 = at12 .before .before .before .before .before .before .before .before .before .before .before .before in let pre = at24 .pre in
     loop .inv .1 .wide ∙ sym (pre .4 .wide)
 
 same-length-12 : tie.Need-same-length-12 Inv-loop μ-loop
 same-length-12 c =
-    let at12 = c .before .before .before .before .before .before .before .before .before .before .before .before in let loop = at12 .loop in
+    let at11 = c .before .before .before .before .before .before .before .before .before .before .before in let before = at11 .before in
+    let at12 = before in let loop = at12 .loop in
     let at24 = at12 .before .before .before .before .before .before .before .before .before .before .before .before in let pre = at24 .pre in
     loop .inv .1 .wide-stack ∙ sym (pre .4 .wide-stack)
 

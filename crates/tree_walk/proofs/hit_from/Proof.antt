@@ -11,7 +11,7 @@ returns c = sym (plain-own _ _ _ _ (sym (c .before .before .before .plain-hit .e
 
 returns-2 : tie.Need-returns-2
 unfolding entryHit
-returns-2 c = rw (← (c .before .new .ensures)) (c .entry-hit .ensures)
+returns-2 c = c .entry-hit .ensures
 
 pub hit-from-spec : {M : Type 1} → statement M
-hit-from-spec = tie.close (tie.spec (λ c κs. tt) (λ c. search needs) (λ c. search needs) (λ c κs. tt) (λ c κs. tt) returns returns-2)
+hit-from-spec = tie.close (tie.spec (λ c κs. tt) (λ c. search needs) (λ c. search needs) (λ c κs. tt) returns returns-2)
