@@ -3,7 +3,7 @@
    names, type by type. The pointers must not be null, not even those of no elements, and what is filled must overlap
    neither what is read nor anything else that is filled. Matrices stand by rows.
 
-   Stack, measured (docs/MEASURES.md): larnt_draw and larnt_draw_with need about 215 KB for local arrays, larnt_build
+   Stack, measured (docs/MEASURES.md): larnt_draw and larnt_draw_with need about 216 KB for local arrays, larnt_build
    198 KB, and 512 bytes for each level of the tree, at most 1,023 levels, so 740 KB at most.
    larnt_own_hit, larnt_own_contains, larnt_intersect, larnt_visible, larnt_occluder, larnt_covered and
    larnt_covered_all need about 200 KB, larnt_check 10 KB.

@@ -12,7 +12,7 @@ const PAINTED: usize = 48 << 20;
 const PAINT: u8 = 0xA5;
 
 /// What host/larnt.h says that a draw's local arrays take, and the little that is left beside them.
-const ARRAYS: usize = 215 << 10;
+const ARRAYS: usize = 216 << 10;
 const LITTLE: usize = 256 << 10;
 
 pub fn run() {

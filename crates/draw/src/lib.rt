@@ -176,7 +176,7 @@ fn full_drawing(
     )
 }
 
-// The same with the smaller arrays where they do.
+// The same, with the smaller arrays where they suffice.
 fn drawing(
     threshold: f64,
     numbers: &[f64],

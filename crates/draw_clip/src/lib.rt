@@ -180,7 +180,7 @@ fn end_filter(
     t
 }
 
-// An end of a path, or a point between them, whose distance from the eye is known.
+// The filter of any point of a path. The distance is that of an inner one; an end has its own worked out.
 fn point_filter(
     matrix: Matrix,
     eye: Vector,
@@ -263,7 +263,7 @@ fn next_distance(eye: Vector, path: &[f64], i: usize, end: usize) -> f64
 }
 
 // Each point of a path from `from` up to `end`, after n points and m starts. The distance of the next point is worked
-// out a turn ahead: its root then goes on beside the walk for this one.
+// out a turn ahead, but for the ends: its root then goes on beside the walk for this one.
 fn filter_from(
     matrix: Matrix,
     eye: Vector,

@@ -1,4 +1,4 @@
--- A cut of two simple solids, by their own hits and insides.
+-- A cut of two simple solids, as a block cut open is, by their own hits and insides.
 use Prim.Native.Nat.{ℕ}
 use mathlib.Core.Bool.{Bool}
 use lib.Ieee.{Float}

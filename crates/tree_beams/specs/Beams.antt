@@ -38,5 +38,6 @@ enterAt xs k b o = (getD xs (k + b .near) nan ⊖ o) ⊗ b .low
 abbrev pub leaveAt : List Float → ℕ → Bounds → Float → Float
 leaveAt xs k b o = (getD xs (k + 3 - b .near) nan ⊖ o) ⊗ b .high
 
+-- one of three numbers
 abbrev pub OneOf : Float → Float → Float → Float → Type 0
 OneOf x a b c = (x ≡ a) ⊎ ((x ≡ b) ⊎ (x ≡ c))

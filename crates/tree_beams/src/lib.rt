@@ -74,7 +74,8 @@ fn bound(d: f64, i: f64) -> Bounds
     }
 }
 
-// A ray of length one along v: 1 / d is next to length / v on each axis, which need not wait for d.
+// Bounds for the ray r, whose direction d is v / length: 1 / d is next to length / v, which need not wait for d. Nothing
+// is asked of v and length, since the bounds are tested.
 pub fn aim(r: Ray, v: Vector, length: f64) -> Beam
     ensures { λ b. ⌜ (b .ray ≡ r) × (b .x .sure ≡ true → Bounded (r .direction .x) (b .x)) × (b .y .sure ≡ true → Bounded (r .direction .y) (b .y)) × (b .z .sure ≡ true → Bounded (r .direction .z) (b .z)) ⌝ }
 {

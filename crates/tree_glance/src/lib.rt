@@ -1,5 +1,5 @@
-// The eye test by a glance: a walk that leaves out what cannot change its answer. It tells a box that the ray
-// misses by products, stops at the first solid that falls short where no refusal can follow, and tries the solid
+// The eye test by a glance: a walk that leaves out what cannot change its answer. It tells boxes and blocks
+// that the ray misses by products, stops at the first solid that falls short where no refusal can follow, and tries the solid
 // that hid the last point first. Where it is not sure, the full walk answers.
 ghost use mathlib.Core.Path.{_≡_};
 ghost use mathlib.Core.Logic.{_⊎_};
@@ -55,7 +55,7 @@ fn judged(i: u32, a: Struck, distance: f64, found: Spotted) -> Spotted
 }
 
 // The entries of a leaf in order, as many as are there: up to the first that falls short where every solid
-// answers, else all of them. A block that is shown to be missed is passed by.
+// answers, else all of them. A block, or a cut of two, that is shown to be missed is passed by.
 fn spot(
     numbers: &[f64],
     inverses: &[f64],

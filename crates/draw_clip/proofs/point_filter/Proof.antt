@@ -1,5 +1,4 @@
 use mathlib.Core.Path.{sym, _∙_}
-use borrow.Author.Needs.{needs}
 use Rattle.draw_clip.proofs.point_filter.Statement.{statement}
 use Rattle.draw_clip.proofs.point_filter.Tie as tie
 

@@ -1,5 +1,4 @@
 use mathlib.Core.Path.{sym, _∙_}
-use borrow.Author.Needs.{needs}
 use borrow.Author.Tests.{not-true, not-false}
 use Rattle.limits.proofs.Limits.{within-point}
 use Rattle.draw_clip.proofs.Clipping.{clipped, beyond, put, ready-kept}

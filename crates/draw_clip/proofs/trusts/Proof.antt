@@ -1,4 +1,3 @@
-use borrow.Author.Needs.{needs}
 use mathlib.Core.Path.{sym, _∙_}
 use Rattle.floats.proofs.Tests.{clash}
 use Rattle.limits.proofs.Limits.{within-point}
