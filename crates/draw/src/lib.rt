@@ -4,7 +4,7 @@ ghost use lib.ListN.{length};
 ghost use Rattle.floats.specs.Arith.{zeroF};
 ghost use Rattle.paths.specs.Ends.{EndsBoth, Finished, Zeroed};
 ghost use Rattle.check_scene.specs.Stored.{RoomFor};
-ghost use Rattle.draw.specs.Draw.{drawWithIn, drawIn};
+ghost use Rattle.draw.specs.Draw.{drawWithIn};
 use check_scene::Verdict;
 use paths::Counts;
 use refusals::Refusal;
@@ -81,56 +81,8 @@ fn checked_drawing(
     }
 }
 
-// The same of at most 64 entries, with local arrays of their size: they are cleared at each draw.
-fn small_drawing(
-    threshold: f64,
-    numbers: &[f64],
-    marks: &[u32],
-    points: &[f64],
-    starts: &[usize],
-    owners: &[u32],
-    view: View,
-    out: &mut [f64],
-    begins: &mut [usize],
-    work: &mut [f64],
-    work_starts: &mut [usize],
-    chopped: &mut [f64],
-    chopped_starts: &mut [usize],
-    node_boxes: &mut [f64],
-    node_marks: &mut [u32],
-    order: &mut [u32],
-) -> Counts
-    requires { ⌜ length (now marks) ≤ 256 ⌝ }
-    ensures { λ r. ⌜ EndsBoth (drawWithIn threshold (now (numbers .entry)) (now (marks .entry)) (now (points .entry)) (now (starts .entry)) (now (owners .entry)) view (now (out .entry)) (now (begins .entry)) (now (work .entry)) (now («work_starts» .entry)) (now (chopped .entry)) (now («chopped_starts» .entry)) (now («node_boxes» .entry)) (now («node_marks» .entry)) (now (order .entry))) (now (out .exit)) (now (begins .exit)) r ⌝ }
-{
-    let mut inverses = [0.0; 1024];
-    let mut boxes = [0.0; 384];
-    let mut drawn = [0u32; 64];
-    checked_drawing(
-        threshold,
-        numbers,
-        marks,
-        points,
-        starts,
-        owners,
-        view,
-        out,
-        begins,
-        work,
-        work_starts,
-        chopped,
-        chopped_starts,
-        node_boxes,
-        node_marks,
-        order,
-        &mut inverses,
-        &mut boxes,
-        &mut drawn,
-    )
-}
-
-// The same of any scene, with local arrays for 1,024 entries.
-fn full_drawing(
+// The same, with local arrays for what the check leaves: small ones where they suffice, since they are cleared at each draw.
+fn drawing(
     threshold: f64,
     numbers: &[f64],
     marks: &[u32],
@@ -150,6 +102,32 @@ fn full_drawing(
 ) -> Counts
     ensures { λ r. ⌜ EndsBoth (drawWithIn threshold (now (numbers .entry)) (now (marks .entry)) (now (points .entry)) (now (starts .entry)) (now (owners .entry)) view (now (out .entry)) (now (begins .entry)) (now (work .entry)) (now («work_starts» .entry)) (now (chopped .entry)) (now («chopped_starts» .entry)) (now («node_boxes» .entry)) (now («node_marks» .entry)) (now (order .entry))) (now (out .exit)) (now (begins .exit)) r ⌝ }
 {
+    if marks.len() <= 256 {
+        let mut inverses = [0.0; 1024];
+        let mut boxes = [0.0; 384];
+        let mut drawn = [0u32; 64];
+        return checked_drawing(
+            threshold,
+            numbers,
+            marks,
+            points,
+            starts,
+            owners,
+            view,
+            out,
+            begins,
+            work,
+            work_starts,
+            chopped,
+            chopped_starts,
+            node_boxes,
+            node_marks,
+            order,
+            &mut inverses,
+            &mut boxes,
+            &mut drawn,
+        );
+    }
     let mut inverses = [0.0; 16384];
     let mut boxes = [0.0; 6144];
     let mut drawn = [0u32; 1024];
@@ -174,94 +152,6 @@ fn full_drawing(
         &mut boxes,
         &mut drawn,
     )
-}
-
-// The same, with the smaller arrays where they suffice.
-fn drawing(
-    threshold: f64,
-    numbers: &[f64],
-    marks: &[u32],
-    points: &[f64],
-    starts: &[usize],
-    owners: &[u32],
-    view: View,
-    out: &mut [f64],
-    begins: &mut [usize],
-    work: &mut [f64],
-    work_starts: &mut [usize],
-    chopped: &mut [f64],
-    chopped_starts: &mut [usize],
-    node_boxes: &mut [f64],
-    node_marks: &mut [u32],
-    order: &mut [u32],
-) -> Counts
-    ensures { λ r. ⌜ EndsBoth (drawWithIn threshold (now (numbers .entry)) (now (marks .entry)) (now (points .entry)) (now (starts .entry)) (now (owners .entry)) view (now (out .entry)) (now (begins .entry)) (now (work .entry)) (now («work_starts» .entry)) (now (chopped .entry)) (now («chopped_starts» .entry)) (now («node_boxes» .entry)) (now («node_marks» .entry)) (now (order .entry))) (now (out .exit)) (now (begins .exit)) r ⌝ }
-{
-    if marks.len() <= 256 {
-        return small_drawing(
-            threshold,
-            numbers,
-            marks,
-            points,
-            starts,
-            owners,
-            view,
-            out,
-            begins,
-            work,
-            work_starts,
-            chopped,
-            chopped_starts,
-            node_boxes,
-            node_marks,
-            order,
-        );
-    }
-    full_drawing(
-        threshold,
-        numbers,
-        marks,
-        points,
-        starts,
-        owners,
-        view,
-        out,
-        begins,
-        work,
-        work_starts,
-        chopped,
-        chopped_starts,
-        node_boxes,
-        node_marks,
-        order,
-    )
-}
-
-// The work slices are left as zeros.
-pub fn clear_work(
-    work: &mut [f64],
-    work_starts: &mut [usize],
-    chopped: &mut [f64],
-    chopped_starts: &mut [usize],
-    node_boxes: &mut [f64],
-    node_marks: &mut [u32],
-    order: &mut [u32],
-)
-    ensures { λ _. ⌜ Zeroed zeroF (now (work .entry)) (now (work .exit)) ⌝ }
-    ensures { λ _. ⌜ Zeroed 0 (now («work_starts» .entry)) (now («work_starts» .exit)) ⌝ }
-    ensures { λ _. ⌜ Zeroed zeroF (now (chopped .entry)) (now (chopped .exit)) ⌝ }
-    ensures { λ _. ⌜ Zeroed 0 (now («chopped_starts» .entry)) (now («chopped_starts» .exit)) ⌝ }
-    ensures { λ _. ⌜ Zeroed zeroF (now («node_boxes» .entry)) (now («node_boxes» .exit)) ⌝ }
-    ensures { λ _. ⌜ Zeroed 0 (now («node_marks» .entry)) (now («node_marks» .exit)) ⌝ }
-    ensures { λ _. ⌜ Zeroed 0 (now (order .entry)) (now (order .exit)) ⌝ }
-{
-    rows::clear(work, 0);
-    rows::clear_starts(work_starts, 0);
-    rows::clear(chopped, 0);
-    rows::clear_starts(chopped_starts, 0);
-    rows::clear(node_boxes, 0);
-    rows::clear_marks(node_marks, 0);
-    rows::clear_marks(order, 0);
 }
 
 // A scene drawn for a view and simplified with a threshold, in `out` and `begins`, or why it is refused;
@@ -312,7 +202,7 @@ pub fn draw_with(
         node_marks,
         order,
     );
-    clear_work(
+    draw_clear::clear_work(
         work,
         work_starts,
         chopped,
@@ -322,51 +212,4 @@ pub fn draw_with(
         order,
     );
     paths::finish(out, begins, r)
-}
-
-// The same by default: a coarse sheet, simplified with 1e-4.
-pub fn draw(
-    numbers: &[f64],
-    marks: &[u32],
-    points: &[f64],
-    starts: &[usize],
-    owners: &[u32],
-    view: View,
-    out: &mut [f64],
-    begins: &mut [usize],
-    work: &mut [f64],
-    work_starts: &mut [usize],
-    chopped: &mut [f64],
-    chopped_starts: &mut [usize],
-    node_boxes: &mut [f64],
-    node_marks: &mut [u32],
-    order: &mut [u32],
-) -> Counts
-    ensures { λ r. ⌜ Finished (drawIn (now (numbers .entry)) (now (marks .entry)) (now (points .entry)) (now (starts .entry)) (now (owners .entry)) view (now (out .entry)) (now (begins .entry)) (now (work .entry)) (now («work_starts» .entry)) (now (chopped .entry)) (now («chopped_starts» .entry)) (now («node_boxes» .entry)) (now («node_marks» .entry)) (now (order .entry))) (length (now (out .entry))) (length (now (begins .entry))) (now (out .exit)) (now (begins .exit)) r ⌝ }
-    ensures { λ _. ⌜ Zeroed zeroF (now (work .entry)) (now (work .exit)) ⌝ }
-    ensures { λ _. ⌜ Zeroed 0 (now («work_starts» .entry)) (now («work_starts» .exit)) ⌝ }
-    ensures { λ _. ⌜ Zeroed zeroF (now (chopped .entry)) (now (chopped .exit)) ⌝ }
-    ensures { λ _. ⌜ Zeroed 0 (now («chopped_starts» .entry)) (now («chopped_starts» .exit)) ⌝ }
-    ensures { λ _. ⌜ Zeroed zeroF (now («node_boxes» .entry)) (now («node_boxes» .exit)) ⌝ }
-    ensures { λ _. ⌜ Zeroed 0 (now («node_marks» .entry)) (now («node_marks» .exit)) ⌝ }
-    ensures { λ _. ⌜ Zeroed 0 (now (order .entry)) (now (order .exit)) ⌝ }
-{
-    draw_with(
-        1e-4,
-        numbers,
-        marks,
-        points,
-        starts,
-        owners,
-        view,
-        out,
-        begins,
-        work,
-        work_starts,
-        chopped,
-        chopped_starts,
-        node_boxes,
-        node_marks,
-        order,
-    )
 }

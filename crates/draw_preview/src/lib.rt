@@ -125,7 +125,7 @@ pub fn preview(
         node_marks,
         order,
     );
-    draw::clear_work(
+    draw_clear::clear_work(
         work,
         work_starts,
         chopped,

@@ -1,9 +1,8 @@
 // The inverse of a matrix, with the determinant that it divides by (matrix.rs).
 ghost use mathlib.Core.Path.{_≡_};
-ghost use Rattle.matrix.specs.Matrices.{row0, row1, row2, row3};
+ghost use Rattle.floats.specs.Arith.{_⊕_, _⊖_, _⊗_, _⊘_};
 ghost use Rattle.matrix_inverse.specs.Inverses as Inverses;
 use matrix::Matrix;
-use matrix::Row;
 
 // An inverse, and the determinant that it was divided by.
 pub struct Inverted {
@@ -14,154 +13,108 @@ pub struct Inverted {
 pub fn determinant(m: Matrix) -> f64
     ensures { λ r. ⌜ r ≡ Inverses.determinant m ⌝ }
 {
-    let a = m;
-    a.x00 * a.x11 * a.x22 * a.x33 - a.x00 * a.x11 * a.x23 * a.x32 + a.x00 * a.x12 * a.x23 * a.x31
-        - a.x00 * a.x12 * a.x21 * a.x33
-        + a.x00 * a.x13 * a.x21 * a.x32
-        - a.x00 * a.x13 * a.x22 * a.x31
-        - a.x01 * a.x12 * a.x23 * a.x30
-        + a.x01 * a.x12 * a.x20 * a.x33
-        - a.x01 * a.x13 * a.x20 * a.x32
-        + a.x01 * a.x13 * a.x22 * a.x30
-        - a.x01 * a.x10 * a.x22 * a.x33
-        + a.x01 * a.x10 * a.x23 * a.x32
-        + a.x02 * a.x13 * a.x20 * a.x31
-        - a.x02 * a.x13 * a.x21 * a.x30
-        + a.x02 * a.x10 * a.x21 * a.x33
-        - a.x02 * a.x10 * a.x23 * a.x31
-        + a.x02 * a.x11 * a.x23 * a.x30
-        - a.x02 * a.x11 * a.x20 * a.x33
-        - a.x03 * a.x10 * a.x21 * a.x32
-        + a.x03 * a.x10 * a.x22 * a.x31
-        - a.x03 * a.x11 * a.x22 * a.x30
-        + a.x03 * a.x11 * a.x20 * a.x32
-        - a.x03 * a.x12 * a.x20 * a.x31
-        + a.x03 * a.x12 * a.x21 * a.x30
+    let x00 = m.x00;
+    let x01 = m.x01;
+    let x02 = m.x02;
+    let x03 = m.x03;
+    let x10 = m.x10;
+    let x11 = m.x11;
+    let x12 = m.x12;
+    let x13 = m.x13;
+    let x20 = m.x20;
+    let x21 = m.x21;
+    let x22 = m.x22;
+    let x23 = m.x23;
+    let x30 = m.x30;
+    let x31 = m.x31;
+    let x32 = m.x32;
+    let x33 = m.x33;
+    x00 * x11 * x22 * x33 - x00 * x11 * x23 * x32 + x00 * x12 * x23 * x31 - x00 * x12 * x21 * x33
+        + x00 * x13 * x21 * x32
+        - x00 * x13 * x22 * x31
+        - x01 * x12 * x23 * x30
+        + x01 * x12 * x20 * x33
+        - x01 * x13 * x20 * x32
+        + x01 * x13 * x22 * x30
+        - x01 * x10 * x22 * x33
+        + x01 * x10 * x23 * x32
+        + x02 * x13 * x20 * x31
+        - x02 * x13 * x21 * x30
+        + x02 * x10 * x21 * x33
+        - x02 * x10 * x23 * x31
+        + x02 * x11 * x23 * x30
+        - x02 * x11 * x20 * x33
+        - x03 * x10 * x21 * x32
+        + x03 * x10 * x22 * x31
+        - x03 * x11 * x22 * x30
+        + x03 * x11 * x20 * x32
+        - x03 * x12 * x20 * x31
+        + x03 * x12 * x21 * x30
 }
 
-// The rows of the adjugate over d: by themselves, since the check of a function grows faster than it.
-fn adjugate_row0(m: Matrix, d: f64) -> Row
-    ensures { λ r. ⌜ r ≡ row0 (Inverses.adjugateOver m d) ⌝ }
+// A cofactor over d, of the nine numbers p to x that are left, row by row: where row and column are both even or both odd.
+fn cofactor(p: f64, q: f64, r: f64, s: f64, t: f64, u: f64, v: f64, w: f64, x: f64, d: f64) -> f64
+    ensures { λ y. ⌜ y ≡ (q ⊗ u ⊗ v ⊖ r ⊗ t ⊗ v ⊕ r ⊗ s ⊗ w ⊖ p ⊗ u ⊗ w ⊖ q ⊗ s ⊗ x ⊕ p ⊗ t ⊗ x) ⊘ d ⌝ }
 {
-    let a = m;
-    Row {
-        a: (a.x12 * a.x23 * a.x31 - a.x13 * a.x22 * a.x31 + a.x13 * a.x21 * a.x32
-            - a.x11 * a.x23 * a.x32
-            - a.x12 * a.x21 * a.x33
-            + a.x11 * a.x22 * a.x33)
-            / d,
-        b: (a.x03 * a.x22 * a.x31 - a.x02 * a.x23 * a.x31 - a.x03 * a.x21 * a.x32
-            + a.x01 * a.x23 * a.x32
-            + a.x02 * a.x21 * a.x33
-            - a.x01 * a.x22 * a.x33)
-            / d,
-        c: (a.x02 * a.x13 * a.x31 - a.x03 * a.x12 * a.x31 + a.x03 * a.x11 * a.x32
-            - a.x01 * a.x13 * a.x32
-            - a.x02 * a.x11 * a.x33
-            + a.x01 * a.x12 * a.x33)
-            / d,
-        d: (a.x03 * a.x12 * a.x21 - a.x02 * a.x13 * a.x21 - a.x03 * a.x11 * a.x22
-            + a.x01 * a.x13 * a.x22
-            + a.x02 * a.x11 * a.x23
-            - a.x01 * a.x12 * a.x23)
-            / d,
-    }
+    (q * u * v - r * t * v + r * s * w - p * u * w - q * s * x + p * t * x) / d
 }
 
-fn adjugate_row1(m: Matrix, d: f64) -> Row
-    ensures { λ r. ⌜ r ≡ row1 (Inverses.adjugateOver m d) ⌝ }
+// The same elsewhere: the other sign, in the order in which the Rust writes it.
+fn other_cofactor(
+    p: f64,
+    q: f64,
+    r: f64,
+    s: f64,
+    t: f64,
+    u: f64,
+    v: f64,
+    w: f64,
+    x: f64,
+    d: f64,
+) -> f64
+    ensures { λ y. ⌜ y ≡ (r ⊗ t ⊗ v ⊖ q ⊗ u ⊗ v ⊖ r ⊗ s ⊗ w ⊕ p ⊗ u ⊗ w ⊕ q ⊗ s ⊗ x ⊖ p ⊗ t ⊗ x) ⊘ d ⌝ }
 {
-    let a = m;
-    Row {
-        a: (a.x13 * a.x22 * a.x30 - a.x12 * a.x23 * a.x30 - a.x13 * a.x20 * a.x32
-            + a.x10 * a.x23 * a.x32
-            + a.x12 * a.x20 * a.x33
-            - a.x10 * a.x22 * a.x33)
-            / d,
-        b: (a.x02 * a.x23 * a.x30 - a.x03 * a.x22 * a.x30 + a.x03 * a.x20 * a.x32
-            - a.x00 * a.x23 * a.x32
-            - a.x02 * a.x20 * a.x33
-            + a.x00 * a.x22 * a.x33)
-            / d,
-        c: (a.x03 * a.x12 * a.x30 - a.x02 * a.x13 * a.x30 - a.x03 * a.x10 * a.x32
-            + a.x00 * a.x13 * a.x32
-            + a.x02 * a.x10 * a.x33
-            - a.x00 * a.x12 * a.x33)
-            / d,
-        d: (a.x02 * a.x13 * a.x20 - a.x03 * a.x12 * a.x20 + a.x03 * a.x10 * a.x22
-            - a.x00 * a.x13 * a.x22
-            - a.x02 * a.x10 * a.x23
-            + a.x00 * a.x12 * a.x23)
-            / d,
-    }
-}
-
-fn adjugate_row2(m: Matrix, d: f64) -> Row
-    ensures { λ r. ⌜ r ≡ row2 (Inverses.adjugateOver m d) ⌝ }
-{
-    let a = m;
-    Row {
-        a: (a.x11 * a.x23 * a.x30 - a.x13 * a.x21 * a.x30 + a.x13 * a.x20 * a.x31
-            - a.x10 * a.x23 * a.x31
-            - a.x11 * a.x20 * a.x33
-            + a.x10 * a.x21 * a.x33)
-            / d,
-        b: (a.x03 * a.x21 * a.x30 - a.x01 * a.x23 * a.x30 - a.x03 * a.x20 * a.x31
-            + a.x00 * a.x23 * a.x31
-            + a.x01 * a.x20 * a.x33
-            - a.x00 * a.x21 * a.x33)
-            / d,
-        c: (a.x01 * a.x13 * a.x30 - a.x03 * a.x11 * a.x30 + a.x03 * a.x10 * a.x31
-            - a.x00 * a.x13 * a.x31
-            - a.x01 * a.x10 * a.x33
-            + a.x00 * a.x11 * a.x33)
-            / d,
-        d: (a.x03 * a.x11 * a.x20 - a.x01 * a.x13 * a.x20 - a.x03 * a.x10 * a.x21
-            + a.x00 * a.x13 * a.x21
-            + a.x01 * a.x10 * a.x23
-            - a.x00 * a.x11 * a.x23)
-            / d,
-    }
-}
-
-fn adjugate_row3(m: Matrix, d: f64) -> Row
-    ensures { λ r. ⌜ r ≡ row3 (Inverses.adjugateOver m d) ⌝ }
-{
-    let a = m;
-    Row {
-        a: (a.x12 * a.x21 * a.x30 - a.x11 * a.x22 * a.x30 - a.x12 * a.x20 * a.x31
-            + a.x10 * a.x22 * a.x31
-            + a.x11 * a.x20 * a.x32
-            - a.x10 * a.x21 * a.x32)
-            / d,
-        b: (a.x01 * a.x22 * a.x30 - a.x02 * a.x21 * a.x30 + a.x02 * a.x20 * a.x31
-            - a.x00 * a.x22 * a.x31
-            - a.x01 * a.x20 * a.x32
-            + a.x00 * a.x21 * a.x32)
-            / d,
-        c: (a.x02 * a.x11 * a.x30 - a.x01 * a.x12 * a.x30 - a.x02 * a.x10 * a.x31
-            + a.x00 * a.x12 * a.x31
-            + a.x01 * a.x10 * a.x32
-            - a.x00 * a.x11 * a.x32)
-            / d,
-        d: (a.x01 * a.x12 * a.x20 - a.x02 * a.x11 * a.x20 + a.x02 * a.x10 * a.x21
-            - a.x00 * a.x12 * a.x21
-            - a.x01 * a.x10 * a.x22
-            + a.x00 * a.x11 * a.x22)
-            / d,
-    }
+    (r * t * v - q * u * v - r * s * w + p * u * w + q * s * x - p * t * x) / d
 }
 
 // The cofactors, transposed, each over d.
 fn adjugate_over(m: Matrix, d: f64) -> Matrix
     ensures { λ r. ⌜ r ≡ Inverses.adjugateOver m d ⌝ }
 {
-    Matrix::of_rows(
-        adjugate_row0(m, d),
-        adjugate_row1(m, d),
-        adjugate_row2(m, d),
-        adjugate_row3(m, d),
-    )
+    let x00 = m.x00;
+    let x01 = m.x01;
+    let x02 = m.x02;
+    let x03 = m.x03;
+    let x10 = m.x10;
+    let x11 = m.x11;
+    let x12 = m.x12;
+    let x13 = m.x13;
+    let x20 = m.x20;
+    let x21 = m.x21;
+    let x22 = m.x22;
+    let x23 = m.x23;
+    let x30 = m.x30;
+    let x31 = m.x31;
+    let x32 = m.x32;
+    let x33 = m.x33;
+    Matrix {
+        x00: cofactor(x11, x12, x13, x21, x22, x23, x31, x32, x33, d),
+        x01: other_cofactor(x01, x02, x03, x21, x22, x23, x31, x32, x33, d),
+        x02: cofactor(x01, x02, x03, x11, x12, x13, x31, x32, x33, d),
+        x03: other_cofactor(x01, x02, x03, x11, x12, x13, x21, x22, x23, d),
+        x10: other_cofactor(x10, x12, x13, x20, x22, x23, x30, x32, x33, d),
+        x11: cofactor(x00, x02, x03, x20, x22, x23, x30, x32, x33, d),
+        x12: other_cofactor(x00, x02, x03, x10, x12, x13, x30, x32, x33, d),
+        x13: cofactor(x00, x02, x03, x10, x12, x13, x20, x22, x23, d),
+        x20: cofactor(x10, x11, x13, x20, x21, x23, x30, x31, x33, d),
+        x21: other_cofactor(x00, x01, x03, x20, x21, x23, x30, x31, x33, d),
+        x22: cofactor(x00, x01, x03, x10, x11, x13, x30, x31, x33, d),
+        x23: other_cofactor(x00, x01, x03, x10, x11, x13, x20, x21, x23, d),
+        x30: other_cofactor(x10, x11, x12, x20, x21, x22, x30, x31, x32, d),
+        x31: cofactor(x00, x01, x02, x20, x21, x22, x30, x31, x32, d),
+        x32: other_cofactor(x00, x01, x02, x10, x11, x12, x30, x31, x32, d),
+        x33: cofactor(x00, x01, x02, x10, x11, x12, x20, x21, x22, d),
+    }
 }
 
 // The inverse, with the determinant that it divides by: one call answers both.

@@ -1,8 +1,8 @@
-use Rattle.draw.proofs.Endings.{cleared}
+use Rattle.draw_clear.proofs.Clearing.{cleared}
 use Rattle.floats.specs.Arith.{zeroF}
 use borrow.Author.Needs.{needs}
-use Rattle.draw.proofs.clear_work.Statement.{statement}
-use Rattle.draw.proofs.clear_work.Tie as tie
+use Rattle.draw_clear.proofs.clear_work.Statement.{statement}
+use Rattle.draw_clear.proofs.clear_work.Tie as tie
 
 returns : tie.Need-returns
 returns c =

@@ -1,5 +1,5 @@
-use Rattle.draw.proofs.draw.Statement.{statement}
-use Rattle.draw.proofs.draw.Tie as tie
+use Rattle.draw_coarse.proofs.draw.Statement.{statement}
+use Rattle.draw_coarse.proofs.draw.Tie as tie
 
 -- the call, from the end
 abbrev drawn : tie.After-slice-known18 → tie.After-draw-with
