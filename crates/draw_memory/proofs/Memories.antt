@@ -1,16 +1,18 @@
 -- What is kept of the ends of paths: at first nothing, then what the test makes of each. Assumes nothing.
 use mathlib.Core.Path.{_≡_, refl, sym, ap, _∙_, subst}
-use mathlib.Core.Bool.{Bool, true, false}
+use mathlib.Core.Bool.{Bool, true, false, cond}
 use mathlib.Core.List.{List}
-use Prim.Native.Nat.{ℕ, _+_, _*_, _%_, _≤_, _<_}
+use Prim.Native.Nat.{ℕ, suc, _+_, _-_, _*_, _%_, _≤_, _<_}
 use native.Mathlib.Omega.{arith}
 use native.Mathlib.Nat.{mod-lt}
 use borrow.Author.Tests.{eqb-true, eqb-false}
 use lib.Dec.{T, eqb}
 use lib.ListN.{length, getD, set, replicate, length-set, getD-replicate}
 use lib.Seq.{getD-set-same, getD-set-other}
-use lib.Ieee.{Float, binary64, fits, ofBits, toBits}
+use lib.Ieee.{Float, nan, inf, fin, eq, binary64, fits, ofBits, toBits}
 use lib.Ieee.Bits.{ofBits-toBits}
+use Rattle.floats.specs.Numbers.{number}
+use Rattle.floats.proofs.Tests.{eq-self}
 use Rattle.geometry.specs.declared.vector.Vector.{Vector}
 use Rattle.geometry.specs.Vectors.{vec}
 use Rattle.rows.specs.Rows.{row, setRow}
@@ -18,7 +20,7 @@ use Rattle.rows.specs.Points.{pointOf, pointRow}
 use Rattle.rows.proofs.Rows.{row-same, row-other, length-setRow}
 use Rattle.path_filter.specs.declared.Test.{Test}
 use Rattle.path_filter.specs.declared.Test.the-variants.{Keep, Drop, Refused}
-use Rattle.draw_memory.specs.Memory.{outcomeOf, nextPlace, Recalled, Remembered}
+use Rattle.draw_memory.specs.Memory.{outcomeOf, nextPlace, sameNumber, samePoint, recalledFrom, recalled, Recalled, Remembered}
 
 pub one-pattern : (a b : Float) → T (fits binary64 a) → T (fits binary64 b) → toBits binary64 a ≡ toBits binary64 b → a ≡ b
 one-pattern a b f g e = sym (ofBits-toBits binary64 a f) ∙ ap (ofBits binary64) e ∙ ofBits-toBits binary64 b g
@@ -26,6 +28,51 @@ one-pattern a b f g e = sym (ofBits-toBits binary64 a f) ∙ ap (ofBits binary64
 pub one-point : (a b : Vector) → a .x ≡ b .x → a .y ≡ b .y → a .z ≡ b .z → a ≡ b
 one-point a b e f g = ap (λ (x : Float). vec x (a .y) (a .z)) e ∙ ap (λ (y : Float). vec (b .x) y (a .z)) f ∙ ap (λ (z : Float). vec (b .x) (b .y) z) g
 
+-- ---- one and the same number
+self-number : (x : Float) → eq x x ≡ number x
+unfolding eq
+self-number nan = refl
+self-number (inf s) = eq-self (inf s) tt
+self-number (fin s m e) = eq-self (fin s m e) tt
+
+module _ (a b : Float) where
+  pub same-not : eq a a ≡ false → false ≡ sameNumber a b
+  unfolding sameNumber
+  same-not h = rw (sym (self-number a) ∙ h)
+
+  module _ (h : eq a a ≡ true) where
+    pub same-not-2 : eq b b ≡ false → false ≡ sameNumber a b
+    unfolding sameNumber
+    same-not-2 k = rw (sym (self-number a) ∙ h, sym (self-number b) ∙ k)
+
+    pub same-by-bits : eq b b ≡ true → eqb (toBits binary64 a) (toBits binary64 b) ≡ sameNumber a b
+    unfolding sameNumber
+    same-by-bits k = rw (sym (self-number a) ∙ h, sym (self-number b) ∙ k)
+
+-- ---- the places one after the other: what is left of them tells what all tell
+module _ (ends : List Float) (known : List ℕ) (v : Vector) (k : ℕ) (e : recalledFrom ends known v (8 - k) k ≡ recalled ends known v) where
+  pub recall-none : 8 ≤ k → 2 ≡ recalled ends known v
+  unfolding recalledFrom
+  recall-none l = let z : 8 - k ≡ 0 = omega arith in rw z at e
+
+  module _ (l : k < 8) (p : Vector) (ep : p ≡ pointOf (row 3 k ends)) (t : Bool) (et : t ≡ samePoint p v) where
+    opened : cond t (getD known k 0) (recalledFrom ends known v (8 - (k + 1)) (k + 1)) ≡ recalled ends known v
+    unfolding recalledFrom
+    opened =
+        let z : 8 - k ≡ suc (8 - (k + 1)) = omega arith in
+        rw (et, ep) (rw z at e)
+
+    pub recall-found : t ≡ true → getD known k 0 ≡ recalled ends known v
+    recall-found h = rw h at opened
+
+    pub recall-next : t ≡ false → recalledFrom ends known v (8 - (k + 1)) (k + 1) ≡ recalled ends known v
+    recall-next h = rw h at opened
+
+pub recall-start : (ends : List Float) (known : List ℕ) (v : Vector) → recalledFrom ends known v 8 0 ≡ recalled ends known v
+unfolding recalled
+recall-start ends known v = refl
+
+-- ---- what is kept
 pub outcome-dropped : (t : Test) → outcomeOf t ≡ 0 → t ≡ Drop
 unfolding outcomeOf
 outcome-dropped Drop e = refl

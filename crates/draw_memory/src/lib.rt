@@ -5,12 +5,13 @@ ghost use Prim.Native.Nat.{_+_, _<_};
 ghost use lib.ListN.{length, set};
 ghost use Rattle.rows.specs.Rows.{setRow};
 ghost use Rattle.rows.specs.Points.{pointRow};
-ghost use Rattle.draw_memory.specs.Memory.{outcomeOf, nextPlace, Recalled};
+ghost use Rattle.draw_memory.specs.Memory.{outcomeOf, nextPlace, sameNumber, samePoint, recalled, Recalled};
 use geometry::vector::Vector;
 use path_filter::Test;
 
 // Whether two numbers are one and the same: == would take -0 for +0, which can turn a ray's zero.
 fn same_bits(a: f64, b: f64) -> bool
+    ensures { λ r. ⌜ r ≡ sameNumber a b ⌝ }
     ensures { λ r. ⌜ (r ≡ true → a ≡ b) ⌝ }
 {
     if a == a {
@@ -22,6 +23,7 @@ fn same_bits(a: f64, b: f64) -> bool
 }
 
 fn same_point(a: Vector, b: Vector) -> bool
+    ensures { λ r. ⌜ r ≡ samePoint a b ⌝ }
     ensures { λ r. ⌜ (r ≡ true → a ≡ b) ⌝ }
 {
     if !same_bits(a.x, b.x) {
@@ -34,8 +36,10 @@ fn same_point(a: Vector, b: Vector) -> bool
 }
 
 // What is known of a point from the ends of earlier paths: 0 that it is dropped, 1 that it is kept, 2 nothing.
+// Numbers in slices are binary64, so that ends with the bits of v are v.
 pub fn recall(ends: &[f64], known: &[u32], v: Vector) -> u32
     requires { ⌜ (length (now ends) ≡ 24) × (length (now known) ≡ 9) ⌝ }
+    ensures { λ r. ⌜ r ≡ recalled (now (ends .entry)) (now (known .entry)) v ⌝ }
     ensures { λ r. ⌜ (r < 2 → Recalled (now (ends .entry)) (now (known .entry)) v r) ⌝ }
 {
     let mut k = 0usize;

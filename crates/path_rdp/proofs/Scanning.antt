@@ -22,7 +22,7 @@ use Rattle.geometry.specs.declared.vector.Vector.{Vector}
 use Rattle.paths.specs.Ends.{nowhere}
 use Rattle.path_rdp.specs.declared.Far.{Far}
 use Rattle.path_rdp.specs.declared.Peak.{Peak}
-use Rattle.path_rdp.specs.Rdp.{vertex, firstVertex, lastVertex, farther, farthestFrom, nothingYet, farthestOf, Tops, Peaks}
+use Rattle.path_rdp.specs.Rdp.{vertex, firstVertex, lastVertex, farther, farthestFrom, nothingYet, farthestOf, higher, peakFrom, noPeak, peakOf}
 
 -- ---- the loop: what is left of it finds what the whole does
 pub record Scanning (p : List Vector) (f : Far) (i : ℕ) : Type 0 where
@@ -66,6 +66,14 @@ stays f i s q r e = by (lt (f .distance) (sqrtOf q)) (λ (t : T (lt (f .distance
     by false k = refl
 
 -- ---- the greatest square and the next lower one
+-- what the peak tells of the farthest f: its distance is the root of the greatest square, and its place that square's, unless the next lower
+-- square has the same root
+record Tops (f : Far) (k : Peak) : Type 0 where
+  pub fair : T (le zeroF (k .square))
+  pub most : T (le (f .distance) (sqrtOf (k .square)))
+  pub least : T (le (sqrtOf (k .square)) (f .distance))
+  pub first : (f ≡ record { index = k .index; distance = sqrtOf (k .square) }) ⊎ ((0 < k .index) × (lt (sqrtOf (k .lower)) (sqrtOf (k .square)) ≡ false))
+
 not-so : (b : Bool) → (T b → T false) → b ≡ false
 not-so true n = absurd (n tt)
 not-so false n = refl
@@ -123,53 +131,80 @@ module _ (f : Far) (k : Peak) (h : Tops f k) (i : ℕ) (q : Float) where
         first = inr (l, not-so (lt (sqrtOf (k .square)) (sqrtOf q)) (λ (s : T (lt (sqrtOf (k .square)) (sqrtOf q))). subst T t (le-lt-trans (f .distance) (sqrtOf (k .square)) (sqrtOf q) (h .most) s)));
       }
 
--- ---- the loop over squares
-pub record Peaking (p : List Vector) (i index : ℕ) (square lower : Float) : Type 0 where
-  pub far : Far
-  pub scanned : Scanning p far i
-  pub inside : 0 < i
-  pub tops : Tops far (topped index square lower)
+tops-next : (f : Far) (k : Peak) → Tops f k → (i : ℕ) → 0 < i → (q : Float) → Tops (farther f i (sqrtOf q)) (higher k i q)
+unfolding higher
+tops-next f k h i l q = by (lt (k .square) q) refl
+  where
+    by : (t : Bool) → lt (k .square) q ≡ t → Tops (farther f i (sqrtOf q)) (cond t (topped i q (k .square)) k)
+    by true e = tops-turn f k h i q l e
+    by false e = subst (λ (g : Far). Tops g k) (tops-stays f k h i q e) h
+
+module _ (a b : Vector) where
+  tops-from : (i : ℕ) (vs : List Vector) (f : Far) (k : Peak) → 0 < i → Tops f k → Tops (farthestFrom a b i vs f) (peakFrom a b i vs k)
+  unfolding farthestFrom peakFrom
+  tops-from i [] f k l h = h
+  tops-from i (v ∷ vs) f k l h =
+      tops-from (i + 1) vs (farther f i (segmentDistance v a b)) (higher k i (segmentSquare v a b)) (omega arith)
+      (rw (segment-root v a b) (tops-next f k h i l (segmentSquare v a b)))
+
+peak-tops : (p : List Vector) → Tops (farthestOf p) (peakOf p)
+unfolding farthestOf peakOf
+peak-tops p = tops-from (firstVertex p) (lastVertex p) 1 (slice 1 (length p - 1) p) nothingYet noPeak (omega arith) tops-start
+
+-- ---- the loop over squares: what is left of it finds what the whole does
+pub record Peaking (p : List Vector) (k : Peak) (i : ℕ) : Type 0 where
+  pub upto : i + 1 ≤ length p
+  pub left : peakFrom (firstVertex p) (lastVertex p) i (slice i (length p - 1) p) k ≡ peakOf p
 
 module _ (p : List Vector) where
-  pub peaking-start : 2 ≤ length p → Peaking p 1 0 zeroF zeroF
-  peaking-start h = record { far = nothingYet; scanned = scanning-start p h; inside = omega arith; tops = tops-start }
+  pub peaking-start : 2 ≤ length p → Peaking p noPeak 1
+  unfolding peakOf
+  peaking-start h = record { upto = h; left = refl }
 
-  module _ (i index : ℕ) (square lower : Float) (h : Peaking p i index square lower) where
+  module _ (k : Peak) (i : ℕ) (h : Peaking p k i) where
     module _ (v a b : Vector) (q : Float) (l : i + 1 < length p) (ea : a ≡ firstVertex p) (eb : b ≡ lastVertex p) (ev : v ≡ vertex p i) (eq : q ≡ segmentSquare v a b) where
-      pub peaking-stays : lt square q ≡ false → Peaking p (i + 1) index square lower
-      peaking-stays e = record {
-        far = h .far;
-        scanned = scanning-turn p (h .far) i (h .scanned) v a b q (h .far) l ea eb ev eq (tops-stays (h .far) (topped index square lower) (h .tops) i q e);
-        inside = omega arith;
-        tops = h .tops;
-      }
+      turn : (g : Peak) → g ≡ higher k i q → Peaking p g (i + 1)
+      unfolding peakFrom
+      turn g eg =
+          let s : slice i (length p - 1) p ≡ vertex p i ∷ slice (i + 1) (length p - 1) p = rw add-one (slice-cons i (length p - 1) p nowhere (omega arith) (omega arith)) in
+          let e : peakFrom (firstVertex p) (lastVertex p) i (slice i (length p - 1) p) k
+          ≡ peakFrom (firstVertex p) (lastVertex p) (i + 1) (slice (i + 1) (length p - 1) p) (higher k i (segmentSquare (vertex p i) (firstVertex p) (lastVertex p)))
+          = ap (λ (t : List Vector). peakFrom (firstVertex p) (lastVertex p) i t k) s in
+          let t : g ≡ higher k i (segmentSquare (vertex p i) (firstVertex p) (lastVertex p)) = rw (eg, eq, ea, eb, ev) in
+          record { upto = omega arith; left = rw t (sym e ∙ h .left) }
 
-      pub peaking-turn : lt square q ≡ true → Peaking p (i + 1) i q square
-      peaking-turn e = record {
-        far = farther (h .far) i (sqrtOf q);
-        scanned = scanning-turn p (h .far) i (h .scanned) v a b q (farther (h .far) i (sqrtOf q)) l ea eb ev eq refl;
-        inside = omega arith;
-        tops = tops-turn (h .far) (topped index square lower) (h .tops) i q (h .inside) e;
-      }
+      pub peaking-stays : lt (k .square) q ≡ false → Peaking p k (i + 1)
+      unfolding higher
+      peaking-stays e = turn k (rw e)
 
-    pub peaking-end : length p ≤ i + 1 → Peaks p (topped index square lower)
-    peaking-end l = subst (λ (f : Far). Tops f (topped index square lower)) (scanning-end p (h .far) i (h .scanned) l) (h .tops)
+      pub peaking-turn : lt (k .square) q ≡ true → Peaking p (topped i q (k .square)) (i + 1)
+      unfolding higher
+      peaking-turn e = turn (topped i q (k .square)) (rw e)
+
+    pub peaking-end : length p ≤ i + 1 → k ≡ peakOf p
+    unfolding peakFrom
+    peaking-end l =
+        let e : length p - 1 ≡ i = omega (arith, h .upto) in
+        sym (rw (e, slice-empty i p)) ∙ h .left
 
 -- ---- the peak is the farthest, where nothing is above 0 or the next lower root is below its own
-module _ (p : List Vector) (k : Peak) (h : Peaks p k) where
+module _ (p : List Vector) (k : Peak) (ek : k ≡ peakOf p) where
+  tops : Tops (farthestOf p) k
+  tops = rw ek (peak-tops p)
+
   module _ (d : Float) (e : d ≡ sqrtOf (k .square)) where
     at-peak : (n : ℕ) → k .index ≡ n → farthestOf p ≡ farAt (k .index) (sqrtOf (k .square)) → farAt n d ≡ farthestOf p
     at-peak n i f = rw (← i, e) (sym f)
 
     pub peak-none : (n : ℕ) → k .index ≡ n → n ≡ 0 → farAt n d ≡ farthestOf p
-    peak-none n i z = by (h .first)
+    peak-none n i z = by (tops .first)
       where
         by : (farthestOf p ≡ farAt (k .index) (sqrtOf (k .square))) ⊎ ((0 < k .index) × (lt (sqrtOf (k .lower)) (sqrtOf (k .square)) ≡ false)) → farAt n d ≡ farthestOf p
         by (inl f) = at-peak n i f
         by (inr f) = absurd (omega (arith, f .0, i, z))
 
     pub peak-first : (n : ℕ) → k .index ≡ n → (l : Float) → l ≡ sqrtOf (k .lower) → lt l d ≡ true → farAt n d ≡ farthestOf p
-    peak-first n i l el z = by (h .first)
+    peak-first n i l el z = by (tops .first)
       where
         by : (farthestOf p ≡ farAt (k .index) (sqrtOf (k .square))) ⊎ ((0 < k .index) × (lt (sqrtOf (k .lower)) (sqrtOf (k .square)) ≡ false)) → farAt n d ≡ farthestOf p
         by (inl f) = at-peak n i f
@@ -179,7 +214,7 @@ module _ (p : List Vector) (k : Peak) (h : Peaks p k) where
   pub peak-low : (t low : Float) → lt t (sqrtOf low) ≡ false → le (k .square) low ≡ true → lt t (farthestOf p .distance) ≡ false
   peak-low t low e l =
       let d = farthestOf p .distance in
-      not-so (lt t d) (λ (s : T (lt t d)). subst T e (lt-le-trans t d (sqrtOf low) s (le-trans d (sqrtOf (k .square)) (sqrtOf low) (h .most) (sqrt-mono (k .square) low (h .fair) (subst T (sym l) tt)))))
+      not-so (lt t d) (λ (s : T (lt t d)). subst T e (lt-le-trans t d (sqrtOf low) s (le-trans d (sqrtOf (k .square)) (sqrtOf low) (tops .most) (sqrt-mono (k .square) low (tops .fair) (subst T (sym l) tt)))))
 
 -- ---- where the farthest stands: nowhere new, or among the vertices scanned
 abbrev Found : ℕ → ℕ → Far → Far → Type 0

@@ -1,19 +1,16 @@
 -- Simplification by Ramer, Douglas and Peucker: of the vertices between a path's ends the first that is farthest from the segment joining them splits the
 -- path, if it is farther than the threshold; the two parts, which share it, are simplified alike and joined. Else only the ends are kept.
 -- Vertices are told apart by place.
-use mathlib.Core.Path.{_≡_}
-use mathlib.Core.Logic.{_⊎_}
 use mathlib.Core.Bool.{Bool, true, false, cond, _&&_}
 use mathlib.Core.List.{List, [], _∷_, _++_}
-use Prim.Native.Nat.{ℕ, zero, suc, _+_, _-_, _<_}
+use Prim.Native.Nat.{ℕ, zero, suc, _+_, _-_}
 use lib.ListN.{length, take, drop, getD}
 use lib.Seq.{slice}
-use lib.Dec.{T, ltb}
+use lib.Dec.{ltb}
 use lib.Ieee.{Float, lt, le}
 use lib.Ieee.Scale.{finite}
 use Rattle.floats.specs.Arith.{zeroF}
-use Rattle.sqrt.specs.Root.{sqrtOf}
-use Rattle.geometry.specs.Vectors.{segmentDistance}
+use Rattle.geometry.specs.Vectors.{segmentDistance, segmentSquare}
 use Rattle.geometry.specs.declared.vector.Vector.{Vector}
 use Rattle.paths.specs.Paths.{front}
 use Rattle.paths.specs.Ends.{nowhere}
@@ -49,16 +46,21 @@ nothingYet = record { index = 0; distance = zeroF }
 unfoldable pub farthestOf : List Vector → Far
 farthestOf p = farthestFrom (firstVertex p) (lastVertex p) 1 (slice 1 (length p - 1) p) nothingYet
 
--- what a scan of squares tells of the farthest f: its distance is the root of the greatest square, and its place that square's, unless the next lower
--- square has the same root
-pub record Tops (f : Far) (k : Peak) : Type 0 where
-  pub fair : T (le zeroF (k .square))
-  pub most : T (le (f .distance) (sqrtOf (k .square)))
-  pub least : T (le (sqrtOf (k .square)) (f .distance))
-  pub first : (f ≡ record { index = k .index; distance = sqrtOf (k .square) }) ⊎ ((0 < k .index) × (lt (sqrtOf (k .lower)) (sqrtOf (k .square)) ≡ false))
+-- the vertex at place i, the square of whose distance is q, takes over as the peak if that is greater
+unfoldable pub higher : Peak → ℕ → Float → Peak
+higher k i q = cond (lt (k .square) q) (record { index = i; square = q; lower = k .square }) k
 
-abbrev pub Peaks : List Vector → Peak → Type 0
-Peaks p k = Tops (farthestOf p) k
+-- the peak, by squares of distances from the segment a b, among k and the vertices vs, the first of which stands at place i
+unfoldable pub peakFrom : Vector → Vector → ℕ → List Vector → Peak → Peak
+peakFrom a b i [] k = k
+peakFrom a b i (v ∷ vs) k = peakFrom a b (i + 1) vs (higher k i (segmentSquare v a b))
+
+abbrev pub noPeak : Peak
+noPeak = record { index = 0; square = zeroF; lower = zeroF }
+
+-- of the vertices between a path's ends
+unfoldable pub peakOf : List Vector → Peak
+peakOf p = peakFrom (firstVertex p) (lastVertex p) 1 (slice 1 (length p - 1) p) noPeak
 
 -- split at place k, or not: the split vertex is the last of the first part and the first of the second, and is kept once
 unfoldable pub halved : (List Vector → List Vector) → List Vector → ℕ → Bool → List Vector

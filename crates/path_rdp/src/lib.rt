@@ -6,7 +6,7 @@ ghost use lib.Seq.{slice};
 ghost use Rattle.sqrt.specs.Root.{sqrtOf};
 ghost use Rattle.paths.specs.Ends.{allPoints};
 ghost use Rattle.path_rdp.specs.Rdp as Rdp;
-ghost use Rattle.path_rdp.specs.Rdp.{farthestOf, thresholdOk, Peaks};
+ghost use Rattle.path_rdp.specs.Rdp.{farthestOf, peakOf, thresholdOk};
 
 // A vertex by its place in a path, and its distance.
 pub struct Far {
@@ -76,7 +76,7 @@ fn farthest(path: &[f64], from: usize, end: usize) -> Far
 // The peak between the ends of the path from `from` up to `end`: no root is taken.
 pub fn greatest_square(path: &[f64], from: usize, end: usize) -> Peak
     requires { ⌜ (from + 3 ≤ end) × (end * 3 ≤ length (now path)) ⌝ }
-    ensures { λ r. ⌜ Peaks (slice from end (allPoints (now (path .entry)))) r ⌝ }
+    ensures { λ r. ⌜ r ≡ peakOf (slice from end (allPoints (now (path .entry)))) ⌝ }
 {
     let a = rows::read_point(path, from);
     let b = rows::read_point(path, end - 1);
@@ -107,7 +107,7 @@ pub fn greatest_square(path: &[f64], from: usize, end: usize) -> Peak
 // The first farthest vertex, where k is the peak: two roots. Only if the next lower square has the same
 // root may an earlier vertex be as far.
 pub fn settled(path: &[f64], from: usize, end: usize, k: Peak) -> Far
-    requires { ⌜ (from + 3 ≤ end) × (end * 3 ≤ length (now path)) × Peaks (slice from end (allPoints (now path))) k ⌝ }
+    requires { ⌜ (from + 3 ≤ end) × (end * 3 ≤ length (now path)) × (k ≡ peakOf (slice from end (allPoints (now path)))) ⌝ }
     ensures { λ r. ⌜ r ≡ farthestOf (slice from end (allPoints (now (path .entry)))) ⌝ }
 {
     let index = k.index;

@@ -18,7 +18,8 @@ fn read_some(file: i32, text: &mut [u8], n: usize) -> usize
 
 // Reads until the input ends, a read fails or the slice is full, and answers how far the text goes. A text
 // that could not be read to its end fills the slice, which has a byte more than a text may have: it meets
-// number 1, and is never taken in part.
+// number 1, and is never taken in part. What a read gives comes from outside: of the answer no more is promised
+// than that the slice holds so many bytes, and of the bytes nothing.
 pub fn read_text(file: i32, text: &mut [u8]) -> usize
     ensures { λ r. ⌜ Counts r (now (text .exit)) ⌝ }
 {

@@ -1,3 +1,4 @@
+pub mod Aiming
 pub mod Products
 pub mod Axes
 pub mod Missing

@@ -2,7 +2,7 @@
 use mathlib.Core.Path.{_≡_, refl, sym, subst, _∙_}
 use mathlib.Core.List.{List}
 use mathlib.Core.Logic.{_⊎_, inl, inr}
-use mathlib.Core.Bool.{Bool, true, false, not, _&&_}
+use mathlib.Core.Bool.{Bool, true, false, cond, not, _&&_, _||_}
 use Prim.Native.Nat.{ℕ, _+_, _-_, _*_, _≤_}
 use native.Mathlib.Omega.{arith}
 use lib.ListN.{length, getD}
@@ -21,16 +21,52 @@ use Rattle.rows.specs.Rows.{row}
 use Rattle.rows.specs.Points.{boxOfRow}
 use Rattle.rows.proofs.Rows.{cells, row-cells}
 use Rattle.tree_behind.proofs.Rejects.{overlap-first, overlap-second, overlap-third}
-use Rattle.tree_beams.specs.Beams.{Bounded, Aimed, OneOf, enterAt, leaveAt}
+use Rattle.tree_beams.specs.Beams.{Bounded, Aimed, enterAt, leaveAt, greaterF, lesserF, latestOf, soonestOf, missesRow}
 use Rattle.tree_beams.specs.declared.Bounds.{Bounds}
 use Rattle.tree_beams.specs.declared.Beam.{Beam}
+use Rattle.floats.proofs.Tests.{clash}
+use Rattle.tree_beams.proofs.Products.{told}
 use Rattle.tree_beams.proofs.Axes.{Bracketed, Told, told-ordered, slab-forward, slab-backward}
 
--- ---- one of three
-pub one-of : (m x a b c : Float) → (m ≡ a) ⊎ (m ≡ b) → (x ≡ m) ⊎ (x ≡ c) → OneOf x a b c
-one-of m x a b c (inl p) (inl q) = inl (q ∙ p)
-one-of m x a b c (inr p) (inl q) = inr (inl (q ∙ p))
-one-of m x a b c p (inr q) = inr (inr q)
+-- ---- the greater and the lesser of two numbers
+module _ (a b : Float) where
+  pub greater-first : lt b a ≡ true → a ≡ greaterF a b
+  unfolding greaterF
+  greater-first h = rw h
+
+  pub greater-second : lt b a ≡ false → b ≡ greaterF a b
+  unfolding greaterF
+  greater-second h = rw h
+
+  pub lesser-first : lt a b ≡ true → a ≡ lesserF a b
+  unfolding lesserF
+  lesser-first h = rw h
+
+  pub lesser-second : lt a b ≡ false → b ≡ lesserF a b
+  unfolding lesserF
+  lesser-second h = rw h
+
+-- ---- one of three numbers
+abbrev pub OneOf : Float → Float → Float → Float → Type 0
+OneOf x a b c = (x ≡ a) ⊎ ((x ≡ b) ⊎ (x ≡ c))
+
+greatest-of : (a b c : Float) → OneOf (greaterF (greaterF a b) c) a b c
+unfolding greaterF
+greatest-of a b c = by (lt b a) (lt c (cond (lt b a) a b))
+  where
+    by : (s t : Bool) → OneOf (cond t (cond s a b) c) a b c
+    by true true = inl refl
+    by false true = inr (inl refl)
+    by s false = inr (inr refl)
+
+least-of : (a b c : Float) → OneOf (lesserF (lesserF a b) c) a b c
+unfolding lesserF
+least-of a b c = by (lt a b) (lt (cond (lt a b) a b) c)
+  where
+    by : (s t : Bool) → OneOf (cond t (cond s a b) c) a b c
+    by true true = inl refl
+    by false true = inr (inl refl)
+    by s false = inr (inr refl)
 
 fails-behind : (s : Span) → T (le (s .tmax) zeroF) → T (not (passes s))
 fails-behind s h = go (not (lt (s .tmax) (s .tmin))) (le (s .tmax) zeroF) h
@@ -140,6 +176,14 @@ module _ (xs : List Float) (at : ℕ) (b : Beam) where
   abbrev pub OneLeft : Float → Type 0
   OneLeft l = OneOf l (leaveAt xs at (b .x) (b .ray .origin .x)) (leaveAt xs (at + 1) (b .y) (b .ray .origin .y)) (leaveAt xs (at + 2) (b .z) (b .ray .origin .z))
 
+  pub one-entered : (e : Float) → e ≡ latestOf xs at b → OneEntered e
+  unfolding latestOf
+  one-entered e h = rw h (greatest-of _ _ _)
+
+  pub one-left : (l : Float) → l ≡ soonestOf xs at b → OneLeft l
+  unfolding soonestOf
+  one-left l h = rw h (least-of _ _ _)
+
   module _ (A : Aimed b) (sound : Sound (boxOfRow (cells nan xs at 6))) where
     abbrev ray : Ray
     ray = b .ray
@@ -181,8 +225,34 @@ module _ (xs : List Float) (i : ℕ) (b : Beam) (fits : i * 6 + 6 ≤ length xs)
   by-cells : T (not (passes (boxTest (boxOfRow (cells nan xs (i * 6) 6)) (b .ray)))) → T (not (passes (boxTest (boxOfRow (row 6 i xs)) (b .ray))))
   by-cells = subst (λ (l : List Float). T (not (passes (boxTest (boxOfRow l) (b .ray))))) (sym (row-cells 6 i xs nan fits))
 
-  pub row-behind : (l : Float) → OneLeft xs (i * 6) b l → T (le l zeroF) → T (not (passes (boxTest (boxOfRow (row 6 i xs)) (b .ray))))
+  row-behind : (l : Float) → OneLeft xs (i * 6) b l → T (le l zeroF) → T (not (passes (boxTest (boxOfRow (row 6 i xs)) (b .ray))))
   row-behind l o h = by-cells (box-behind xs (i * 6) b A sound l o h)
 
-  pub row-apart : (e l : Float) → OneEntered xs (i * 6) b e → OneLeft xs (i * 6) b l → T (lt l e) → T (not (passes (boxTest (boxOfRow (row 6 i xs)) (b .ray))))
+  row-apart : (e l : Float) → OneEntered xs (i * 6) b e → OneLeft xs (i * 6) b l → T (lt l e) → T (not (passes (boxTest (boxOfRow (row 6 i xs)) (b .ray))))
   row-apart e l oe ol h = by-cells (box-apart xs (i * 6) b A sound e l oe ol h)
+
+-- what the code finds to be missed, and what it is
+module _ (xs : List Float) (i : ℕ) (b : Beam) (l : Float) (el : l ≡ soonestOf xs (i * 6) b) where
+  pub found-behind : le l zeroF ≡ true → true ≡ missesRow xs i b
+  unfolding missesRow
+  found-behind h = rw (← el, h)
+
+  pub found-apart : (e : Float) → e ≡ latestOf xs (i * 6) b → le l zeroF ≡ false → lt l e ≡ missesRow xs i b
+  unfolding missesRow
+  found-apart e ee h = rw (← el, h, ee)
+
+module _ (xs : List Float) (i : ℕ) (b : Beam) (asked : (i * 6 + 6 ≤ length xs) × Sound (boxOfRow (row 6 i xs))) (A : Aimed b) where
+  abbrev l : Float
+  l = soonestOf xs (i * 6) b
+
+  abbrev e : Float
+  e = latestOf xs (i * 6) b
+
+  by-tests : (p q : Bool) → le l zeroF ≡ p → lt l e ≡ q → (p || q) ≡ true → T (not (passes (boxTest (boxOfRow (row 6 i xs)) (b .ray))))
+  by-tests true q k n h = row-behind xs i b (asked .0) A (asked .1) l (one-left xs (i * 6) b l refl) (told k)
+  by-tests false true k n h = row-apart xs i b (asked .0) A (asked .1) e l (one-entered xs (i * 6) b e refl) (one-left xs (i * 6) b l refl) (told n)
+  by-tests false false k n h = clash h
+
+  pub row-missed : (m : Bool) → m ≡ missesRow xs i b → m ≡ true → T (not (passes (boxTest (boxOfRow (row 6 i xs)) (b .ray))))
+  unfolding missesRow
+  row-missed m k t = by-tests (le l zeroF) (lt l e) refl refl (sym k ∙ t)

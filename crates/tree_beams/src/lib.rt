@@ -1,18 +1,14 @@
 // Boxes that a ray misses, shown by products with bounds on the reciprocals of its direction, in place of the six
 // divisions of the box test.
 ghost use mathlib.Core.Path.{_≡_};
-ghost use mathlib.Core.Logic.{_⊎_};
-ghost use mathlib.Core.Bool.{true, not};
 ghost use Prim.Native.Nat.{_+_, _-_, _*_, _≤_};
 ghost use lib.ListN.{length, getD};
-ghost use lib.Dec.{T};
 ghost use lib.Ieee.{nan};
 ghost use Rattle.floats.specs.Arith.{_⊖_, _⊗_};
-ghost use Rattle.geometry.specs.Boxes.{boxTest, passes};
 ghost use Rattle.geometry.specs.Limits.{Sound};
 ghost use Rattle.rows.specs.Rows.{row};
 ghost use Rattle.rows.specs.Points.{boxOfRow};
-ghost use Rattle.tree_beams.specs.Beams.{Shown, Bounded, Aimed, OneOf, enterAt, leaveAt};
+ghost use Rattle.tree_beams.specs.Beams.{Aimed, isShown, boundOf, aimOf, isSure, greaterF, lesserF, latestOf, soonestOf, missesRow};
 use geometry::ray::Ray;
 use geometry::vector::Vector;
 
@@ -35,7 +31,7 @@ pub struct Beam {
 
 // Whether products show that low is below 1 / d and high above it, all of them above 0.
 fn shown(d: f64, low: f64, high: f64) -> bool
-    ensures { λ r. ⌜ (r ≡ true → Shown d low high) ⌝ }
+    ensures { λ r. ⌜ r ≡ isShown d low high ⌝ }
 {
     if 0.0 < d {
         if 0.0 < low {
@@ -51,10 +47,10 @@ fn shown(d: f64, low: f64, high: f64) -> bool
     false
 }
 
-// Bounds on 1 / d from a number i next to it, sure where products show them. That they are is tested and not
-// proved, so nothing is asked of i, nor said of the factors.
+// Bounds on 1 / d from a number i next to it, sure where products show them. That they are is tested ray by ray, so
+// nothing is asked of i.
 fn bound(d: f64, i: f64) -> Bounds
-    ensures { λ r. ⌜ (r .sure ≡ true → Bounded d r) ⌝ }
+    ensures { λ r. ⌜ r ≡ boundOf d i ⌝ }
 {
     let low = i * 0.9999999999999996;
     let high = i * 1.0000000000000004;
@@ -77,7 +73,7 @@ fn bound(d: f64, i: f64) -> Bounds
 // Bounds for the ray r, whose direction d is v / length: 1 / d is next to length / v, which need not wait for d. Nothing
 // is asked of v and length, since the bounds are tested.
 pub fn aim(r: Ray, v: Vector, length: f64) -> Beam
-    ensures { λ b. ⌜ (b .ray ≡ r) × (b .x .sure ≡ true → Bounded (r .direction .x) (b .x)) × (b .y .sure ≡ true → Bounded (r .direction .y) (b .y)) × (b .z .sure ≡ true → Bounded (r .direction .z) (b .z)) ⌝ }
+    ensures { λ b. ⌜ b ≡ aimOf r v length ⌝ }
 {
     let x = bound(r.direction.x, length / v.x);
     let y = bound(r.direction.y, length / v.y);
@@ -87,7 +83,7 @@ pub fn aim(r: Ray, v: Vector, length: f64) -> Beam
 
 // Whether the bounds on every axis are sure.
 pub fn sure(b: Beam) -> bool
-    ensures { λ r. ⌜ (r ≡ true → (b .x .sure ≡ true) × (b .y .sure ≡ true) × (b .z .sure ≡ true)) ⌝ }
+    ensures { λ r. ⌜ r ≡ isSure b ⌝ }
 {
     if b.x.sure {
         if b.y.sure {
@@ -97,9 +93,9 @@ pub fn sure(b: Beam) -> bool
     false
 }
 
-// One of two numbers: the greater, if neither is a NaN. Nothing rests on which.
+// The greater of two numbers; the second where one is a NaN.
 fn greater(a: f64, b: f64) -> f64
-    ensures { λ r. ⌜ (r ≡ a) ⊎ (r ≡ b) ⌝ }
+    ensures { λ r. ⌜ r ≡ greaterF a b ⌝ }
 {
     if a > b {
         return a;
@@ -108,7 +104,7 @@ fn greater(a: f64, b: f64) -> f64
 }
 
 fn lesser(a: f64, b: f64) -> f64
-    ensures { λ r. ⌜ (r ≡ a) ⊎ (r ≡ b) ⌝ }
+    ensures { λ r. ⌜ r ≡ lesserF a b ⌝ }
 {
     if a < b {
         return a;
@@ -132,10 +128,10 @@ fn left(xs: &[f64], at: usize, near: usize, o: f64, high: f64) -> f64
     (xs[at + 3 - near] - o) * high
 }
 
-// Of the box whose numbers stand from `at` on: the product of one of the nearer planes, the greatest if none is a NaN.
+// Of the box whose numbers stand from `at` on: the greatest of the products of the nearer planes.
 pub fn latest(xs: &[f64], at: usize, b: Beam) -> f64
     requires { ⌜ (at + 6 ≤ length (now xs)) × Aimed b ⌝ }
-    ensures { λ r. ⌜ OneOf r (enterAt (now (xs .entry)) at (b .x) (b .ray .origin .x)) (enterAt (now (xs .entry)) (at + 1) (b .y) (b .ray .origin .y)) (enterAt (now (xs .entry)) (at + 2) (b .z) (b .ray .origin .z)) ⌝ }
+    ensures { λ r. ⌜ r ≡ latestOf (now (xs .entry)) at b ⌝ }
 {
     let x = entered(xs, at, b.x.near, b.ray.origin.x, b.x.low);
     let y = entered(xs, at + 1, b.y.near, b.ray.origin.y, b.y.low);
@@ -143,10 +139,10 @@ pub fn latest(xs: &[f64], at: usize, b: Beam) -> f64
     greater(greater(x, y), z)
 }
 
-// The product of one of its farther planes, the least if none is a NaN.
+// The least of the products of the farther planes.
 pub fn soonest(xs: &[f64], at: usize, b: Beam) -> f64
     requires { ⌜ (at + 6 ≤ length (now xs)) × Aimed b ⌝ }
-    ensures { λ r. ⌜ OneOf r (leaveAt (now (xs .entry)) at (b .x) (b .ray .origin .x)) (leaveAt (now (xs .entry)) (at + 1) (b .y) (b .ray .origin .y)) (leaveAt (now (xs .entry)) (at + 2) (b .z) (b .ray .origin .z)) ⌝ }
+    ensures { λ r. ⌜ r ≡ soonestOf (now (xs .entry)) at b ⌝ }
 {
     let x = left(xs, at, b.x.near, b.ray.origin.x, b.x.high);
     let y = left(xs, at + 1, b.y.near, b.ray.origin.y, b.y.high);
@@ -157,7 +153,7 @@ pub fn soonest(xs: &[f64], at: usize, b: Beam) -> f64
 // Whether the box in row i is shown to fail the box test.
 pub fn misses(xs: &[f64], i: usize, b: Beam) -> bool
     requires { ⌜ (i * 6 + 6 ≤ length (now xs)) × Aimed b × Sound (boxOfRow (row 6 i (now xs))) ⌝ }
-    ensures { λ r. ⌜ (r ≡ true → T (not (passes (boxTest (boxOfRow (row 6 i (now (xs .entry)))) (b .ray))))) ⌝ }
+    ensures { λ r. ⌜ r ≡ missesRow (now (xs .entry)) i b ⌝ }
 {
     let e = latest(xs, i * 6, b);
     let l = soonest(xs, i * 6, b);

@@ -3,4 +3,5 @@ pub mod Glancing
 pub mod Spots
 pub mod Endings
 pub mod Looking
+pub mod Turns
 pub mod Sighting

@@ -2,7 +2,7 @@
 use mathlib.Core.Path.{_≡_, refl, sym, ap, subst, _∙_}
 use mathlib.Core.Logic.{_⊎_, inl, inr}
 use mathlib.Core.List.{List, [], _∷_}
-use mathlib.Core.Bool.{Bool, true, false, not, cond, _&&_}
+use mathlib.Core.Bool.{Bool, true, false, not, cond, _&&_, and-eq-true-iff}
 use Prim.Native.Nat.{ℕ, suc, _+_, _-_, _≤_, _<_}
 use native.Mathlib.Omega.{arith}
 use native.Mathlib.Nat.{add-zero}
@@ -29,7 +29,7 @@ use Rattle.tree_glance.specs.declared.Spotted.{Spotted}
 use Rattle.tree_glance.specs.declared.Spotted.the-variants.{Clear, Short, Unknown}
 use Rattle.tree_glance.specs.declared.Glance.{Glance}
 use Rattle.tree_glance.specs.declared.Glance.the-variants.{Hidden, Visible, Unsure}
-use Rattle.tree_glance.specs.Glances.{LeafTold, clear, judgedOf, spotOn, spottedOf, AllAnswer, EnteredBefore, Shorter}
+use Rattle.tree_glance.specs.Glances.{LeafTold, clear, judgedOf, spotOn, spottedOf, AllAnswer, EnteredBefore, Shorter, entersBefore, leafGlance}
 
 -- ---- the loop
 module _ (distance : Float) (calm : Bool) (hit : ℕ → Struck) (order : List ℕ) (first count : ℕ) where
@@ -190,17 +190,46 @@ module _ (distance : Float) (calm : Bool) (hit : ℕ → Struck) (is : List ℕ)
   short-answered s e = subst (Spoken distance calm hit is clear is) e told .1
 
 -- ---- a box that is entered before the distance
-module _ (boxes : List Float) (i : ℕ) (r : Ray) (distance : Float) (s : Span) (es : s ≡ boxTest (boxOfRow (row 6 i boxes)) r) where
-  pub entered-before : lt (s .tmax) (s .tmin) ≡ false → le (s .tmax) zeroF ≡ false → lt (s .tmin) distance ≡ true → EnteredBefore boxes i r distance
-  entered-before a b c = record {
-    passed = subst (λ (x : Span). T (passes x)) es (go (lt (s .tmax) (s .tmin)) (le (s .tmax) zeroF) a b);
-    before = subst (λ (x : Span). T (lt (x .tmin) distance)) es (subst T (sym c) tt);
-  }
-    where
-      go : (x y : Bool) → x ≡ false → y ≡ false → T (not x && not y)
-      go true y p q = clash (sym p)
-      go false true p q = clash (sym q)
-      go false false p q = tt
+module _ (boxes : List Float) (i : ℕ) (r : Ray) (distance : Float) where
+  pub enters-before : (t : Bool) → t ≡ entersBefore boxes i r distance → t ≡ true → EnteredBefore boxes i r distance
+  unfolding entersBefore
+  enters-before t e h =
+      let a = and-eq-true-iff (passes (boxTest (boxOfRow (row 6 i boxes)) r)) (lt (boxTest (boxOfRow (row 6 i boxes)) r .tmin) distance) .0 (sym e ∙ h) in
+      record { passed = subst T (sym (a .0)) tt; before = subst T (sym (a .1)) tt }
+
+  module _ (s : Span) (es : s ≡ boxTest (boxOfRow (row 6 i boxes)) r) where
+    entered-is : (passes s && lt (s .tmin) distance) ≡ entersBefore boxes i r distance
+    unfolding entersBefore
+    entered-is = rw es
+
+    pub enters-not : lt (s .tmax) (s .tmin) ≡ true → false ≡ entersBefore boxes i r distance
+    enters-not h = rw h at entered-is
+
+    module _ (f : lt (s .tmax) (s .tmin) ≡ false) where
+      pub enters-behind : le (s .tmax) zeroF ≡ true → false ≡ entersBefore boxes i r distance
+      enters-behind h = rw (f, h) at entered-is
+
+      pub enters-told : le (s .tmax) zeroF ≡ false → lt (s .tmin) distance ≡ entersBefore boxes i r distance
+      enters-told h = rw (f, h) at entered-is
+
+-- ---- what a leaf says
+module _ (a s : Spotted) (ea : a ≡ s) where
+  pub leaf-clear : (t : Bool) → a ≡ Clear → Visible ≡ leafGlance s t
+  unfolding leafGlance
+  leaf-clear t h = rw (← ea, h)
+
+  pub leaf-unknown : (t : Bool) → a ≡ Unknown → Unsure ≡ leafGlance s t
+  unfolding leafGlance
+  leaf-unknown t h = rw (← ea, h)
+
+  module _ (i : ℕ) (h : a ≡ Short i) (t x : Bool) (et : t ≡ x) where
+    pub leaf-short : t ≡ true → Hidden ≡ leafGlance s x
+    unfolding leafGlance
+    leaf-short k = rw (← ea, h, ← et, k)
+
+    pub leaf-late : t ≡ false → Unsure ≡ leafGlance s x
+    unfolding leafGlance
+    leaf-late k = rw (← ea, h, ← et, k)
 
 -- ---- a leaf that hides, kept with the entry that falls short
 module _ (hit : ℕ → Struck) (r : Ray) (distance : Float) (calm : Bool) (boxes : List Float) (i : ℕ) (is : List ℕ) (a : Spotted) (ea : a ≡ spottedOf distance calm hit is clear) where

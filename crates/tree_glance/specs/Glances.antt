@@ -1,11 +1,11 @@
 -- The eye test by a glance: what is asked of a tree, of the solids and of what is kept, and what a glance's answer says of the full walk.
 use mathlib.Core.Path.{_≡_}
 use mathlib.Core.Logic.{_⊎_}
-use mathlib.Core.Bool.{Bool, true, false, not, cond}
+use mathlib.Core.Bool.{Bool, true, false, not, cond, _&&_}
 use mathlib.Core.List.{List, [], _∷_}
 use Prim.Native.Nat.{ℕ, zero, suc, _+_, _*_, _≤_, _<_}
 use lib.ListN.{length, getD}
-use lib.Dec.{T}
+use lib.Dec.{T, ltb}
 use lib.Ieee.{Float, lt, le}
 use Rattle.floats.specs.Arith.{INF}
 use Rattle.geometry.specs.Boxes.{boxTest, passes}
@@ -22,7 +22,9 @@ use Rattle.tree_nodes.specs.Nodes.{nodeAt, placesOf, isLeaf}
 use Rattle.tree_nodes.specs.declared.Node.{Node}
 use Rattle.scene_shape.specs.declared.Struck.{Struck}
 use Rattle.scene_shape.specs.declared.Struck.the-variants.{At, Refused as NotStruck}
-use Rattle.tree_walk.specs.Walks.{leafEntries, entryHit}
+use Rattle.tree_beams.specs.Beams.{missesRow}
+use Rattle.tree_beams.specs.declared.Beam.{Beam}
+use Rattle.tree_walk.specs.Walks.{leafEntries, entryHit, childrenOf, backward}
 use Rattle.tree_walk.specs.Standing.{Stands}
 use Rattle.tree_walk.specs.declared.Nearest.{Nearest}
 use Rattle.tree_walk.specs.declared.Found.{Found}
@@ -111,6 +113,49 @@ Tells Unsure f distance = Unit
 
 unfoldable pub endedOf : Bool → Glance
 endedOf hid = cond hid Hidden Visible
+
+-- ---- the glance itself
+-- the test of `EnteredBefore`
+unfoldable pub entersBefore : List Float → ℕ → Ray → Float → Bool
+entersBefore boxes i r distance = passes (boxTest (boxOfRow (row 6 i boxes)) r) && lt (boxTest (boxOfRow (row 6 i boxes)) r .tmin) distance
+
+-- what a leaf says by its entries: one that falls short hides if the leaf's box is entered before the distance
+unfoldable pub leafGlance : Spotted → Bool → Glance
+leafGlance Clear entered = Visible
+leafGlance (Short i) entered = cond entered Hidden Unsure
+leafGlance Unknown entered = Unsure
+
+-- on from a leaf; one that hides ends it where every solid answers
+unfoldable pub pastLeaf : Bool → Glance → Bool → (Bool → Glance) → Glance
+pastLeaf calm Hidden hid next = cond calm Hidden (next true)
+pastLeaf calm Visible hid next = next hid
+pastLeaf calm Unsure hid next = Unsure
+
+-- In at most so many rounds, from the places that wait, the next one first: `says` is what the leaf at a place says, `misses` tells the places whose boxes the
+-- ray misses, and `hid` that a leaf has hidden. A child that is missed is left out; where a 65th place would wait it is unsure.
+unfoldable pub lookOn : (ℕ → Glance) → (ℕ → Bool) → Ray → (ℕ → Node) → Bool → ℕ → List ℕ → Bool → Glance
+lookOn says misses r node calm zero [] hid = endedOf hid
+lookOn says misses r node calm zero (i ∷ waiting) hid = Unsure
+lookOn says misses r node calm (suc rounds) [] hid = endedOf hid
+lookOn says misses r node calm (suc rounds) (i ∷ waiting) hid =
+    let on = lookOn says misses r node calm rounds in
+    let c = childrenOf (node i .first) (backward r (node i .axis)) in
+    cond (isLeaf (node i)) (pastLeaf calm (says i) hid (on waiting))
+    (cond (misses (c .near))
+    (cond (misses (c .far)) (on waiting hid) (on (c .far ∷ waiting) hid))
+    (cond (misses (c .far)) (on (c .near ∷ waiting) hid)
+    (cond (ltb 63 (length waiting)) Unsure (on (c .near ∷ c .far ∷ waiting) hid))))
+
+-- what the leaf at place i says
+unfoldable pub leafSays : (ℕ → Struck) → Beam → Float → Bool → List Float → List ℕ → List ℕ → ℕ → Glance
+leafSays hit b distance calm boxes links order i =
+    leafGlance (spottedOf distance calm hit (leafEntries order (nodeAt boxes links i)) clear) (entersBefore boxes i (b .ray) distance)
+
+-- from the root, in at most 2,048 rounds
+unfoldable pub lookRows : (ℕ → Struck) → Beam → Float → Bool → List Float → List ℕ → List ℕ → Glance
+lookRows hit b distance calm boxes links order =
+    cond (missesRow boxes 0 b) Visible
+    (lookOn (leafSays hit b distance calm boxes links order) (λ i. missesRow boxes i b) (b .ray) (nodeAt boxes links) calm 2048 (0 ∷ []) false)
 
 -- what a glance says of the eye test
 abbrev pub SeenAs : Glance → Sight → Type 0

@@ -109,7 +109,7 @@ fn spot(
 // Whether the box in row i passes the test and is entered before the distance.
 fn enters(boxes: &[f64], i: usize, r: Ray, distance: f64) -> bool
     requires { ⌜ i * 6 + 6 ≤ length (now boxes) ⌝ }
-    ensures { λ s. ⌜ (s ≡ true → Glances.EnteredBefore (now (boxes .entry)) i r distance) ⌝ }
+    ensures { λ s. ⌜ s ≡ Glances.entersBefore (now (boxes .entry)) i r distance ⌝ }
 {
     let s = rows::read_box(boxes, i).intersect(r);
     if s.tmax < s.tmin {
@@ -137,6 +137,7 @@ fn at_leaf(
     cover: &mut [usize],
 ) -> Glance
     requires { ⌜ (first + count ≤ 8589934592) × (i * 6 + 6 ≤ length (now boxes)) × (length (now cover) ≡ 2) × Aimed b × T (le distance INF) × SoundBlocks (now numbers) (now marks) ⌝ }
+    ensures { λ a. ⌜ a ≡ Glances.leafGlance (Glances.spottedOf distance calm (entryHit (now (numbers .entry)) (now (inverses .entry)) (now (marks .entry)) (b .ray)) (take count (drop first (now (order .entry)))) Glances.clear) (Glances.entersBefore (now (boxes .entry)) i (b .ray) distance) ⌝ }
     ensures { λ a. ⌜ LeafTold (entryHit (now (numbers .entry)) (now (inverses .entry)) (now (marks .entry)) (b .ray)) (b .ray) distance calm (now (boxes .entry)) i (take count (drop first (now (order .entry)))) (now (cover .entry)) (now (cover .exit)) a ⌝ }
 {
     let a = spot(
@@ -191,7 +192,7 @@ pub fn look(
     stack: &mut [usize],
 ) -> Glance
     requires { ⌜ Trusted (now «node_boxes») (now «node_marks») (now order) × (calm ≡ true → Uncut (now numbers) (now inverses) (now marks)) × Aimed b × T (le distance INF) × LastCover (now «node_boxes») (now «node_marks») (now order) (now cover) (now stack) × SoundBlocks (now numbers) (now marks) ⌝ }
-    ensures { λ a. ⌜ Tells a (walkRows (entryHit (now (numbers .entry)) (now (inverses .entry)) (now (marks .entry)) (b .ray)) (b .ray) (now («node_boxes» .entry)) (now («node_marks» .entry)) (now (order .entry))) distance × LastCover (now («node_boxes» .entry)) (now («node_marks» .entry)) (now (order .entry)) (now (cover .exit)) (now (stack .exit)) ⌝ }
+    ensures { λ a. ⌜ Tells a (walkRows (entryHit (now (numbers .entry)) (now (inverses .entry)) (now (marks .entry)) (b .ray)) (b .ray) (now («node_boxes» .entry)) (now («node_marks» .entry)) (now (order .entry))) distance × LastCover (now («node_boxes» .entry)) (now («node_marks» .entry)) (now (order .entry)) (now (cover .exit)) (now (stack .exit)) × (a ≡ Glances.lookRows (entryHit (now (numbers .entry)) (now (inverses .entry)) (now (marks .entry)) (b .ray)) b distance calm (now («node_boxes» .entry)) (now («node_marks» .entry)) (now (order .entry))) ⌝ }
 {
     if tree_beams::misses(node_boxes, 0, b) {
         return Glance::Visible;

@@ -1,27 +1,22 @@
 -- A scene without cuts answers every ray. Assumes nothing.
-use mathlib.Core.Path.{_≡_, refl, sym, ap, subst, _∙_}
-use mathlib.Core.Logic.{inl, inr}
+use mathlib.Core.Path.{_≡_, refl}
 use mathlib.Core.List.{List}
-use mathlib.Core.Bool.{Bool, true, false, cond, _&&_}
-use Prim.Native.Nat.{ℕ, zero, suc, _+_, _/_, _<_, _≤_}
-use native.Mathlib.Omega.{arith}
+use mathlib.Core.Bool.{Bool, true, false, cond, not, _&&_}
+use Prim.Native.Nat.{ℕ, zero, suc, _/_, _<_}
 use lib.ListN.{length}
 use lib.Dec.{ltb, eqb}
 use lib.Ieee.{Float}
-use borrow.Author.Tests.{ltb-true, eqb-true}
+use borrow.Author.Tests.{ltb-true, eqb-true, eqb-false, not-true}
 use Rattle.geometry.specs.Hits.{noHit}
 use Rattle.geometry.specs.declared.ray.Ray.{Ray}
 use Rattle.geometry.specs.declared.hit.Hit.{Hit}
 use Rattle.matrix.specs.Matrices.{mulRay}
 use Rattle.floats.specs.Arith.{_⊘_}
-use Rattle.floats.proofs.Order.{le-or-lt}
-use Rattle.rows.specs.Rows.{row}
-use Rattle.rows.specs.Entries.{marksOf}
+use Rattle.lists.proofs.Tests.{all-at}
 use Rattle.rows.specs.declared.Marks.{Marks}
 use Rattle.rows.specs.declared.Numbers.{Numbers}
 use Rattle.solids.specs.Solids.{hitOf}
 use Rattle.scene.specs.Entries.{entryOf, entryAt, compositeOf, simpleOf, simpleOr, cutOf, matrixOf, marksAt, numbersAt}
-use Rattle.scene.specs.declared.entry.Op.{Op}
 use Rattle.scene.specs.declared.entry.Simple.{Simple}
 use Rattle.scene.specs.declared.entry.Simple.the-variants.{Is, Other}
 use Rattle.scene.specs.declared.entry.Entry.{Entry}
@@ -31,20 +26,11 @@ use Rattle.scene_shape.specs.Shapes.{shapeOf, read, shapeHit}
 use Rattle.scene_shape.specs.declared.Struck.{Struck}
 use Rattle.scene_shape.specs.declared.Struck.the-variants.{At}
 use Rattle.tree_walk.specs.Walks.{entryHit}
-use Rattle.tree_trust.specs.Trust.{Uncut}
+use Rattle.tree_trust.specs.Trust.{Uncut, isUncut}
 
--- the first n entries are no cuts
-abbrev pub NoCuts : List ℕ → ℕ → Type 0
-NoCuts marks n = (i : ℕ) → i < n → marksOf (row 4 i marks) .kind ≡ 7 → ⊥
-
-pub no-cuts-none : (marks : List ℕ) → NoCuts marks 0
-no-cuts-none marks i h = absurd (omega arith)
-
-pub no-cuts-more : (marks : List ℕ) (n : ℕ) → NoCuts marks n → (m : Marks) → m ≡ marksOf (row 4 n marks) → (m .kind ≡ 7 → ⊥) → NoCuts marks (n + 1)
-no-cuts-more marks n c m e k i h q = elim (le-or-lt n i) [
-  | inl p ↦ let z : n ≡ i = omega (arith, p, h) in k (ap (λ (x : Marks). x .kind) e ∙ subst (λ (j : ℕ). marksOf (row 4 j marks) .kind ≡ 7) (sym z) q)
-  | inr p ↦ c i p q
-]
+-- no entry is a cut
+abbrev NoCuts : List ℕ → Type 0
+NoCuts marks = (i : ℕ) → i < length marks / 4 → marksAt marks i .kind ≡ 7 → ⊥
 
 -- an entry that is not a cut
 abbrev Whole : Entry → Type 0
@@ -67,7 +53,7 @@ unfolding simpleOr
 whole-simple (Is s) e w = tt
 whole-simple Other e w = w
 
-whole-at : (numbers inverses : List Float) (marks : List ℕ) → NoCuts marks (length marks / 4) → (i : ℕ) → Whole (entryAt numbers inverses marks i)
+whole-at : (numbers inverses : List Float) (marks : List ℕ) → NoCuts marks → (i : ℕ) → Whole (entryAt numbers inverses marks i)
 unfolding entryAt entryOf
 whole-at numbers inverses marks c i = go (ltb i (length numbers / 16)) (ltb i (length inverses / 16)) (ltb i (length marks / 4)) (ltb-true i (length marks / 4))
   where
@@ -98,6 +84,9 @@ module _ (at : ℕ → Entry) (w : (i : ℕ) → Whole (at i)) where
   read-hit zero i r = (noHit, refl)
   read-hit (suc d) i r = shape-hit d (at i) (w i) (read-hit d) r
 
-pub no-cuts-answer : (marks : List ℕ) → NoCuts marks (length marks / 4) → (numbers inverses : List Float) → Uncut numbers inverses marks
-unfolding entryHit
-no-cuts-answer marks c numbers inverses r i = read-hit (entryAt numbers inverses marks) (whole-at numbers inverses marks c) 8 i r
+pub is-uncut : (marks : List ℕ) → isUncut marks ≡ true → (numbers inverses : List Float) → Uncut numbers inverses marks
+unfolding entryHit isUncut
+is-uncut marks u numbers inverses r i = read-hit (entryAt numbers inverses marks) (whole-at numbers inverses marks none) 8 i r
+  where
+    none : NoCuts marks
+    none k h = eqb-false (marksAt marks k .kind) 7 (not-true (eqb (marksAt marks k .kind) 7) (all-at (λ (j : ℕ). not (eqb (marksAt marks j .kind) 7)) (length marks / 4) k u h))

@@ -1,2 +1,4 @@
 pub mod Answers
+pub mod Counting
+pub mod Looking
 pub mod Making

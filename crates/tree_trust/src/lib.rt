@@ -1,19 +1,15 @@
 // Which trees a walk may leave something out of: those that are shallow, and whose boxes lie in one another. It is
 // looked up in the slices, so that nothing is asked of who filled them.
 ghost use mathlib.Core.Path.{_≡_};
-ghost use mathlib.Core.Bool.{true};
-ghost use mathlib.Core.List.{List};
-ghost use Prim.Native.Nat.{ℕ, _+_, _<_, _≤_};
-ghost use lib.Ieee.{Float};
-ghost use Rattle.geometry.specs.Limits.{Sound, Inside, Under};
-ghost use Rattle.tree_nodes.specs.Nodes.{placesOf};
-ghost use Rattle.tree_trust.specs.Trust.{Made, Trusted, Uncut};
+ghost use Prim.Native.Nat.{_<_, _≤_};
+ghost use Rattle.tree_nodes.specs.Nodes.{nodeAt, placesOf};
+ghost use Rattle.tree_trust.specs.Trust.{isUnder, isSound, isInside, joinedOf, nodesFrom, isTrusted, isUncut};
 use geometry::bounding_box::BBox;
 use geometry::vector::Vector;
 
 // Whether each component of a is at most that of b.
 fn under(a: Vector, b: Vector) -> bool
-    ensures { λ r. ⌜ (r ≡ true → Under a b) ⌝ }
+    ensures { λ r. ⌜ r ≡ isUnder a b ⌝ }
 {
     if a.x <= b.x {
         if a.y <= b.y {
@@ -25,7 +21,7 @@ fn under(a: Vector, b: Vector) -> bool
 
 // Whether a box is within a million, its min not above its max.
 pub fn sound(b: BBox) -> bool
-    ensures { λ r. ⌜ (r ≡ true → Sound b) ⌝ }
+    ensures { λ r. ⌜ r ≡ isSound b ⌝ }
 {
     if limits::within_box(b) {
         return under(b.min, b.max);
@@ -35,7 +31,7 @@ pub fn sound(b: BBox) -> bool
 
 // Whether the box c lies in the box p.
 fn lies_in(c: BBox, p: BBox) -> bool
-    ensures { λ r. ⌜ (r ≡ true → Inside c p) ⌝ }
+    ensures { λ r. ⌜ r ≡ isInside c p ⌝ }
 {
     if under(p.min, c.min) {
         return under(c.max, p.max);
@@ -46,7 +42,7 @@ fn lies_in(c: BBox, p: BBox) -> bool
 // The nodes of two trees and of the split above them, if that is not more than `many`, else 0.
 fn joined(a: usize, b: usize, many: usize) -> usize
     requires { ⌜ (a ≤ many) × (b ≤ many) × (many < 4611686018427387904) ⌝ }
-    ensures { λ r. ⌜ (r ≤ many) × (0 < r → (0 < a) × (0 < b) × (r ≡ a + b + 1)) ⌝ }
+    ensures { λ r. ⌜ r ≡ joinedOf a b many ⌝ }
 {
     if a == 0 {
         return 0;
@@ -63,7 +59,7 @@ fn joined(a: usize, b: usize, many: usize) -> usize
 // How many nodes the tree at place i has; 0 where it is not to be trusted.
 fn nodes_from(boxes: &[f64], links: &[u32], many: usize, i: usize, depth: usize) -> usize
     requires { ⌜ many ≡ placesOf (now boxes) (now links) ⌝ }
-    ensures { λ r. ⌜ (r ≤ many) × ((order : List ℕ) → 0 < r → Made (now (boxes .entry)) (now (links .entry)) order depth i r) ⌝ }
+    ensures { λ r. ⌜ r ≡ nodesFrom (nodeAt (now (boxes .entry)) (now (links .entry))) many depth i ⌝ }
 {
     if i >= many {
         return 0;
@@ -100,7 +96,7 @@ fn nodes_from(boxes: &[f64], links: &[u32], many: usize, i: usize, depth: usize)
 
 // Whether the tree in the node slices is to be trusted.
 pub fn trusted(boxes: &[f64], links: &[u32]) -> bool
-    ensures { λ r. ⌜ (r ≡ true → (order : List ℕ) → Trusted (now (boxes .entry)) (now (links .entry)) order) ⌝ }
+    ensures { λ r. ⌜ r ≡ isTrusted (now (boxes .entry)) (now (links .entry)) ⌝ }
 {
     let many = tree_nodes::places(boxes, links);
     0 < nodes_from(boxes, links, many, 0, 62)
@@ -108,7 +104,7 @@ pub fn trusted(boxes: &[f64], links: &[u32]) -> bool
 
 // Whether no entry is a cut: then none refuses a ray.
 pub fn uncut(marks: &[u32]) -> bool
-    ensures { λ r. ⌜ (r ≡ true → (numbers inverses : List Float) → Uncut numbers inverses (now (marks .entry))) ⌝ }
+    ensures { λ r. ⌜ r ≡ isUncut (now (marks .entry)) ⌝ }
 {
     let n = marks.len() / 4;
     let mut i = 0usize;

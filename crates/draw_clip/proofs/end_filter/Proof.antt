@@ -16,14 +16,14 @@ returns : tie.Need-returns
 returns c =
     let at1 = c .before in let recall = at1 .recall in
     let at14 = at1 .before .before .before .before .before .before .before .before .before .before .before .before .before in let pre = at14 .pre in
-    (told-dropped _ _ _ _ (known-told _ _ _ (pre .0) _ _ (recall .ensures (omega (arith, c .if1 .taken))) (omega (arith, c .if1 .taken))) (c .if1 .taken), pre .0, pre .1)
+    (told-dropped _ _ _ _ (known-told _ _ _ (pre .0) _ _ (recall .ensures .1 (omega (arith, c .if1 .taken))) (omega (arith, c .if1 .taken))) (c .if1 .taken), pre .0, pre .1)
 
 returns-2 : tie.Need-returns-2
 returns-2 c =
     let at1 = c .before in let if2 = at1 .if2 in
     let at3 = at1 .before .before in let recall = at3 .recall in
     let at16 = at3 .before .before .before .before .before .before .before .before .before .before .before .before .before in let pre = at16 .pre in
-    (told-kept _ _ _ _ (known-told _ _ _ (pre .0) _ _ (recall .ensures (omega (arith, if2 .taken))) (omega (arith, if2 .taken))) (if2 .taken) _ (c .mul-position-w .ensures), pre .0, pre .1)
+    (told-kept _ _ _ _ (known-told _ _ _ (pre .0) _ _ (recall .ensures .1 (omega (arith, if2 .taken))) (omega (arith, if2 .taken))) (if2 .taken) _ (c .mul-position-w .ensures), pre .0, pre .1)
 
 quick-filter-requires : tie.Need-quick-filter-requires
 quick-filter-requires c κs =

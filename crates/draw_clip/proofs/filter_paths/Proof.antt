@@ -2,6 +2,7 @@ use Rattle.paths.proofs.Stages.{Staging, staging-start, staging-turn, staging-r
 use Rattle.paths.proofs.Parts.{range-fits}
 use Rattle.path_filter.specs.Filter.{pathFilter}
 use Rattle.floats.specs.Arith.{zeroF}
+use Rattle.tree_trust.proofs.Answers.{is-uncut}
 use Rattle.draw_memory.specs.Memory.{Remembered}
 use Rattle.draw_memory.proofs.Memories.{known-start}
 use Rattle.draw_clip.specs.Clip.{clipFilter, seenFrom, Prepared}
@@ -24,7 +25,7 @@ abbrev μ-loop : tie.MeasureT-loop
 μ-loop matrix eye numbers inverses marks node-boxes node-marks order path starts out₀ begins₀ total ends₀ known₀ trusted calm cover₀ stack₀ n₀ m₀ i₀ out begins ends known cover stack n m i = length starts - i
 
 loop-holds : tie.Need-loop-holds Inv-loop μ-loop
-loop-holds c = (staging-start _ _ _ _ _, known-start _ zeroF, ready-start _ _ _ _ _ _ _ _ _ (c .before .trusts .ensures) (λ e. c .uncut .ensures e _ _))
+loop-holds c = (staging-start _ _ _ _ _, known-start _ zeroF, ready-start _ _ _ _ _ _ _ _ _ (c .before .trusts .ensures) (λ e. is-uncut _ (sym (c .uncut .ensures) ∙ e) _ _))
 
 range-of-requires : tie.Need-range-of-requires Inv-loop μ-loop
 range-of-requires c κs = c .loop-test .taken

@@ -1,4 +1,4 @@
-use Rattle.draw_memory.proofs.Memories.{one-pattern}
+use Rattle.draw_memory.proofs.Memories.{one-pattern, same-not, same-not-2, same-by-bits}
 use Rattle.floats.proofs.Patterns.{equals-itself}
 use Rattle.floats.proofs.Tests.{clash}
 use lib.Ieee.{Float, binary64, fits}
@@ -19,13 +19,13 @@ returns : tie.Need-returns
 returns c =
     let at2 = c .before .before in let args = at2 .args in
     let good = at2 .good in
-    λ h. one-pattern (args .a) (args .b) (subst T (sym (good .0 .1)) tt) (subst T (sym (good .1 .0 .1)) tt) (eqb-true _ _ h)
+    (same-by-bits (args .a) (args .b) (c .before .if1 .taken) (c .if2 .taken), λ h. one-pattern (args .a) (args .b) (subst T (sym (good .0 .1)) tt) (subst T (sym (good .1 .0 .1)) tt) (eqb-true _ _ h))
 
 returns-2 : tie.Need-returns-2
-returns-2 c = λ h. clash h
+returns-2 c = (same-not-2 _ _ (c .before .if1 .taken) (c .if2 .left), λ h. clash h)
 
 returns-3 : tie.Need-returns-3
-returns-3 c = λ h. clash h
+returns-3 c = (same-not _ _ (c .if1 .left), λ h. clash h)
 
 pub same-bits-spec : {M : Type 1} → statement M
 same-bits-spec =

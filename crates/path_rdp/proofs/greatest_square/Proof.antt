@@ -12,7 +12,7 @@ use Rattle.path_rdp.proofs.greatest_square.Statement.{statement}
 use Rattle.path_rdp.proofs.greatest_square.Tie as tie
 
 abbrev Inv-loop : tie.InvT-loop
-Inv-loop path from end a b last index₀ square₀ lower₀ i₀ index square lower i = Peaking (slice from end (allPoints path)) i index square lower
+Inv-loop path from end a b last index₀ square₀ lower₀ i₀ index square lower i = Peaking (slice from end (allPoints path)) (record { index = index; square = square; lower = lower }) i
 
 abbrev μ-loop : tie.MeasureT-loop
 μ-loop path from end a b last index₀ square₀ lower₀ i₀ index square lower i = last - i
@@ -34,7 +34,7 @@ loop-again c =
     let at8 = at6 .before .before in let args = at8 .args in
     let pre = at8 .pre in
     let s = part-length (args .path .now) (args .from) (args .end) (pre .1) in
-    peaking-stays _ _ _ _ _ (loop .inv) (read-point3 .result) (read-point .result) (read-point2 .result) (segment-square .result)
+    peaking-stays _ _ _ (loop .inv) (read-point3 .result) (read-point .result) (read-point2 .result) (segment-square .result)
     (omega (arith, loop-test .taken))
     (read-point .ensures ∙ part-first (args .path .now) (args .from) (args .end) (pre .1) (omega (arith, pre .0)))
     (read-point2 .ensures ∙ part-last (args .path .now) (args .from) (args .end) (pre .1) (omega (arith, pre .0)) ∙ ap (λ (n : ℕ). vertex (slice (args .from) (args .end) (allPoints (args .path .now))) (n - 1)) (sym s))
@@ -52,7 +52,7 @@ loop-again-2 c =
     let at8 = at6 .before .before in let args = at8 .args in
     let pre = at8 .pre in
     let s = part-length (args .path .now) (args .from) (args .end) (pre .1) in
-    peaking-turn _ _ _ _ _ (loop .inv) (read-point3 .result) (read-point .result) (read-point2 .result) (segment-square .result)
+    peaking-turn _ _ _ (loop .inv) (read-point3 .result) (read-point .result) (read-point2 .result) (segment-square .result)
     (omega (arith, loop-test .taken))
     (read-point .ensures ∙ part-first (args .path .now) (args .from) (args .end) (pre .1) (omega (arith, pre .0)))
     (read-point2 .ensures ∙ part-last (args .path .now) (args .from) (args .end) (pre .1) (omega (arith, pre .0)) ∙ ap (λ (n : ℕ). vertex (slice (args .from) (args .end) (allPoints (args .path .now))) (n - 1)) (sym s))
@@ -64,7 +64,7 @@ returns c =
     let at1 = c .before in let loop = at1 .loop in
     let at5 = at1 .before .before .before .before in let args = at5 .args in
     let pre = at5 .pre in
-    peaking-end _ _ _ _ _ (loop .inv) (omega (arith, c .loop-test .left, part-length (args .path .now) (args .from) (args .end) (pre .1)))
+    peaking-end _ _ _ (loop .inv) (omega (arith, c .loop-test .left, part-length (args .path .now) (args .from) (args .end) (pre .1)))
 
 pub greatest-square-spec : {M : Type 1} → statement M
 greatest-square-spec =

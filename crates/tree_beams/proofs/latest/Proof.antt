@@ -1,6 +1,8 @@
+use mathlib.Core.Path.{_∙_}
 use native.Mathlib.Omega.{arith}
 use borrow.Author.Needs.{needs}
-use Rattle.tree_beams.proofs.Missing.{one-of, bounded-near}
+use Rattle.tree_beams.specs.Beams.{latestOf}
+use Rattle.tree_beams.proofs.Missing.{bounded-near}
 use Rattle.tree_beams.proofs.latest.Statement.{statement}
 use Rattle.tree_beams.proofs.latest.Tie as tie
 
@@ -20,12 +22,13 @@ entered-requires-3 c κs =
     (bounded-near (args .b .ray .direction .z) (args .b .z) (pre .1 .z), omega (arith, pre .0))
 
 returns : tie.Need-returns
+unfolding latestOf
 returns c =
     let at1 = c .before in let greater = at1 .greater in
     let at2 = at1 .before in let entered3 = at2 .entered3 in
     let at3 = at2 .before in let entered2 = at3 .entered2 in
     let entered = at3 .before .entered in
-    rw (← (entered .ensures), ← (entered2 .ensures), ← (entered3 .ensures)) (one-of _ _ _ _ _ (greater .ensures) (c .greater2 .ensures))
+    c .greater2 .ensures ∙ rw (greater .ensures, entered .ensures, entered2 .ensures, entered3 .ensures)
 
 pub latest-spec : {M : Type 1} → statement M
 latest-spec = tie.close (tie.spec entered-requires (λ c. search needs) entered-requires-2 (λ c. search needs) entered-requires-3 (λ c κs. search needs) (λ c κs. search needs) returns)

@@ -1,6 +1,8 @@
+use mathlib.Core.Path.{_∙_}
 use native.Mathlib.Omega.{arith}
 use borrow.Author.Needs.{needs}
-use Rattle.tree_beams.proofs.Missing.{one-of, bounded-near}
+use Rattle.tree_beams.specs.Beams.{soonestOf}
+use Rattle.tree_beams.proofs.Missing.{bounded-near}
 use Rattle.tree_beams.proofs.soonest.Statement.{statement}
 use Rattle.tree_beams.proofs.soonest.Tie as tie
 
@@ -20,12 +22,13 @@ left-requires-3 c κs =
     (bounded-near (args .b .ray .direction .z) (args .b .z) (pre .1 .z), omega (arith, pre .0))
 
 returns : tie.Need-returns
+unfolding soonestOf
 returns c =
     let at1 = c .before in let lesser = at1 .lesser in
     let at2 = at1 .before in let left3 = at2 .left3 in
     let at3 = at2 .before in let left2 = at3 .left2 in
     let left = at3 .before .left in
-    rw (← (left .ensures), ← (left2 .ensures), ← (left3 .ensures)) (one-of _ _ _ _ _ (lesser .ensures) (c .lesser2 .ensures))
+    c .lesser2 .ensures ∙ rw (lesser .ensures, left .ensures, left2 .ensures, left3 .ensures)
 
 pub soonest-spec : {M : Type 1} → statement M
 soonest-spec = tie.close (tie.spec left-requires (λ c. search needs) left-requires-2 (λ c. search needs) left-requires-3 (λ c κs. search needs) (λ c κs. search needs) returns)

@@ -1,6 +1,7 @@
 use borrow.Author.Needs.{needs}
 use native.Mathlib.Omega.{arith}
 use Rattle.tree_beams.proofs.Products.{told}
+use Rattle.tree_beams.proofs.Missing.{one-entered, one-left}
 use Rattle.tree_blocks.proofs.Clearing.{row-near, row-before}
 use Rattle.tree_blocks.proofs.clears.Statement.{statement}
 use Rattle.tree_blocks.proofs.clears.Tie as tie
@@ -14,13 +15,13 @@ soonest-requires c κs = (omega (arith, c .before .before .pre .0), c .before .b
 returns : tie.Need-returns
 returns c =
     let at1 = c .before in let pre = at1 .before .before .before .pre in
-    λ h. row-near _ _ _ (pre .0) (pre .1) (pre .2) _ (at1 .soonest .ensures) (told (c .if1 .taken))
+    λ h. row-near _ _ _ (pre .0) (pre .1) (pre .2) _ (one-left _ _ _ _ (at1 .soonest .ensures)) (told (c .if1 .taken))
 
 returns-2 : tie.Need-returns-2
 returns-2 c =
     let at1 = c .before in let at2 = at1 .before in
     let pre = at2 .before .before .pre in
-    λ h. row-before _ _ _ (pre .0) (pre .1) (pre .2) _ _ (at2 .latest .ensures) (at1 .soonest .ensures) (told h)
+    λ h. row-before _ _ _ (pre .0) (pre .1) (pre .2) _ _ (one-entered _ _ _ _ (at2 .latest .ensures)) (one-left _ _ _ _ (at1 .soonest .ensures)) (told h)
 
 pub clears-spec : {M : Type 1} → statement M
 clears-spec = tie.close (tie.spec (λ c. search needs) latest-requires (λ c. search needs) soonest-requires returns returns-2)

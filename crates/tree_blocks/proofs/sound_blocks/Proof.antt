@@ -1,12 +1,13 @@
 use borrow.Author.Needs.{needs}
 use borrow.Author.Tests.{not-false}
 use native.Mathlib.Omega.{arith}
-use mathlib.Core.Path.{_≡_, refl, subst}
+use mathlib.Core.Path.{_≡_, refl, sym, _∙_, subst}
 use mathlib.Core.Logic.{⊎-elim}
 use Prim.Native.Nat.{_-_, _/_, _≤_}
 use lib.ListN.{length}
 use Rattle.floats.proofs.Tests.{clash}
 use Rattle.geometry.specs.Limits.{Sound}
+use Rattle.tree_trust.proofs.Making.{is-sound}
 use Rattle.tree_blocks.proofs.Clearing.{SoundBelow, below-none, below-more, below-all}
 use Rattle.tree_blocks.proofs.sound_blocks.Statement.{statement}
 use Rattle.tree_blocks.proofs.sound_blocks.Tie as tie
@@ -34,7 +35,7 @@ loop-again c =
     let at2 = c .before .before in let read-marks = at2 .read-marks in
     let at4 = at2 .before .before in let loop-test = at4 .loop-test in
     let at5 = at4 .before in let loop = at5 .loop in (
-      below-more _ _ _ (loop .inv .0) _ (read-marks .ensures) (⊎-elim (λ u k. subst Sound (u .1 .ensures) (u .2 .ensures (not-false _ (u .3 .left)))) (λ u k. absurd (u .left k)) (c .if2 .came)),
+      below-more _ _ _ (loop .inv .0) _ (read-marks .ensures) (⊎-elim (λ u k. subst Sound (u .1 .ensures) (is-sound _ (sym (u .2 .ensures) ∙ not-false _ (u .3 .left)))) (λ u k. absurd (u .left k)) (c .if2 .came)),
       loop .inv .1,
       omega (arith, loop-test .taken),
     )

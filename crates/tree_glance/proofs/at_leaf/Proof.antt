@@ -1,7 +1,7 @@
 use mathlib.Core.Path.{refl, ap, _∙_}
 use native.Mathlib.Omega.{arith}
 use borrow.Author.Needs.{needs}
-use Rattle.tree_glance.proofs.Spots.{clear-far, shorter}
+use Rattle.tree_glance.proofs.Spots.{enters-before, leaf-short, leaf-late, leaf-clear, leaf-unknown, clear-far, shorter}
 use Rattle.tree_glance.proofs.at_leaf.Statement.{statement}
 use Rattle.tree_glance.proofs.at_leaf.Tie as tie
 
@@ -28,16 +28,20 @@ returns c =
     let at6 = at4 .before .before in let spot = at6 .spot in
     let at13 = at6 .before .before .before .before .before .before .before in let args = at13 .args in
     let pre = at13 .pre in
-    shorter _ _ _ _ _ _ _ _ (spot .ensures) _ (a .given .1) (enters .ensures (if1 .taken)) (args .cover .now) (pre .2) _ (c .index .ensures .0)
+    (leaf-short _ _ (spot .ensures) _ (a .given .1) _ _ (enters .ensures) (if1 .taken), shorter _ _ _ _ _ _ _ _ (spot .ensures) _ (a .given .1) (enters-before _ _ _ _ _ (enters .ensures) (if1 .taken)) (args .cover .now) (pre .2) _ (c .index .ensures .0))
 
 returns-2 : tie.Need-returns-2
-returns-2 c = refl
+returns-2 c = (leaf-unknown _ _ (c .before .before .spot .ensures) _ (c .enum-told .given .1), refl)
 
 returns-3 : tie.Need-returns-3
-returns-3 c = (refl, clear-far _ _ _ _ _ (c .before .before .spot .ensures) (c .enum-told2 .given .1))
+returns-3 c = (leaf-clear _ _ (c .before .before .spot .ensures) _ (c .enum-told2 .given .1), (refl, clear-far _ _ _ _ _ (c .before .before .spot .ensures) (c .enum-told2 .given .1)))
 
 returns-4 : tie.Need-returns-4
-returns-4 c = refl
+returns-4 c =
+    let at1 = c .before in let enters = at1 .enters in
+    let at3 = at1 .before .before in let a = at3 .a in
+    let at5 = at3 .before .before in let spot = at5 .spot in
+    (leaf-late _ _ (spot .ensures) _ (a .given .1) _ _ (enters .ensures) (c .if1 .left), refl)
 
 pub at-leaf-spec : {M : Type 1} → statement M
 at-leaf-spec =

@@ -4,6 +4,7 @@ use lib.Dec.{T}
 use native.Mathlib.Omega.{arith}
 use borrow.Author.Needs.{needs}
 use Rattle.floats.proofs.Tests.{clash}
+use Rattle.tree_glance.proofs.Spots.{enters-before}
 use Rattle.tree_glance.proofs.Sighting.{covering, fits-else}
 use Rattle.tree_glance.proofs.covered.Statement.{statement}
 use Rattle.tree_glance.proofs.covered.Tie as tie
@@ -31,7 +32,7 @@ returns-2 c =
     let at4 = at1 .before .before .before in let a = at4 .a in
     let at6 = at4 .before .before in let hit-from = at6 .hit-from in
     let at8 = at6 .before .before in let if1 = at8 .if1 in
-    λ h. covering _ _ _ _ _ (if1 .left) (c .enters .ensures h) _ (sym (hit-from .ensures) ∙ a .given .1) (if2 .taken)
+    λ h. covering _ _ _ _ _ (if1 .left) (enters-before _ _ _ _ _ (c .enters .ensures) h) _ (sym (hit-from .ensures) ∙ a .given .1) (if2 .taken)
 
 pub covered-spec : {M : Type 1} → statement M
 covered-spec =

@@ -5,6 +5,7 @@ use borrow.Author.Needs.{needs}
 use borrow.Author.Tests.{not-false}
 use Rattle.geometry.specs.declared.ray.Ray.{Ray}
 use Rattle.tree_walk.specs.Walks.{entryHit, walkRows}
+use Rattle.tree_beams.proofs.Aiming.{aim-ray, aim-x, aim-y, aim-z, is-sure}
 use Rattle.tree_glance.proofs.Endings.{aimed-usable}
 use Rattle.tree_glance.proofs.Sighting.{near-seen, length-reached, aimed, told-as, told-hidden, covering-tells, kept-fits, kept-none, seen-as, turned}
 use Rattle.tree_glance.proofs.glimpse.Statement.{statement}
@@ -41,9 +42,9 @@ returns-3 c =
     let at10 = at9 .before in let if1 = at10 .if1 in
     let at19 = at10 .before .before .before .before .before .before .before .before .before in let args = at19 .args in
     let pre = at19 .pre in (
-      told-hidden (args .eye) (args .point) (sub .result) (args .distance) (sub .ensures) (pre .6) (div-scalar .result) (div-scalar .ensures) (new .result) (new .ensures) (aim .result) (aim .ensures .0) (if1 .left) (λ (r : Ray). walkRows (entryHit (args .numbers .now) (args .inverses .now) (args .marks .now) r) r (args .node-boxes .now) (args .node-marks .now) (args .order .now)) (covering-tells (entryHit (args .numbers .now) (args .inverses .now) (args .marks .now) (aim .result .ray))
-          (aim .result .ray) (args .distance) (args .node-boxes .now) (args .node-marks .now) (args .order .now) (args .cover .now) (args .stack .now) (pre .0) (pre .4) (aimed-usable (aim .result) (aimed (args .eye) (args .point) (sub .result) (args .distance) (sub .ensures) (pre .6) (div-scalar .result) (div-scalar .ensures) (new .result) (new .ensures) (aim .result) (aim .ensures .0) (pre .3) (aim .ensures .1) (aim .ensures .2) (aim .ensures .3) (sure .ensures (not-false _ (if2 .left)))))
-          (λ i. pre .1 (if3 .taken) _ i) (turned (λ (r : Ray). entryHit (args .numbers .now) (args .inverses .now) (args .marks .now) r) (aim .result .ray) (new .result) (args .distance) (args .node-boxes .now) {cover = args .cover .now} (aim .ensures .0) (covered .ensures (c .if4 .taken)))),
+      told-hidden (args .eye) (args .point) (sub .result) (args .distance) (sub .ensures) (pre .6) (div-scalar .result) (div-scalar .ensures) (new .result) (new .ensures) (aim .result) (aim-ray _ _ _ _ (aim .ensures)) (if1 .left) (λ (r : Ray). walkRows (entryHit (args .numbers .now) (args .inverses .now) (args .marks .now) r) r (args .node-boxes .now) (args .node-marks .now) (args .order .now)) (covering-tells (entryHit (args .numbers .now) (args .inverses .now) (args .marks .now) (aim .result .ray))
+          (aim .result .ray) (args .distance) (args .node-boxes .now) (args .node-marks .now) (args .order .now) (args .cover .now) (args .stack .now) (pre .0) (pre .4) (aimed-usable (aim .result) (aimed (args .eye) (args .point) (sub .result) (args .distance) (sub .ensures) (pre .6) (div-scalar .result) (div-scalar .ensures) (new .result) (new .ensures) (aim .result) (aim-ray _ _ _ _ (aim .ensures)) (pre .3) (aim-x _ _ _ _ (aim .ensures)) (aim-y _ _ _ _ (aim .ensures)) (aim-z _ _ _ _ (aim .ensures)) (is-sure _ (sym (sure .ensures) ∙ not-false _ (if2 .left)))))
+          (λ i. pre .1 (if3 .taken) _ i) (turned (λ (r : Ray). entryHit (args .numbers .now) (args .inverses .now) (args .marks .now) r) (aim .result .ray) (new .result) (args .distance) (args .node-boxes .now) {cover = args .cover .now} (aim-ray _ _ _ _ (aim .ensures)) (covered .ensures (c .if4 .taken)))),
       pre .4,
     )
 
@@ -57,7 +58,7 @@ look-requires c κs =
     let at8 = at7 .before in let sub = at8 .sub in
     let at18 = at8 .before .before .before .before .before .before .before .before .before .before in let args = at18 .args in
     let pre = at18 .pre in
-    (pre .0, pre .1, (aimed (args .eye) (args .point) (sub .result) (args .distance) (sub .ensures) (pre .6) (div-scalar .result) (div-scalar .ensures) (new .result) (new .ensures) (aim .result) (aim .ensures .0) (pre .3) (aim .ensures .1) (aim .ensures .2) (aim .ensures .3) (sure .ensures (not-false _ (if2 .left)))), length-reached (args .eye) (args .point) (sub .result) (args .distance) (sub .ensures) (pre .6) (pre .2) (pre .3), pre .4, pre .5)
+    (pre .0, pre .1, (aimed (args .eye) (args .point) (sub .result) (args .distance) (sub .ensures) (pre .6) (div-scalar .result) (div-scalar .ensures) (new .result) (new .ensures) (aim .result) (aim-ray _ _ _ _ (aim .ensures)) (pre .3) (aim-x _ _ _ _ (aim .ensures)) (aim-y _ _ _ _ (aim .ensures)) (aim-z _ _ _ _ (aim .ensures)) (is-sure _ (sym (sure .ensures) ∙ not-false _ (if2 .left)))), length-reached (args .eye) (args .point) (sub .result) (args .distance) (sub .ensures) (pre .6) (pre .2) (pre .3), pre .4, pre .5)
 
 slice-write-cover : tie.Need-slice-write-cover
 slice-write-cover c =
@@ -115,7 +116,7 @@ returns-5 c =
     let at16 = at15 .before in let if1 = at16 .if1 in
     let at25 = at16 .before .before .before .before .before .before .before .before .before in let args = at25 .args in
     let pre = at25 .pre in
-    (seen-as _ _ _ (c .enum-told2 .given .1) (told-as (args .eye) (args .point) (sub .result) (args .distance) (sub .ensures) (pre .6) (div-scalar .result) (div-scalar .ensures) (new .result) (new .ensures) (aim .result) (aim .ensures .0) (if1 .left) (λ (r : Ray). walkRows (entryHit (args .numbers .now) (args .inverses .now) (args .marks .now) r) r (args .node-boxes .now) (args .node-marks .now) (args .order .now)) (look .result) (look .ensures .0)), look .ensures .1)
+    (seen-as _ _ _ (c .enum-told2 .given .1) (told-as (args .eye) (args .point) (sub .result) (args .distance) (sub .ensures) (pre .6) (div-scalar .result) (div-scalar .ensures) (new .result) (new .ensures) (aim .result) (aim-ray _ _ _ _ (aim .ensures)) (if1 .left) (λ (r : Ray). walkRows (entryHit (args .numbers .now) (args .inverses .now) (args .marks .now) r) r (args .node-boxes .now) (args .node-marks .now) (args .order .now)) (look .result) (look .ensures .0)), look .ensures .1)
 
 returns-6 : tie.Need-returns-6
 returns-6 c =
@@ -127,7 +128,7 @@ returns-6 c =
     let at16 = at15 .before in let if1 = at16 .if1 in
     let at25 = at16 .before .before .before .before .before .before .before .before .before in let args = at25 .args in
     let pre = at25 .pre in
-    (seen-as _ _ _ (c .enum-told3 .given .1) (told-as (args .eye) (args .point) (sub .result) (args .distance) (sub .ensures) (pre .6) (div-scalar .result) (div-scalar .ensures) (new .result) (new .ensures) (aim .result) (aim .ensures .0) (if1 .left) (λ (r : Ray). walkRows (entryHit (args .numbers .now) (args .inverses .now) (args .marks .now) r) r (args .node-boxes .now) (args .node-marks .now) (args .order .now)) (look .result) (look .ensures .0)), kept-none _ _ _ _ _ (look .ensures .1))
+    (seen-as _ _ _ (c .enum-told3 .given .1) (told-as (args .eye) (args .point) (sub .result) (args .distance) (sub .ensures) (pre .6) (div-scalar .result) (div-scalar .ensures) (new .result) (new .ensures) (aim .result) (aim-ray _ _ _ _ (aim .ensures)) (if1 .left) (λ (r : Ray). walkRows (entryHit (args .numbers .now) (args .inverses .now) (args .marks .now) r) r (args .node-boxes .now) (args .node-marks .now) (args .order .now)) (look .result) (look .ensures .0)), kept-none _ _ _ _ _ (look .ensures .1))
 
 pub glimpse-spec : {M : Type 1} → statement M
 glimpse-spec =

@@ -1,21 +1,19 @@
-use mathlib.Core.Path.{_≡_, refl, sym, ap, _∙_}
-use mathlib.Core.Bool.{true}
+use mathlib.Core.Path.{sym, ap, _∙_}
 use native.Mathlib.Omega.{arith}
 use lib.ListN.{length, length-set}
-use mathlib.Core.List.{List}
-use Prim.Native.Nat.{ℕ}
 use borrow.Author.Needs.{needs}
 use Rattle.tree_walk.specs.Walks.{entryHit}
 use Rattle.tree_glance.specs.Glances.{LastCover}
-use Rattle.tree_glance.proofs.Spots.{told-unsure, told-same, told-far, told-short}
-use Rattle.tree_glance.proofs.Endings.{aimed-usable, kept-stack, kept-same, tells-as}
-use Rattle.tree_glance.proofs.Looking.{At-place, root-asked, root-missed, look-start, place-fits, place-links, leaf-done, leaf-hides, leaf-kept, leaf-answered, near-asked, far-asked, to-far, to-neither, to-near, to-both, look-back, look-hidden, look-end, look-end-hidden, look-calm}
+use Rattle.tree_glance.proofs.Spots.{told-unsure, told-same, told-short}
+use Rattle.tree_glance.proofs.Endings.{kept-stack, kept-same}
+use Rattle.tree_glance.proofs.Looking.{root-asked, place-fits, place-links, near-asked, far-asked}
+use Rattle.tree_glance.proofs.Turns.{Turn, turn-missed, turn-start, turn-over, turn-unsure, turn-past, turn-last, turn-kept, turn-calm, turn-hidden, turn-hidden-last, turn-neither, turn-neither-last, turn-far, turn-near, turn-full, turn-both}
 use Rattle.tree_glance.proofs.look.Statement.{statement}
 use Rattle.tree_glance.proofs.look.Tie as tie
 
 abbrev Inv-loop : tie.InvT-loop
 Inv-loop numbers inverses marks node-boxes node-marks order b distance calm cover₀ stack₀ r i₀ sp₀ hid₀ rounds₀ cover stack i sp hid rounds =
-    At-place (entryHit numbers inverses marks r) r distance node-boxes node-marks order i stack sp hid × LastCover node-boxes node-marks order cover stack
+    Turn (entryHit numbers inverses marks (b .ray)) b distance calm node-boxes node-marks order rounds i stack sp hid × LastCover node-boxes node-marks order cover stack
 
 abbrev μ-loop : tie.MeasureT-loop
 μ-loop numbers inverses marks node-boxes node-marks order b distance calm cover₀ stack₀ r i₀ sp₀ hid₀ rounds₀ cover stack i sp hid rounds = rounds
@@ -31,16 +29,18 @@ returns : tie.Need-returns Inv-loop μ-loop
 returns c =
     let at1 = c .before in let misses = at1 .misses in
     let at10 = at1 .before .before .before .before .before .before .before .before .before in let pre = at10 .pre in
-    (root-missed _ _ _ _ _ _ (pre .0) (pre .3) (misses .ensures (c .if1 .taken)), pre .4)
+    let said = turn-missed _ _ _ _ _ _ _ (pre .0) _ (misses .ensures) (pre .2) (pre .3) (c .if1 .taken) in
+    (said .0, pre .4, said .1)
 
 loop-holds : tie.Need-loop-holds Inv-loop μ-loop
 loop-holds c =
-    let at10 = c .before .before .before .before .before .before .before .before .before .before in let before = at10 .before in
-    let at11 = before in let pre = at11 .pre in
-    (look-start _ _ _ _ _ _ (pre .0) _ (pre .4 .wide-stack), pre .4)
+    let at1 = c .before in let if1 = at1 .if1 in
+    let at2 = at1 .before in let misses = at2 .misses in
+    let at11 = at2 .before .before .before .before .before .before .before .before .before in let pre = at11 .pre in
+    (turn-start _ _ _ _ _ _ _ (pre .0) _ (misses .ensures) _ (pre .4 .wide-stack) (if1 .left), pre .4)
 
 read-triple-requires : tie.Need-read-triple-requires Inv-loop μ-loop
-read-triple-requires c κs = place-links _ _ _ _ _ _ _ _ _ _ (c .before .loop .inv .0)
+read-triple-requires c κs = place-links _ _ _ _ _ _ _ _ _ _ (c .before .loop .inv .0 .place)
 
 at-leaf-requires : tie.Need-at-leaf-requires Inv-loop μ-loop
 at-leaf-requires c κs =
@@ -48,14 +48,19 @@ at-leaf-requires c κs =
     let at1 = c .before in let index2 = at1 .index2 in
     let at4 = at1 .before .before .before in let index = at4 .index in
     let at7 = at4 .before .before .before in let loop = at7 .loop in
-    (omega (arith, index .ensures .1, index2 .ensures .1), place-fits _ _ _ _ _ _ _ _ _ _ (loop .inv .0), loop .inv .1 .wide, pre .2, pre .3, pre .5)
+    (omega (arith, index .ensures .1, index2 .ensures .1), place-fits _ _ _ _ _ _ _ _ _ _ (loop .inv .0 .place), loop .inv .1 .wide, pre .2, pre .3, pre .5)
 
 returns-2 : tie.Need-returns-2 Inv-loop μ-loop
 returns-2 c =
-    let at3 = c .before .before .before in let before = at3 .before in
-    let at4 = before in let at-leaf = at4 .at-leaf in
-    let at12 = at4 .before .before .before .before .before .before .before .before in let loop = at12 .loop in
-    (tt, kept-same _ _ _ _ _ (loop .inv .1) _ (told-unsure _ _ _ _ _ _ _ _ _ _ (at-leaf .ensures) (c .enum-told .given .1)))
+    let at4 = c .before .before .before .before in let at-leaf = at4 .at-leaf in
+    let at6 = at4 .before .before in let index2 = at6 .index2 in
+    let at7 = at6 .before in let if2 = at7 .if2 in
+    let at8 = at7 .before in let is-leaf = at8 .is-leaf in
+    let at9 = at8 .before in let index = at9 .index in
+    let at10 = at9 .before in let read-triple = at10 .read-triple in
+    let at11 = at10 .before in let loop-test = at11 .loop-test in
+    let at12 = at11 .before in let loop = at12 .loop in
+    (tt, kept-same _ _ _ _ _ (loop .inv .1) _ (told-unsure _ _ _ _ _ _ _ _ _ _ (at-leaf .ensures .1) (c .enum-told .given .1)), turn-unsure _ _ _ _ _ _ _ _ _ _ _ _ (loop .inv .0) (loop-test .taken) _ (read-triple .ensures) _ (index .ensures .0) _ (is-leaf .ensures) (if2 .taken) _ (index2 .ensures .0) _ _ _ (at-leaf .ensures .0) (at-leaf .ensures .1) (c .enum-told .given .1) .1)
 
 returns-3 : tie.Need-returns-3 Inv-loop μ-loop
 returns-3 c =
@@ -67,9 +72,11 @@ returns-3 c =
     let at10 = at9 .before in let is-leaf = at10 .is-leaf in
     let at11 = at10 .before in let index = at11 .index in
     let at12 = at11 .before in let read-triple = at12 .read-triple in
-    let at14 = at12 .before .before in let loop = at14 .loop in
+    let at13 = at12 .before in let loop-test = at13 .loop-test in
+    let at14 = at13 .before in let loop = at14 .loop in
     let at26 = at14 .before .before .before .before .before .before .before .before .before .before .before .before in let pre = at26 .pre in
-    (tells-as _ _ _ _ (c .ended .ensures) (look-end _ _ _ _ _ _ _ _ _ _ (loop .inv .0) (pre .0) (aimed-usable _ (pre .2)) (pre .3) (if3 .taken) (leaf-done _ _ _ _ _ _ _ _ _ _ (loop .inv .0) _ (read-triple .ensures) _ (index .ensures .0) _ (is-leaf .ensures) (if2 .taken) _ (index2 .ensures .0) (told-far _ _ _ _ _ _ _ _ _ _ (at-leaf .ensures) (enum-told2 .given .1)))), kept-same _ _ _ _ _ (loop .inv .1) _ (told-same _ _ _ _ _ _ _ _ _ _ (at-leaf .ensures) (enum-told2 .given .1)))
+    let said = turn-last _ _ _ _ _ _ _ _ _ _ _ _ (loop .inv .0) (loop-test .taken) _ (read-triple .ensures) _ (index .ensures .0) _ (is-leaf .ensures) (if2 .taken) _ (index2 .ensures .0) _ _ _ (at-leaf .ensures .0) (at-leaf .ensures .1) (enum-told2 .given .1) (pre .0) (pre .2) (pre .3) (if3 .taken) _ (c .ended .ensures) in
+    (said .0, kept-same _ _ _ _ _ (loop .inv .1) _ (told-same _ _ _ _ _ _ _ _ _ _ (at-leaf .ensures .1) (enum-told2 .given .1)), said .1)
 
 loop-again : tie.Need-loop-again Inv-loop μ-loop
 loop-again c =
@@ -81,8 +88,9 @@ loop-again c =
     let at10 = at9 .before in let is-leaf = at10 .is-leaf in
     let at11 = at10 .before in let index = at11 .index in
     let at12 = at11 .before in let read-triple = at12 .read-triple in
-    let at14 = at12 .before .before in let loop = at14 .loop in
-    (look-back _ _ _ _ _ _ _ _ _ _ (loop .inv .0) (if3 .left) (leaf-done _ _ _ _ _ _ _ _ _ _ (loop .inv .0) _ (read-triple .ensures) _ (index .ensures .0) _ (is-leaf .ensures) (if2 .taken) _ (index2 .ensures .0) (told-far _ _ _ _ _ _ _ _ _ _ (at-leaf .ensures) (enum-told2 .given .1))), kept-same _ _ _ _ _ (loop .inv .1) _ (told-same _ _ _ _ _ _ _ _ _ _ (at-leaf .ensures) (enum-told2 .given .1)))
+    let at13 = at12 .before in let loop-test = at13 .loop-test in
+    let at14 = at13 .before in let loop = at14 .loop in
+    (turn-past _ _ _ _ _ _ _ _ _ _ _ _ (loop .inv .0) (loop-test .taken) _ (read-triple .ensures) _ (index .ensures .0) _ (is-leaf .ensures) (if2 .taken) _ (index2 .ensures .0) _ _ _ (at-leaf .ensures .0) (at-leaf .ensures .1) (enum-told2 .given .1) (if3 .left), kept-same _ _ _ _ _ (loop .inv .1) _ (told-same _ _ _ _ _ _ _ _ _ _ (at-leaf .ensures .1) (enum-told2 .given .1)))
 
 returns-4 : tie.Need-returns-4 Inv-loop μ-loop
 returns-4 c =
@@ -93,12 +101,11 @@ returns-4 c =
     let at9 = at8 .before in let is-leaf = at9 .is-leaf in
     let at10 = at9 .before in let index = at10 .index in
     let at11 = at10 .before in let read-triple = at11 .read-triple in
-    let at13 = at11 .before .before in let loop = at13 .loop in
-    let at25 = at13 .before .before .before .before .before .before .before .before .before .before .before .before in let pre = at25 .pre in (
-      look-calm _ _ _ _ _ _ _ _ _ _ (loop .inv .0) (pre .0) (aimed-usable _ (pre .2)) (pre .3) (λ j. pre .1 (c .if4 .taken) _ j) (leaf-hides _ _ _ _ _ _ _ _ _ _ (loop .inv .0) _ (read-triple .ensures) _ (index .ensures .0) _ (is-leaf .ensures) (if2 .taken) _ (index2 .ensures .0) _ _ (told-short _ _ _ _ _ _ _ _ _ _ (at-leaf .ensures) (enum-told3 .given .1))),
-      leaf-kept _ _ _ _ _ _ _ _ _ _ (loop .inv .0) _ (read-triple .ensures) _ (index .ensures .0) _ (is-leaf .ensures) (if2 .taken) _
-          (index2 .ensures .0) _ _ (told-short _ _ _ _ _ _ _ _ _ _ (at-leaf .ensures) (enum-told3 .given .1)) (loop .inv .1 .wide-stack),
-    )
+    let at12 = at11 .before in let loop-test = at12 .loop-test in
+    let at13 = at12 .before in let loop = at13 .loop in
+    let at25 = at13 .before .before .before .before .before .before .before .before .before .before .before .before in let pre = at25 .pre in
+    let said = turn-calm _ _ _ _ _ _ _ _ _ _ _ _ (loop .inv .0) (loop-test .taken) _ (read-triple .ensures) _ (index .ensures .0) _ (is-leaf .ensures) (if2 .taken) _ (index2 .ensures .0) _ _ _ (at-leaf .ensures .0) (at-leaf .ensures .1) (enum-told3 .given .1) (pre .0) (pre .2) (pre .3) (λ j. pre .1 (c .if4 .taken) _ j) (c .if4 .taken) in
+    (said .0, turn-kept _ _ _ _ _ _ _ _ _ _ _ _ (loop .inv .0) (loop-test .taken) _ (read-triple .ensures) _ (index .ensures .0) _ (is-leaf .ensures) (if2 .taken) _ (index2 .ensures .0) _ _ _ (at-leaf .ensures .0) (at-leaf .ensures .1) (enum-told3 .given .1) (loop .inv .1 .wide-stack), said .1)
 
 returns-5 : tie.Need-returns-5 Inv-loop μ-loop
 returns-5 c =
@@ -110,12 +117,11 @@ returns-5 c =
     let at10 = at9 .before in let is-leaf = at10 .is-leaf in
     let at11 = at10 .before in let index = at11 .index in
     let at12 = at11 .before in let read-triple = at12 .read-triple in
-    let at14 = at12 .before .before in let loop = at14 .loop in
-    let at26 = at14 .before .before .before .before .before .before .before .before .before .before .before .before in let pre = at26 .pre in (
-      look-end-hidden _ _ _ _ _ _ _ _ _ _ (loop .inv .0) (pre .0) (aimed-usable _ (pre .2)) (pre .3) (c .if5 .taken) (leaf-answered _ _ _ _ _ _ _ _ _ _ (loop .inv .0) _ (read-triple .ensures) _ (index .ensures .0) _ (is-leaf .ensures) (if2 .taken) _ (index2 .ensures .0) _ _ (told-short _ _ _ _ _ _ _ _ _ _ (at-leaf .ensures) (enum-told3 .given .1)) (if4 .left)) (leaf-hides _ _ _ _ _ _ _ _ _ _ (loop .inv .0) _ (read-triple .ensures) _ (index .ensures .0) _ (is-leaf .ensures) (if2 .taken) _
-          (index2 .ensures .0) _ _ (told-short _ _ _ _ _ _ _ _ _ _ (at-leaf .ensures) (enum-told3 .given .1))),
-      leaf-kept _ _ _ _ _ _ _ _ _ _ (loop .inv .0) _ (read-triple .ensures) _ (index .ensures .0) _ (is-leaf .ensures) (if2 .taken) _ (index2 .ensures .0) _ _ (told-short _ _ _ _ _ _ _ _ _ _ (at-leaf .ensures) (enum-told3 .given .1)) (loop .inv .1 .wide-stack),
-    )
+    let at13 = at12 .before in let loop-test = at13 .loop-test in
+    let at14 = at13 .before in let loop = at14 .loop in
+    let at26 = at14 .before .before .before .before .before .before .before .before .before .before .before .before in let pre = at26 .pre in
+    let said = turn-hidden-last _ _ _ _ _ _ _ _ _ _ _ _ (loop .inv .0) (loop-test .taken) _ (read-triple .ensures) _ (index .ensures .0) _ (is-leaf .ensures) (if2 .taken) _ (index2 .ensures .0) _ _ _ (at-leaf .ensures .0) (at-leaf .ensures .1) (enum-told3 .given .1) (if4 .left) (pre .0) (pre .2) (pre .3) (c .if5 .taken) in
+    (said .0, turn-kept _ _ _ _ _ _ _ _ _ _ _ _ (loop .inv .0) (loop-test .taken) _ (read-triple .ensures) _ (index .ensures .0) _ (is-leaf .ensures) (if2 .taken) _ (index2 .ensures .0) _ _ _ (at-leaf .ensures .0) (at-leaf .ensures .1) (enum-told3 .given .1) (loop .inv .1 .wide-stack), said .1)
 
 loop-again-2 : tie.Need-loop-again-2 Inv-loop μ-loop
 loop-again-2 c =
@@ -128,11 +134,9 @@ loop-again-2 c =
     let at11 = at10 .before in let is-leaf = at11 .is-leaf in
     let at12 = at11 .before in let index = at12 .index in
     let at13 = at12 .before in let read-triple = at13 .read-triple in
-    let at15 = at13 .before .before in let loop = at15 .loop in (
-      look-hidden _ _ _ _ _ _ _ _ _ _ (loop .inv .0) (if5 .left) (leaf-answered _ _ _ _ _ _ _ _ _ _ (loop .inv .0) _ (read-triple .ensures) _ (index .ensures .0) _ (is-leaf .ensures) (if2 .taken) _ (index2 .ensures .0) _ _ (told-short _ _ _ _ _ _ _ _ _ _ (at-leaf .ensures) (enum-told3 .given .1)) (if4 .left)) (leaf-hides _ _ _ _ _ _ _ _ _ _ (loop .inv .0) _ (read-triple .ensures) _ (index .ensures .0) _ (is-leaf .ensures) (if2 .taken) _ (index2 .ensures .0) _ _ (told-short _ _ _ _ _ _ _ _ _ _
-          (at-leaf .ensures) (enum-told3 .given .1))),
-      leaf-kept _ _ _ _ _ _ _ _ _ _ (loop .inv .0) _ (read-triple .ensures) _ (index .ensures .0) _ (is-leaf .ensures) (if2 .taken) _ (index2 .ensures .0) _ _ (told-short _ _ _ _ _ _ _ _ _ _ (at-leaf .ensures) (enum-told3 .given .1)) (loop .inv .1 .wide-stack),
-    )
+    let at14 = at13 .before in let loop-test = at14 .loop-test in
+    let at15 = at14 .before in let loop = at15 .loop in
+    (turn-hidden _ _ _ _ _ _ _ _ _ _ _ _ (loop .inv .0) (loop-test .taken) _ (read-triple .ensures) _ (index .ensures .0) _ (is-leaf .ensures) (if2 .taken) _ (index2 .ensures .0) _ _ _ (at-leaf .ensures .0) (at-leaf .ensures .1) (enum-told3 .given .1) (if4 .left) (if5 .left), turn-kept _ _ _ _ _ _ _ _ _ _ _ _ (loop .inv .0) (loop-test .taken) _ (read-triple .ensures) _ (index .ensures .0) _ (is-leaf .ensures) (if2 .taken) _ (index2 .ensures .0) _ _ _ (at-leaf .ensures .0) (at-leaf .ensures .1) (enum-told3 .given .1) (loop .inv .1 .wide-stack))
 
 sided-requires : tie.Need-sided-requires Inv-loop μ-loop
 sided-requires c κs = c .before .before .before .index .ensures .1
@@ -146,7 +150,7 @@ misses-requires-2 c κs =
     let at5 = at4 .before in let read-triple = at5 .read-triple in
     let at7 = at5 .before .before in let loop = at7 .loop in
     let at19 = at7 .before .before .before .before .before .before .before .before .before .before .before .before in let pre = at19 .pre in
-    (near-asked _ _ _ _ _ _ _ _ _ _ (loop .inv .0) _ (read-triple .ensures) _ (index .ensures .0) _ (is-leaf .ensures) (if2 .left) _ _ (c .sided .ensures) .0, pre .2, near-asked _ _ _ _ _ _ _ _ _ _ (loop .inv .0) _ (read-triple .ensures) _ (index .ensures .0) _ (is-leaf .ensures) (if2 .left) _ _ (c .sided .ensures) .1)
+    (near-asked _ _ _ _ _ _ _ _ _ _ (loop .inv .0 .place) _ (read-triple .ensures) _ (index .ensures .0) _ (is-leaf .ensures) (if2 .left) _ _ (c .sided .ensures) .0, pre .2, near-asked _ _ _ _ _ _ _ _ _ _ (loop .inv .0 .place) _ (read-triple .ensures) _ (index .ensures .0) _ (is-leaf .ensures) (if2 .left) _ _ (c .sided .ensures) .1)
 
 misses-requires-3 : tie.Need-misses-requires-3 Inv-loop μ-loop
 misses-requires-3 c κs =
@@ -157,7 +161,7 @@ misses-requires-3 c κs =
     let at6 = at5 .before in let read-triple = at6 .read-triple in
     let at8 = at6 .before .before in let loop = at8 .loop in
     let at20 = at8 .before .before .before .before .before .before .before .before .before .before .before .before in let pre = at20 .pre in
-    (far-asked _ _ _ _ _ _ _ _ _ _ (loop .inv .0) _ (read-triple .ensures) _ (index .ensures .0) _ (is-leaf .ensures) (if2 .left) _ _ (sided .ensures) .0, pre .2, far-asked _ _ _ _ _ _ _ _ _ _ (loop .inv .0) _ (read-triple .ensures) _ (index .ensures .0) _ (is-leaf .ensures) (if2 .left) _ _ (sided .ensures) .1)
+    (far-asked _ _ _ _ _ _ _ _ _ _ (loop .inv .0 .place) _ (read-triple .ensures) _ (index .ensures .0) _ (is-leaf .ensures) (if2 .left) _ _ (sided .ensures) .0, pre .2, far-asked _ _ _ _ _ _ _ _ _ _ (loop .inv .0 .place) _ (read-triple .ensures) _ (index .ensures .0) _ (is-leaf .ensures) (if2 .left) _ _ (sided .ensures) .1)
 
 returns-6 : tie.Need-returns-6 Inv-loop μ-loop
 returns-6 c =
@@ -167,13 +171,16 @@ returns-6 c =
     let at4 = at3 .before in let misses3 = at4 .misses3 in
     let at5 = at4 .before in let misses2 = at5 .misses2 in
     let at6 = at5 .before in let sided = at6 .sided in
-    let at8 = at6 .before .before in let if2 = at8 .if2 in
+    let at7 = at6 .before in let backward = at7 .backward in
+    let at8 = at7 .before in let if2 = at8 .if2 in
     let at9 = at8 .before in let is-leaf = at9 .is-leaf in
     let at10 = at9 .before in let index = at10 .index in
     let at11 = at10 .before in let read-triple = at11 .read-triple in
-    let at13 = at11 .before .before in let loop = at13 .loop in
+    let at12 = at11 .before in let loop-test = at12 .loop-test in
+    let at13 = at12 .before in let loop = at13 .loop in
     let at25 = at13 .before .before .before .before .before .before .before .before .before .before .before .before in let pre = at25 .pre in
-    (tells-as _ _ _ _ (c .ended2 .ensures) (look-end _ _ _ _ _ _ _ _ _ _ (loop .inv .0) (pre .0) (aimed-usable _ (pre .2)) (pre .3) (if8 .taken) (to-neither _ _ _ _ _ _ _ _ _ _ (loop .inv .0) _ (read-triple .ensures) _ (index .ensures .0) _ (is-leaf .ensures) (if2 .left) _ _ (sided .ensures) (misses2 .ensures (if6 .taken)) (misses3 .ensures (if7 .taken)))), loop .inv .1)
+    let said = turn-neither-last _ _ _ _ _ _ _ _ _ _ _ _ (loop .inv .0) (loop-test .taken) _ (read-triple .ensures) _ (index .ensures .0) _ (is-leaf .ensures) (if2 .left) _ (backward .ensures) _ (sided .ensures) (pre .2) _ (misses2 .ensures) _ (misses3 .ensures) (if6 .taken) (if7 .taken) (pre .0) (pre .3) (if8 .taken) _ (c .ended2 .ensures) in
+    (said .0, loop .inv .1, said .1)
 
 loop-again-3 : tie.Need-loop-again-3 Inv-loop μ-loop
 loop-again-3 c =
@@ -183,80 +190,109 @@ loop-again-3 c =
     let at4 = at3 .before in let misses3 = at4 .misses3 in
     let at5 = at4 .before in let misses2 = at5 .misses2 in
     let at6 = at5 .before in let sided = at6 .sided in
-    let at8 = at6 .before .before in let if2 = at8 .if2 in
+    let at7 = at6 .before in let backward = at7 .backward in
+    let at8 = at7 .before in let if2 = at8 .if2 in
     let at9 = at8 .before in let is-leaf = at9 .is-leaf in
     let at10 = at9 .before in let index = at10 .index in
     let at11 = at10 .before in let read-triple = at11 .read-triple in
-    let at13 = at11 .before .before in let loop = at13 .loop in
-    (look-back _ _ _ _ _ _ _ _ _ _ (loop .inv .0) (if8 .left) (to-neither _ _ _ _ _ _ _ _ _ _ (loop .inv .0) _ (read-triple .ensures) _ (index .ensures .0) _ (is-leaf .ensures) (if2 .left) _ _ (sided .ensures) (misses2 .ensures (if6 .taken)) (misses3 .ensures (if7 .taken))), loop .inv .1)
+    let at12 = at11 .before in let loop-test = at12 .loop-test in
+    let at13 = at12 .before in let loop = at13 .loop in
+    let at25 = at13 .before .before .before .before .before .before .before .before .before .before .before .before in let pre = at25 .pre in
+    (turn-neither _ _ _ _ _ _ _ _ _ _ _ _ (loop .inv .0) (loop-test .taken) _ (read-triple .ensures) _ (index .ensures .0) _ (is-leaf .ensures) (if2 .left) _ (backward .ensures) _ (sided .ensures) (pre .2) _ (misses2 .ensures) _ (misses3 .ensures) (if6 .taken) (if7 .taken) (if8 .left), loop .inv .1)
 
 loop-again-4 : tie.Need-loop-again-4 Inv-loop μ-loop
 loop-again-4 c =
     let at1 = c .before in let if6 = at1 .if6 in
-    let at3 = at1 .before .before in let misses2 = at3 .misses2 in
+    let at2 = at1 .before in let misses3 = at2 .misses3 in
+    let at3 = at2 .before in let misses2 = at3 .misses2 in
     let at4 = at3 .before in let sided = at4 .sided in
-    let at6 = at4 .before .before in let if2 = at6 .if2 in
+    let at5 = at4 .before in let backward = at5 .backward in
+    let at6 = at5 .before in let if2 = at6 .if2 in
     let at7 = at6 .before in let is-leaf = at7 .is-leaf in
     let at8 = at7 .before in let index = at8 .index in
     let at9 = at8 .before in let read-triple = at9 .read-triple in
-    let at11 = at9 .before .before in let loop = at11 .loop in
-    (to-far _ _ _ _ _ _ _ _ _ _ (loop .inv .0) _ (read-triple .ensures) _ (index .ensures .0) _ (is-leaf .ensures) (if2 .left) _ _ (sided .ensures) (misses2 .ensures (if6 .taken)), loop .inv .1)
+    let at10 = at9 .before in let loop-test = at10 .loop-test in
+    let at11 = at10 .before in let loop = at11 .loop in
+    let at23 = at11 .before .before .before .before .before .before .before .before .before .before .before .before in let pre = at23 .pre in
+    (turn-far _ _ _ _ _ _ _ _ _ _ _ _ (loop .inv .0) (loop-test .taken) _ (read-triple .ensures) _ (index .ensures .0) _ (is-leaf .ensures) (if2 .left) _ (backward .ensures) _ (sided .ensures) (pre .2) _ (misses2 .ensures) _ (misses3 .ensures) (if6 .taken) (c .if7 .left), loop .inv .1)
 
 loop-again-5 : tie.Need-loop-again-5 Inv-loop μ-loop
 loop-again-5 c =
-    let at1 = c .before in let before = at1 .before in
-    let at2 = before in let misses3 = at2 .misses3 in
-    let at4 = at2 .before .before in let sided = at4 .sided in
-    let at6 = at4 .before .before in let if2 = at6 .if2 in
+    let at1 = c .before in let if6 = at1 .if6 in
+    let at2 = at1 .before in let misses3 = at2 .misses3 in
+    let at3 = at2 .before in let misses2 = at3 .misses2 in
+    let at4 = at3 .before in let sided = at4 .sided in
+    let at5 = at4 .before in let backward = at5 .backward in
+    let at6 = at5 .before in let if2 = at6 .if2 in
     let at7 = at6 .before in let is-leaf = at7 .is-leaf in
     let at8 = at7 .before in let index = at8 .index in
     let at9 = at8 .before in let read-triple = at9 .read-triple in
-    let at11 = at9 .before .before in let loop = at11 .loop in
-    (to-near _ _ _ _ _ _ _ _ _ _ (loop .inv .0) _ (read-triple .ensures) _ (index .ensures .0) _ (is-leaf .ensures) (if2 .left) _ _ (sided .ensures) (misses3 .ensures (c .if9 .taken)), loop .inv .1)
+    let at10 = at9 .before in let loop-test = at10 .loop-test in
+    let at11 = at10 .before in let loop = at11 .loop in
+    let at23 = at11 .before .before .before .before .before .before .before .before .before .before .before .before in let pre = at23 .pre in
+    (turn-near _ _ _ _ _ _ _ _ _ _ _ _ (loop .inv .0) (loop-test .taken) _ (read-triple .ensures) _ (index .ensures .0) _ (is-leaf .ensures) (if2 .left) _ (backward .ensures) _ (sided .ensures) (pre .2) _ (misses2 .ensures) _ (misses3 .ensures) (if6 .left) (c .if9 .taken), loop .inv .1)
 
 returns-7 : tie.Need-returns-7 Inv-loop μ-loop
 returns-7 c =
-    let at11 = c .before .before .before .before .before .before .before .before .before .before .before in let before = at11 .before in
-    let at12 = before in let loop = at12 .loop in
-    (tt, loop .inv .1)
-
-loop-again-6 : tie.Need-loop-again-6 Inv-loop μ-loop
-loop-again-6 c =
-    let at4 = c .before .before .before .before in let before = at4 .before in
-    let at5 = before in let sided = at5 .sided in
-    let at7 = at5 .before .before in let if2 = at7 .if2 in
+    let at1 = c .before in let if9 = at1 .if9 in
+    let at2 = at1 .before in let if6 = at2 .if6 in
+    let at3 = at2 .before in let misses3 = at3 .misses3 in
+    let at4 = at3 .before in let misses2 = at4 .misses2 in
+    let at5 = at4 .before in let sided = at5 .sided in
+    let at6 = at5 .before in let backward = at6 .backward in
+    let at7 = at6 .before in let if2 = at7 .if2 in
     let at8 = at7 .before in let is-leaf = at8 .is-leaf in
     let at9 = at8 .before in let index = at9 .index in
     let at10 = at9 .before in let read-triple = at10 .read-triple in
-    let at12 = at10 .before .before in let loop = at12 .loop in
-    (to-both _ _ _ _ _ _ _ _ _ _ (loop .inv .0) _ (read-triple .ensures) _ (index .ensures .0) _ (is-leaf .ensures) (if2 .left) _ _ (sided .ensures) (omega (arith, c .if10 .left)), kept-stack _ _ _ _ _ (loop .inv .1) _ (length-set (loop .stack) (loop .sp) (sided .result .far) ∙ loop .inv .1 .wide-stack))
+    let at11 = at10 .before in let loop-test = at11 .loop-test in
+    let at12 = at11 .before in let loop = at12 .loop in
+    let at24 = at12 .before .before .before .before .before .before .before .before .before .before .before .before in let pre = at24 .pre in
+    (tt, loop .inv .1, turn-full _ _ _ _ _ _ _ _ _ _ _ _ (loop .inv .0) (loop-test .taken) _ (read-triple .ensures) _ (index .ensures .0) _ (is-leaf .ensures) (if2 .left) _ (backward .ensures) _ (sided .ensures) (pre .2) _ (misses2 .ensures) _ (misses3 .ensures) (if6 .left) (if9 .left) (c .if10 .taken) .1)
+
+loop-again-6 : tie.Need-loop-again-6 Inv-loop μ-loop
+loop-again-6 c =
+    let at1 = c .before in let if9 = at1 .if9 in
+    let at2 = at1 .before in let if6 = at2 .if6 in
+    let at3 = at2 .before in let misses3 = at3 .misses3 in
+    let at4 = at3 .before in let misses2 = at4 .misses2 in
+    let at5 = at4 .before in let sided = at5 .sided in
+    let at6 = at5 .before in let backward = at6 .backward in
+    let at7 = at6 .before in let if2 = at7 .if2 in
+    let at8 = at7 .before in let is-leaf = at8 .is-leaf in
+    let at9 = at8 .before in let index = at9 .index in
+    let at10 = at9 .before in let read-triple = at10 .read-triple in
+    let at11 = at10 .before in let loop-test = at11 .loop-test in
+    let at12 = at11 .before in let loop = at12 .loop in
+    let at24 = at12 .before .before .before .before .before .before .before .before .before .before .before .before in let pre = at24 .pre in
+    (turn-both _ _ _ _ _ _ _ _ _ _ _ _ (loop .inv .0) (loop-test .taken) _ (read-triple .ensures) _ (index .ensures .0) _ (is-leaf .ensures) (if2 .left) _ (backward .ensures) _ (sided .ensures) (pre .2) _ (misses2 .ensures) _ (misses3 .ensures) (if6 .left) (if9 .left) (loop .inv .1 .wide-stack) (omega (arith, c .if10 .left)), kept-stack _ _ _ _ _ (loop .inv .1) _ (length-set (loop .stack) (loop .sp) (sided .result .far) ∙ loop .inv .1 .wide-stack))
 
 returns-8 : tie.Need-returns-8 Inv-loop μ-loop
-returns-8 c = (tt, c .before .loop .inv .1)
+returns-8 c =
+    (tt, c .before .loop .inv .1, turn-over _ _ _ _ _ _ _ _ _ _ _ _ (c .before .loop .inv .0) (omega (arith, c .loop-test .left)) .1)
 
 slice-read-i : tie.Need-slice-read-i Inv-loop μ-loop
 slice-read-i c =
     let at1 = c .before in let if3 = at1 .if3 in
     let at14 = at1 .before .before .before .before .before .before .before .before .before .before .before .before .before in let loop = at14 .loop in
-    omega (arith, if3 .left, loop .inv .0 .low, loop .inv .0 .broad)
+    omega (arith, if3 .left, loop .inv .0 .place .low, loop .inv .0 .place .broad)
 
 slice-read-i-2 : tie.Need-slice-read-i-2 Inv-loop μ-loop
 slice-read-i-2 c =
     let at1 = c .before in let if5 = at1 .if5 in
     let at15 = at1 .before .before .before .before .before .before .before .before .before .before .before .before .before .before in let loop = at15 .loop in
-    omega (arith, if5 .left, loop .inv .0 .low, loop .inv .0 .broad)
+    omega (arith, if5 .left, loop .inv .0 .place .low, loop .inv .0 .place .broad)
 
 slice-read-i-3 : tie.Need-slice-read-i-3 Inv-loop μ-loop
 slice-read-i-3 c =
     let at1 = c .before in let if8 = at1 .if8 in
     let at13 = at1 .before .before .before .before .before .before .before .before .before .before .before .before in let loop = at13 .loop in
-    omega (arith, if8 .left, loop .inv .0 .low, loop .inv .0 .broad)
+    omega (arith, if8 .left, loop .inv .0 .place .low, loop .inv .0 .place .broad)
 
 slice-write-stack : tie.Need-slice-write-stack Inv-loop μ-loop
 slice-write-stack c =
     let at11 = c .before .before .before .before .before .before .before .before .before .before .before in let before = at11 .before in
     let at12 = before in let loop = at12 .loop in
-    omega (arith, c .if10 .left, loop .inv .0 .broad)
+    omega (arith, c .if10 .left, loop .inv .0 .place .broad)
 
 mul-stack : tie.Need-mul-stack Inv-loop μ-loop
 mul-stack c = omega (arith, c .if10 .left)
@@ -267,7 +303,7 @@ same-length c =
     let at4 = before in let at-leaf = at4 .at-leaf in
     let at12 = at4 .before .before .before .before .before .before .before .before in let loop = at12 .loop in
     let at24 = at12 .before .before .before .before .before .before .before .before .before .before .before .before in let pre = at24 .pre in
-    ap length (told-unsure _ _ _ _ _ _ _ _ _ _ (at-leaf .ensures) (c .enum-told .given .1)) ∙ loop .inv .1 .wide ∙ sym (pre .4 .wide)
+    ap length (told-unsure _ _ _ _ _ _ _ _ _ _ (at-leaf .ensures .1) (c .enum-told .given .1)) ∙ loop .inv .1 .wide ∙ sym (pre .4 .wide)
 
 same-length-2 : tie.Need-same-length-2 Inv-loop μ-loop
 same-length-2 c =
@@ -283,7 +319,7 @@ same-length-3 c =
     let at6 = at2 .before .before .before .before in let at-leaf = at6 .at-leaf in
     let at14 = at6 .before .before .before .before .before .before .before .before in let loop = at14 .loop in
     let at26 = at14 .before .before .before .before .before .before .before .before .before .before .before .before in let pre = at26 .pre in
-    ap length (told-same _ _ _ _ _ _ _ _ _ _ (at-leaf .ensures) (enum-told2 .given .1)) ∙ loop .inv .1 .wide ∙ sym (pre .4 .wide)
+    ap length (told-same _ _ _ _ _ _ _ _ _ _ (at-leaf .ensures .1) (enum-told2 .given .1)) ∙ loop .inv .1 .wide ∙ sym (pre .4 .wide)
 
 same-length-4 : tie.Need-same-length-4 Inv-loop μ-loop
 same-length-4 c =
@@ -297,7 +333,7 @@ same-length-5 c =
     let at1 = c .before in let enum-told3 = at1 .enum-told3 in
     let at5 = at1 .before .before .before .before in let at-leaf = at5 .at-leaf in
     let at25 = at5 .before .before .before .before .before .before .before .before .before .before .before .before .before .before .before .before .before .before .before .before in let pre = at25 .pre in
-    (told-short _ _ _ _ _ _ _ _ _ _ (at-leaf .ensures) (enum-told3 .given .1)) .wide ∙ sym (pre .4 .wide)
+    (told-short _ _ _ _ _ _ _ _ _ _ (at-leaf .ensures .1) (enum-told3 .given .1)) .wide ∙ sym (pre .4 .wide)
 
 same-length-6 : tie.Need-same-length-6 Inv-loop μ-loop
 same-length-6 c =
@@ -312,7 +348,7 @@ same-length-7 c =
     let at2 = before in let enum-told3 = at2 .enum-told3 in
     let at6 = at2 .before .before .before .before in let at-leaf = at6 .at-leaf in
     let at26 = at6 .before .before .before .before .before .before .before .before .before .before .before .before .before .before .before .before .before .before .before .before in let pre = at26 .pre in
-    (told-short _ _ _ _ _ _ _ _ _ _ (at-leaf .ensures) (enum-told3 .given .1)) .wide ∙ sym (pre .4 .wide)
+    (told-short _ _ _ _ _ _ _ _ _ _ (at-leaf .ensures .1) (enum-told3 .given .1)) .wide ∙ sym (pre .4 .wide)
 
 same-length-8 : tie.Need-same-length-8 Inv-loop μ-loop
 same-length-8 c =
