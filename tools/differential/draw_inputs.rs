@@ -322,7 +322,8 @@ fn hull(scene: &Scene) -> [f64; 6] {
     hull.unwrap_or([-10.0, -10.0, 0.0, 10.0, 10.0, 10.0])
 }
 
-fn view(rng: &mut Rng, scene: &Scene) -> View {
+/// A view that mostly has the scene on its sheet.
+pub fn view(rng: &mut Rng, scene: &Scene) -> View {
     let hull = hull(scene);
     let middle: Point = std::array::from_fn(|k| (hull[k] + hull[k + 3]) / 2.0);
     let size = (0..3).map(|k| hull[k + 3] - hull[k]).fold(1e-30, f64::max);

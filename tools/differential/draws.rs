@@ -209,6 +209,15 @@ pub fn given(scene: &Scene, view: &View, room: &Room) -> Option<Lines> {
     }
 }
 
+/// How many points and paths a preview counts, given all the room that a short draw needs.
+pub fn counted(scene: &Scene, view: &View) -> Option<(usize, usize)> {
+    let mut lent = Lent::new(&draw_inputs::exactly(&draw_inputs::ample(scene)));
+    match core_preview(scene, &view_numbers(view), None, &mut lent) {
+        0 => Some((lent.points, lent.paths)),
+        _ => None,
+    }
+}
+
 /// What the core answers and leaves in slices of these lengths.
 pub fn core_words(scene: &Scene, view: &View, lengths: &Lengths) -> Words {
     let mut lent = Lent::new(lengths);

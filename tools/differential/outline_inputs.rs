@@ -7,26 +7,32 @@ use crate::inputs::{self, Numbers, Point, along, unit};
 use crate::stage_inputs::{damage_view, view_numbers};
 use oracle::check::used_numbers;
 use oracle::generate::Rng;
-use oracle::outlines::{Line, outline, placed};
+use oracle::outlines::{self, Line, outline};
 use oracle::{View, plain};
-use std::fmt::Write;
 
-/// A solid, the eye in its own coordinates, the product of the placings around it, a view, and the lengths of the two
-/// slices that the outline goes to.
+/// A solid, the eye in its own coordinates, the placings around it, innermost first, how many numbers follow them that
+/// make no whole matrix, a view, and the lengths of the two slices that the outline goes to.
 pub struct Outline {
     pub kind: u32,
     pub numbers: Numbers,
     pub eye: Point,
-    pub place: Numbers,
+    pub placings: Vec<Numbers>,
+    pub more: usize,
     pub view: View,
-    pub placings: usize,
     pub lengths: [usize; 2],
 }
 
 impl Outline {
     /// By the second implementation.
     pub fn lines(&self) -> Vec<Line> {
-        outline(self.kind, &self.numbers, self.eye, &self.place, &self.view)
+        outline(self.kind, &self.numbers, self.eye, &self.placings, &self.view)
+    }
+
+    /// The placings as they are lent.
+    pub fn lent(&self) -> Vec<f64> {
+        let mut lent = self.placings.concat();
+        lent.resize(lent.len() + self.more, 1.0);
+        lent
     }
 
     pub fn radius(&self) -> f64 {
@@ -37,21 +43,24 @@ impl Outline {
 impl Shown for Outline {
     fn size(&self) -> u32 {
         let view = view_numbers(&self.view);
-        let floats = self.numbers.iter().chain(&self.eye).chain(&self.place).chain(&view);
+        let lent = self.lent();
+        let floats = self.numbers.iter().chain(&self.eye).chain(&lent).chain(&view);
         let ones: u32 = floats.map(|x| x.to_bits().count_ones()).sum();
-        ones + self.lengths.iter().map(|n| n.count_ones()).sum::<u32>()
+        ones + lent.len() as u32 + self.lengths.iter().map(|n| n.count_ones()).sum::<u32>()
     }
 
     /// As the oracle's program reads it, if the kind is one that has no parts; then the lengths.
     fn text(&self) -> String {
         let (v, used) = (&self.view, &self.numbers[..used_numbers(self.kind)]);
-        let mut text = format!("outline {} ", self.kind);
-        let solid = used.iter().chain(&self.eye).chain(&self.place);
-        for x in solid.chain([&v.width, &v.height, &v.step]).chain(&v.eye).chain(&v.matrix) {
-            write!(text, "{:016X} ", x.to_bits()).unwrap();
-        }
-        write!(text, "(lengths {:?})", self.lengths).unwrap();
-        text
+        let words = |xs: &mut dyn Iterator<Item = &f64>| {
+            xs.fold(String::new(), |text, x| format!("{text}{:016X} ", x.to_bits()))
+        };
+        let solid = words(&mut used.iter().chain(&self.eye));
+        let placings = words(&mut self.placings.iter().flatten());
+        let sheet = [v.width, v.height, v.step];
+        let view = words(&mut sheet.iter().chain(&v.eye).chain(&v.matrix));
+        let (kind, n, more, lengths) = (self.kind, self.placings.len(), self.more, self.lengths);
+        format!("outline {kind} {solid}{n} {placings}{view}({more} more, lengths {lengths:?})")
     }
 }
 
@@ -66,11 +75,10 @@ pub fn outlined(rng: &mut Rng) -> Outline {
     let placings: Vec<Numbers> = (0..nesting(rng)).map(|_| placing(rng)).collect();
     let eye = own_eye(rng, kind, &numbers);
     let view = view(rng, kind, &numbers, &placings, eye);
-    let (back, place) = placed(&view, &placings);
     // the eye as it comes back, or exactly where it is meant to be
-    let eye = if rng.chance(60) { back } else { eye };
-    let placings = placings.len();
-    let mut case = Outline { kind, numbers, eye, place, view, placings, lengths: [0; 2] };
+    let eye = if rng.chance(60) { outlines::own_eye(&view, &placings) } else { eye };
+    let more = if rng.chance(2) { 1 + rng.below(15) } else { 0 };
+    let mut case = Outline { kind, numbers, eye, placings, more, view, lengths: [0; 2] };
     spoil(rng, &mut case);
     case.lengths = lengths(rng, &case.lines());
     case
@@ -94,7 +102,10 @@ fn spoil(rng: &mut Rng, case: &mut Outline) {
     match rng.below(100) {
         0..2 => case.numbers[rng.below(4)] = bad,
         2..5 => case.eye[rng.below(3)] = bad,
-        5..7 => case.place[rng.below(16)] = bad,
+        5..7 if !case.placings.is_empty() => {
+            let k = rng.below(case.placings.len());
+            case.placings[k][rng.below(16)] = bad;
+        }
         7..9 => case.view.matrix[rng.below(16)] = bad,
         9..11 => damage_view(rng, &mut case.view),
         11 => case.eye = std::array::from_fn(|_| inputs::extreme(rng)),
@@ -196,6 +207,7 @@ fn nesting(rng: &mut Rng) -> usize {
         0..35 => 0,
         35..65 => 1,
         65..80 => 2,
+        80..82 => 8 + rng.below(3),
         _ => 3 + rng.below(5),
     }
 }
@@ -203,7 +215,7 @@ fn nesting(rng: &mut Rng) -> usize {
 const IDENTITY: Numbers =
     [1.0, 0.0, 0.0, 0.0, 0.0, 1.0, 0.0, 0.0, 0.0, 0.0, 1.0, 0.0, 0.0, 0.0, 0.0, 1.0];
 
-/// Moved, stretched, turned, skewed, or any regular matrix.
+/// Moved, stretched, turned, skewed, or any regular matrix; one in five with any row 4.
 fn placing(rng: &mut Rng) -> Numbers {
     let mut m = match rng.below(20) {
         0..6 => IDENTITY,
@@ -230,6 +242,10 @@ fn placing(rng: &mut Rng) -> Numbers {
         let to = inputs::place(rng, grain);
         (m[3], m[7], m[11]) = (to[0], to[1], to[2]);
     }
+    if rng.chance(20) {
+        m[12..].fill_with(|| rng.pick(&[0.0, 0.0, 1.0, 2.0, -1.0, 0.5]));
+        m[15] = rng.pick(&[1.0, 2.0, 0.25, 3.0, -1.0]);
+    }
     m
 }
 
@@ -238,8 +254,7 @@ fn placing(rng: &mut Rng) -> Numbers {
 /// A view from an eye in the solid's own coordinates, taken out through its placings.
 fn view(rng: &mut Rng, kind: u32, n: &Numbers, placings: &[Numbers], own: Point) -> View {
     let out = |p: Point| {
-        let moved =
-            placings.iter().rev().fold(plain::vector(p), |v, m| plain::matrix(m).mul_position(v));
+        let moved = placings.iter().fold(plain::vector(p), |v, m| plain::matrix(m).mul_position(v));
         [moved.x, moved.y, moved.z].map(|x| if x.is_nan() { 0.0 } else { x.clamp(-1e6, 1e6) })
     };
     let (eye, target) = (out(own), out(middle(kind, n)));
@@ -304,9 +319,8 @@ pub fn ring(rng: &mut Rng) -> Outline {
     (matrix[0], matrix[5], matrix[10], matrix[15]) = (1.0 / shown, 1.0 / shown, 1.0 / shown, 1.0);
     let step = rng.pick(&[0.0, 1e-200, 1e-200, 1.0, 4.0, 10.0]);
     let view = View { matrix, eye: [0.0; 3], width: 1000.0, height: 1000.0, step };
-    let (eye, place) = ([0.0, 0.0, z], IDENTITY);
     let lengths = [3 * 2 * 1025, 2];
-    Outline { kind, numbers, eye, place, view, placings: 0, lengths }
+    Outline { kind, numbers, eye: [0.0, 0.0, z], placings: Vec::new(), more: 0, view, lengths }
 }
 
 /// From 0.001 to 1,000,000: at both ends, at powers of 2 and next to them, whole, or anything.

@@ -23,12 +23,14 @@ struct Filled {
 type Call = fn(&Outline, &mut Filled) -> u32;
 
 fn core_outline(case: &Outline, filled: &mut Filled) -> u32 {
+    let placings = case.lent();
     unsafe {
         raw::larnt_outline(
             case.kind,
             &case.numbers,
             &case.eye,
-            &case.place,
+            placings.as_ptr(),
+            placings.len(),
             &view_numbers(&case.view),
             filled.out.as_mut_ptr(),
             filled.out.len(),
@@ -41,20 +43,26 @@ fn core_outline(case: &Outline, filled: &mut Filled) -> u32 {
 }
 
 fn host_outline(case: &Outline, filled: &mut Filled) -> u32 {
-    let Outline { kind, numbers, eye, place, view, .. } = case;
+    let Outline { kind, numbers, eye, view, .. } = case;
     let (view, out, begins) = (view_numbers(view), &mut filled.out, &mut filled.begins);
-    let result = host::outline(*kind, numbers, eye, place, &view, out, begins);
+    let result = host::outline(*kind, numbers, eye, &case.lent(), &view, out, begins);
     (filled.points, filled.paths) = result.unwrap_or_default();
     result.err().unwrap_or(0)
 }
 
-/// The second implementation, and what is refused: 3, 8, then 13.
+/// The second implementation, and what is refused: 2, 3, 4, 8, then 13.
 fn rust_outline(case: &Outline, filled: &mut Filled) -> u32 {
     filled.out.fill(0.0);
     filled.begins.fill(0);
     (filled.points, filled.paths) = (0, 0);
+    if case.more > 0 {
+        return 2;
+    }
     if !round(case.kind) && !matches!(case.kind, 4 | 5) {
         return 3;
+    }
+    if case.placings.len() > 7 {
+        return 4;
     }
     if check::view(&case.view).is_err() {
         return 8;
@@ -105,8 +113,14 @@ pub fn compare(run: &mut Run) {
         ("tiny", &|case, a| a.0[0] == 0 && (5e-324..0.01).contains(&case.view.step)),
         ("large", &|case, a| a.0[0] == 0 && case.view.step >= 500.0),
         ("radius 0", &|case, a| a.0[0] == 0 && case.radius() == 0.0),
-        ("in a placing", &|case, a| a.0[0] == 0 && case.placings > 0),
-        ("nested", &|case, a| a.0[0] == 0 && case.placings > 1),
+        ("in a placing", &|case, a| a.0[0] == 0 && !case.placings.is_empty()),
+        ("nested", &|case, a| a.0[0] == 0 && case.placings.len() > 1),
+        ("another row 4", &|case, a| {
+            a.0[0] == 0 && case.placings.iter().any(|m| m[12..] != [0.0, 0.0, 0.0, 1.0])
+        }),
+        ("infinitely far", &|case, a| {
+            a.0[0] == 0 && a.0[2] == 1 && case.kind == 1 && far_off(case)
+        }),
         ("on the axis", &|case, a| {
             a.0[0] == 0 && case.kind != 1 && case.eye[0] == 0.0 && case.eye[1] == 0.0
         }),
@@ -122,6 +136,12 @@ pub fn compare(run: &mut Run) {
     let rust = |case: &Outline| words(rust_outline, case);
     run.compare("outline", run.count, outline_inputs::outlined, rust, &cores, shares);
     rings(run);
+}
+
+/// Whether a ball's distance from the eye is infinite as computed.
+fn far_off(case: &Outline) -> bool {
+    let (n, [x, y, z]) = (&case.numbers, case.eye);
+    [x - n[0], y - n[1], z - n[2]].iter().map(|d| d * d).sum::<f64>() == f64::INFINITY
 }
 
 fn tube(case: &Outline) -> bool {

@@ -1,6 +1,6 @@
 //! The stack that the calls take: it is painted, and what a call leaves unpainted is counted.
 
-use crate::core::CORE_SCENES;
+use crate::core::{self, CORE_SCENES};
 use crate::draws;
 use crate::host;
 use crate::scene_calls::unfilled;
@@ -12,15 +12,12 @@ const PAINTED: usize = 48 << 20;
 const PAINT: u8 = 0xA5;
 
 /// What host/larnt.h says that a draw's local arrays take, and the little that is left beside them.
-const ARRAYS: usize = 216 << 10;
+const ARRAYS: usize = 241 << 10;
 const LITTLE: usize = 256 << 10;
 
 pub fn run() {
     for n in [2, 9, 100, 1000, 1024] {
-        let mut same = Scene::default();
-        for _ in 0..n {
-            same.push([4, 1, 0, 0], &[0.0, 0.0, 0.0, 1.0, 1.0, 1.0]);
-        }
+        let same = boxes(n);
         let mut rows = Rows::ample();
         let bytes = taken(|| assert_eq!((CORE.build)(&same, &mut rows), 0));
         println!(
@@ -50,6 +47,7 @@ pub fn run() {
     outline();
     questions();
     draw();
+    merge_and_write();
     for n in [20_000, 60_000] {
         zigzag(n);
     }
@@ -57,19 +55,20 @@ pub fn run() {
 
 /// The outline of a tube whose rings are halved as deep as may be.
 fn outline() {
-    let (mut numbers, mut place, mut view) = ([0.0; 16], [0.0; 16], [0.0; 22]);
+    let (mut numbers, mut placings, mut view) = ([0.0; 16], [0.0; 16 * 7], [0.0; 22]);
     (numbers[0], numbers[2]) = (2.0, 6.0);
     for k in [0, 5, 10, 15] {
-        (place[k], view[k]) = (1.0, 1.0);
+        view[k] = 1.0;
+        placings.iter_mut().skip(k).step_by(16).for_each(|x| *x = 1.0);
     }
     (view[15], view[19], view[20], view[21]) = (8.0, 1000.0, 1000.0, 1e-200);
     let (mut out, mut begins) = (vec![0.0; 3 * 2054], vec![0; 4]);
     let eye = [10.0, 3.0, 8.0];
     let bytes = taken(|| {
-        let filled = host::outline(2, &numbers, &eye, &place, &view, &mut out, &mut begins);
+        let filled = host::outline(2, &numbers, &eye, &placings, &view, &mut out, &mut begins);
         assert_eq!(filled, Ok((2054, 4)));
     });
-    println!("outline of a tube, 2,054 points: {bytes} bytes");
+    println!("outline of a tube in 7 placings, 2,054 points: {bytes} bytes");
 }
 
 /// So many points to and fro, each farther out than the one before: every one splits the path.
@@ -167,13 +166,18 @@ fn questions() {
     println!("covered of many: {bytes} bytes, told {}", told[0]);
 }
 
-/// A draw of many equal boxes, whose tree is deepest; of a line to and fro, which is split most often;
-/// and of cuts in cuts.
-fn draw() {
+/// So many boxes that are one and the same.
+fn boxes(count: usize) -> Scene {
     let mut same = Scene::default();
-    for _ in 0..800 {
+    for _ in 0..count {
         same.push([4, 1, 0, 0], &[0.0, 0.0, 0.0, 1.0, 1.0, 1.0]);
     }
+    same
+}
+
+/// A draw of many equal boxes, whose tree is deepest; of a line to and fro, which is split most often;
+/// and of cuts in cuts. The preview of each.
+fn draw() {
     let mut line = Scene::default();
     let ball = line.push([1, 0, 0, 0], &[0.0, 0.0, -3000.0, 1.0]);
     line.push_line(ball, &to_and_fro(2048));
@@ -182,7 +186,7 @@ fn draw() {
         (1.0 / 4096.0, 1.0 / 4096.0, 1.0 / 4096.0, 1.0);
     let eye = [1000.0, 2000.0, 9000.0];
     for (name, scene, step) in [
-        ("800 equal boxes", same, 0.0),
+        ("800 equal boxes", boxes(800), 0.0),
         ("2,048 points to and fro", line, 1000.0),
         ("7 cuts", cuts(None), 100.0),
         ("7 cuts of a striped tube", cuts(Some(8)), 100.0),
@@ -194,7 +198,34 @@ fn draw() {
             points = draws::amply(&scene, &view).map_or(0, |lines| lines.points.len() / 3);
         });
         println!("draw of {name}: {bytes} bytes, {points} points drawn");
+        let mut counts = None;
+        let bytes = taken(|| counts = draws::counted(&scene, &view));
+        assert_eq!(counts.map_or(0, |(points, _)| points), points);
+        println!("preview of {name}: {bytes} bytes");
     }
+}
+
+/// Two scenes merged; one of cuts in cuts written, and its text put to `larnt_canonical`.
+fn merge_and_write() {
+    let half = boxes(512);
+    let (mut numbers, mut marks) = (vec![0.0; 16 * 1024], vec![0; 4 * 1024]);
+    let bytes = taken(|| {
+        let (points, starts, owners) = (&mut [], &mut [], &mut []);
+        let out =
+            host::MergedSlices { numbers: &mut numbers, marks: &mut marks, points, starts, owners };
+        assert_eq!(host::merge(core::lent(&half), core::lent(&half), out), Ok((1024, 0, 0)));
+    });
+    println!("merge of 512 and 512 boxes: {bytes} bytes");
+    let (scene, mut view) = (cuts(Some(8)), [0.0; 22]);
+    (view[0], view[19], view[20]) = (1.0, 1000.0, 1000.0);
+    let (mut text, mut again) = (vec![0; 1 << 16], vec![0; 1 << 16]);
+    let (mut count, mut printed) = (Ok(0), 0);
+    let bytes = taken(|| count = host::write(core::lent(&scene), &view, &mut text));
+    let text = &text[..count.expect("a text")];
+    println!("write of 7 cuts of a striped tube: {bytes} bytes, a text of {}", text.len());
+    let bytes = taken(|| printed = host::canonical(text, &mut again));
+    assert_eq!(&again[..printed], text);
+    println!("canonical of that text: {bytes} bytes");
 }
 
 fn depth(rows: &Rows, node: usize) -> usize {

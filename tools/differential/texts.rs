@@ -2,6 +2,8 @@
 //!
 //!     texts SEED COUNT PROGRAM..               ends with 1 if any output differs by a byte
 //!     texts SEED COUNT --canonical PROGRAM..   the program `canonical` against the second writer
+//!     texts SEED COUNT --rows PROGRAM..        outlines in nested placings of any row 4
+//!     texts SEED COUNT --chords PROGRAM..      outlines, the step where a ring's chord is just as long
 //!
 //! The shortest text that differs is left in target/differential/differing.yard.
 
@@ -36,7 +38,7 @@ const DIFFERING: &str = "target/differential/differing.yard";
 fn main() -> ExitCode {
     let arguments: Vec<String> = std::env::args().skip(1).collect();
     let [seed, count, program @ ..] = &arguments[..] else {
-        eprintln!("usage: texts SEED COUNT PROGRAM..");
+        eprintln!("usage: texts SEED COUNT [--canonical | --rows | --chords] PROGRAM..");
         return ExitCode::from(2);
     };
     let (seed, count) = (seed.parse().expect("a seed"), count.parse().expect("a count"));
@@ -57,13 +59,20 @@ fn restated(text: &[u8]) -> String {
 }
 
 fn compare(seed: u64, count: u64, program: &[String]) -> u64 {
-    let canonical = program[0] == "--canonical";
-    let program = &program[usize::from(canonical)..];
+    let asked = program[0].strip_prefix("--").unwrap_or("");
+    let canonical = asked == "canonical";
+    let program = &program[usize::from(!asked.is_empty())..];
     let mut rng = Rng::new(seed ^ harness::name_hash("texts"));
     let (mut answers, mut differ) = (BTreeMap::<String, u64>::new(), 0);
     let (mut omitted, mut longest, mut shortest) = (0, 0, usize::MAX);
     for _ in 0..count {
-        let text = text(&mut rng);
+        let text = match asked {
+            "rows" | "chords" => {
+                let (scene, view) = outlined(&mut rng, asked == "chords");
+                written(&mut rng, &scene, &view)
+            }
+            _ => text(&mut rng),
+        };
         let expected = if canonical { restated(&text) } else { oracle::yard::run(&text) };
         if expected == "omitted\n" {
             omitted += 1;
@@ -141,6 +150,82 @@ fn text(rng: &mut Rng) -> Vec<u8> {
         text.resize(length.max(text.len()), byte);
     }
     text
+}
+
+/// Round solids without lines in placings, most of them nested, of any row 4; or the step is as long as a chord of a ring
+/// on the sheet, or next to it.
+fn outlined(rng: &mut Rng, chords: bool) -> (Scene, View) {
+    loop {
+        let mut scene = Scene::default();
+        for _ in 0..rng.pick(&[1, 1, 1, 2, 3]) {
+            let (r, z) = (rng.between(0.2, 3.0), rng.pick(&[0.0, 1.0, -2.0]));
+            let (r, h) = (rng.pick(&[r, r, r.round().max(1.0)]), rng.between(0.5, 4.0));
+            let mut part = match rng.pick(&[1, 2, 3, 8, 9]) {
+                1 => scene.push([1, 0, 0, 0], &[z, r - z, h, r]),
+                kind @ (2 | 8) => scene.push([kind, 0, 0, 0], &[r, z, z + h]),
+                kind => scene.push([kind, 0, 0, 0], &[r, h]),
+            };
+            let nested = if chords { rng.below(4) } else { rng.pick(&[1, 2, 2, 2, 3, 4, 7]) };
+            for _ in 0..nested {
+                part = scene.push([6, 0, part, 0], &row_placing(rng));
+            }
+        }
+        if oracle::check::scene(&scene).is_err() {
+            continue;
+        }
+        let mut view = draw_inputs::view(rng, &scene);
+        if !chords {
+            view.step =
+                rng.pick(&[0.0, view.step, view.width / 8.0, view.width / 30.0]).min(1000.0);
+            return (scene, view);
+        }
+        if let Some(step) = chord_step(rng, &scene, &view) {
+            return (scene, View { step, ..view });
+        }
+    }
+}
+
+/// Moved, stretched or turned, with any row 4 two times in three.
+fn row_placing(rng: &mut Rng) -> [f64; 16] {
+    let mut m = inputs::turned(rng, true);
+    if rng.chance(60) {
+        m = [0.0; 16];
+        for k in [0, 5, 10] {
+            m[k] = rng.pick(&[1.0, 1.0, -1.0, 2.0, 0.5, 0.1, 3.0]);
+        }
+        m[15] = 1.0;
+        (m[1], m[6]) = (rng.pick(&[0.0, 0.0, 0.3]), rng.pick(&[0.0, 0.0, -0.7]));
+    }
+    for k in [3, 7, 11] {
+        let any = rng.between(-5.0, 5.0);
+        m[k] = rng.pick(&[0.0, 1.0, -2.0, 12.0, any]);
+    }
+    if rng.chance(66) {
+        m[12..15].fill_with(|| rng.pick(&[0.0, 0.0, 0.0, 1.0, -0.5, 0.125]));
+        let any = rng.between(0.1, 3.0);
+        m[15] = rng.pick(&[1.0, 2.0, 0.5, -1.0, 16.0, any]);
+    }
+    m
+}
+
+/// Where the points of the outlines become fewer: at such a step a chord is no longer above it. Found by halving; the step
+/// itself, the one below, or one next to these.
+fn chord_step(rng: &mut Rng, scene: &Scene, view: &View) -> Option<f64> {
+    let points = |step: f64| -> usize {
+        let all = oracle::outlines::outlines(scene, &View { step, ..*view });
+        all.iter().flatten().map(Vec::len).sum()
+    };
+    let from = (view.width / rng.pick(&[6.0, 15.0, 40.0, 100.0])).min(900.0);
+    let (mut low, mut high) = (from.to_bits(), (2.0 * from).min(1000.0).to_bits());
+    let most = points(from);
+    if most == points(f64::from_bits(high)) {
+        return None;
+    }
+    while high - low > 1 {
+        let middle = low + (high - low) / 2;
+        if points(f64::from_bits(middle)) == most { low = middle } else { high = middle }
+    }
+    Some(f64::from_bits(low + 2 - rng.below(4) as u64))
 }
 
 /// A scene whose slices agree, so that it can be written as forms, mostly not a large one.

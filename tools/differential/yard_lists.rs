@@ -202,6 +202,12 @@ const OUTLINED: [&str; 10] = [
     "(cone 1 2 2)",
 ];
 
+/// A ring whose ends are moved by one placing after the other, whatever row 4 is; a ball infinitely far off as computed.
+const PLACED: [&str; 2] = [
+    "(view 64 64 4 0 0 9 1 0 0 0 0 1 0 0 0 0 1 0 0 0 0 16)\n(place 1 0 0 12 0 1 0 0 0 0 1 0 0 0 0 1 (place 1 0 0 0 0 1 0 0 0 0 1 0 0 0 0 2 (cone 2 1)))\n",
+    "(view 64 64 4 9 8 7 1 0 0 0 0 1 0 0 0 0 1 0 0 0 0 16)\n(place #1E00000000000000 0 0 0 0 1 0 0 0 0 1 0 0 0 0 1 (sphere 0 0 0 1))\n",
+];
+
 fn outlines(list: &mut List) {
     let quarter = word(0.25);
     let side = format!("0 {quarter} 0 0 0 0 {quarter} 0 {} 0 0 0 0 0 0 1", word(0.015625));
@@ -210,6 +216,7 @@ fn outlines(list: &mut List) {
             list.add(format!("(view {asked} {side})\n{form}\n"));
         }
     }
+    PLACED.iter().for_each(|text| list.add(text));
     // as fine as there are places for, and finer
     for step in ["1", "#3F50624DD2F1A9FC"] {
         list.add(format!("(view 10 10 {step} 20 3 1 {side})\n(cone 1 2)\n"));

@@ -24,7 +24,7 @@ use Rattle.draw_lines.specs.Pushing.{copied, addPaths, Fit, Adds}
 use Rattle.draw_lines.proofs.Adding.{add-none}
 use Rattle.draw_rings.specs.Pieces.{ringMiddle, halvedAt, pieces, east, north, west, south, ringPairs}
 use Rattle.draw_arcs.specs.declared.Frame.{Frame}
-use Rattle.draw_arcs.specs.declared.Stance.{Stance}
+use Rattle.draw_arcs.specs.Stances.{Placement}
 use Rattle.draw_arcs.specs.Rings.{ringPoint, endsHalving, ringDepth, ringIn, ringOf}
 use Rattle.draw_arcs.specs.Runs.{Pushes}
 
@@ -151,7 +151,7 @@ four-parts g e a b c d =
     ∙ sym (map-append g a (b ++ (c ++ d)) ∙ ap (λ (l : List Vector). map g a ++ l) (map-append g b (c ++ d) ∙ ap (λ (l : List Vector). map g b ++ l) (map-append g c d))))
 
 -- a ring: its first point, and then four quarters
-module _ (stepping : Bool) (t : Stance) (f : Frame) (r : Float) (d : ℕ) (ed : d ≡ ringDepth stepping) (e n w z : Vector) (ee : e ≡ east r) (en : n ≡ north r) (ew : w ≡ west r) (ez : z ≡ south r)
+module _ (stepping : Bool) (t : Placement) (f : Frame) (r : Float) (d : ℕ) (ed : d ≡ ringDepth stepping) (e n w z : Vector) (ee : e ≡ east r) (en : n ≡ north r) (ew : w ≡ west r) (ez : z ≡ south r)
     (xs : List Float) (i : ℕ) where
   abbrev part : Vector → Vector → List Vector
   part p q = map (ringPoint f) (pieces (endsHalving stepping t f) r d p q)

@@ -1,8 +1,9 @@
 // Rings in space: the points of a ring around a centre, pushed piece by piece.
 ghost use mathlib.Core.Path.{_≡_};
 ghost use mathlib.Core.List.{[], _∷_, map};
-ghost use Prim.Native.Nat.{_*_, _≤_};
-ghost use lib.ListN.{length};
+ghost use Prim.Native.Nat.{_+_, _-_, _*_, _≤_};
+ghost use lib.ListN.{length, replicate, set};
+ghost use Rattle.matrix.specs.Matrices.{identityM};
 ghost use Rattle.rows.specs.Points.{points};
 ghost use Rattle.paths.specs.Paths.{pushAll, onePath};
 ghost use Rattle.paths.specs.Ends.{places, Ends, held, EndsBoth};
@@ -20,22 +21,65 @@ use paths::Count;
 use paths::Counts;
 use view::RenderArgs;
 
+// The placings around a solid, innermost first: what the places after the `free` ones hold. A scene nests at most
+// 8 deep, so 8 places are enough.
+pub struct Placings {
+    pub free: usize,
+    pub held: [Matrix; 8],
+}
+
+impl Placings {
+    pub fn none() -> Placings
+        ensures { λ r. ⌜ (Stances.placingsOf r ≡ []) × (r .free ≡ 8) × (r .held ≡ replicate 8 identityM) ⌝ }
+    {
+        let m = Matrix::identity();
+        let held = [m; 8];
+        Placings { free: 8, held }
+    }
+
+    // One more, inside the others.
+    pub fn with(self, m: Matrix) -> Placings
+        requires { ⌜ (1 ≤ self .free) × (self .free ≤ 8) ⌝ }
+        ensures { λ r. ⌜ (Stances.placingsOf r ≡ m ∷ Stances.placingsOf self) × (r .free + 1 ≡ self .free) × (r .held ≡ set (self .held) (self .free - 1) m) ⌝ }
+    {
+        let at = self.free - 1;
+        let mut held = self.held;
+        held[at] = m;
+        Placings { free: at, held }
+    }
+
+    // A point moved by one placing after the other, innermost first.
+    fn moved(self, v: Vector) -> Vector
+        ensures { λ r. ⌜ r ≡ Stances.movedBy (Stances.placingsOf self) v ⌝ }
+    {
+        let held = self.held;
+        let mut p = v;
+        let mut i = self.free;
+        while i < 8 {
+            let m = held[i];
+            p = m.mul_position(p);
+            i += 1;
+        }
+        p
+    }
+}
+
 // Where a solid stands: the arguments as it sees them (the eye taken back, the screen times the placings),
-// the view's own screen, and the product of the placings' matrices, outermost first.
+// the view's own screen, and the placings.
 pub struct Stance {
     pub args: RenderArgs,
     pub screen: Screen,
-    pub place: Matrix,
+    pub placings: Placings,
 }
 
 // That of a solid that is not placed.
 pub fn stance_of(a: RenderArgs) -> Stance
-    ensures { λ r. ⌜ r ≡ Stances.stanceOf a ⌝ }
+    ensures { λ r. ⌜ (Stances.placementOf r ≡ Stances.unplaced a) × (r .placings .free ≡ 8) × (r .placings .held ≡ replicate 8 identityM) ⌝ }
 {
     Stance {
         args: a,
         screen: path_chop::screen_of(a),
-        place: Matrix::identity(),
+        placings: Placings::none(),
     }
 }
 
@@ -56,14 +100,15 @@ fn placed_args(m: Matrix, v: Matrix, a: RenderArgs) -> RenderArgs
 
 // Where a placed part stands.
 pub fn placed_stance(m: Matrix, v: Matrix, t: Stance) -> Stance
-    ensures { λ r. ⌜ r ≡ Stances.placedStance m v t ⌝ }
+    requires { ⌜ (1 ≤ t .placings .free) × (t .placings .free ≤ 8) ⌝ }
+    ensures { λ r. ⌜ (Stances.placementOf r ≡ Stances.placedPart m v (Stances.placementOf t)) × (r .placings .free + 1 ≡ t .placings .free) × (r .placings .held ≡ set (t .placings .held) (t .placings .free - 1) m) ⌝ }
 {
     let screen = t.screen;
-    let place = t.place;
+    let placings = t.placings;
     Stance {
         args: placed_args(m, v, t.args),
         screen,
-        place: place.mul(m),
+        placings: placings.with(m),
     }
 }
 
@@ -96,15 +141,15 @@ fn ring_point(f: Frame, p: Vector) -> Vector
 
 // A point as placed, and where the view's own screen matrix shows it.
 fn placed_spot(t: Stance, v: Vector) -> Spot
-    ensures { λ r. ⌜ r ≡ Rings.placedSpot t v ⌝ }
+    ensures { λ r. ⌜ r ≡ Rings.placedSpot (Stances.placementOf t) v ⌝ }
 {
-    let place = t.place;
-    path_chop::spot_of(t.screen, place.mul_position(v))
+    let placings = t.placings;
+    path_chop::spot_of(t.screen, placings.moved(v))
 }
 
 // Whether a piece is not halved; at step 0 no rule says so.
 fn ends_halving(stepping: bool, t: Stance, f: Frame, p: Vector, q: Vector) -> bool
-    ensures { λ r. ⌜ r ≡ Rings.endsHalving stepping t f p q ⌝ }
+    ensures { λ r. ⌜ r ≡ Rings.endsHalving stepping (Stances.placementOf t) f p q ⌝ }
 {
     if stepping {
         let a = placed_spot(t, ring_point(f, p));
@@ -138,7 +183,7 @@ fn pieces(
     n: usize,
 ) -> Count
     requires { ⌜ n * 3 ≤ length (now out) ⌝ }
-    ensures { λ r. ⌜ Ends (pushAll (places (now (out .entry))) (points n (now (out .entry))) (map (Rings.ringPoint f) (Pieces.pieces (Rings.endsHalving stepping t f) radius depth p q))) (now (out .exit)) r ⌝ }
+    ensures { λ r. ⌜ Ends (pushAll (places (now (out .entry))) (points n (now (out .entry))) (map (Rings.ringPoint f) (Pieces.pieces (Rings.endsHalving stepping (Stances.placementOf t) f) radius depth p q))) (now (out .exit)) r ⌝ }
 {
     if depth == 0 {
         return paths::push(out, n, ring_point(f, q));
@@ -178,7 +223,7 @@ fn quarter(
     out: &mut [f64],
 ) -> Count
     requires { ⌜ FitPoints c (now out) ⌝ }
-    ensures { λ r. ⌜ Pushes (map (Rings.ringPoint f) (Pieces.pieces (Rings.endsHalving stepping t f) radius depth p q)) c (now (out .entry)) (now (out .exit)) r ⌝ }
+    ensures { λ r. ⌜ Pushes (map (Rings.ringPoint f) (Pieces.pieces (Rings.endsHalving stepping (Stances.placementOf t) f) radius depth p q)) c (now (out .entry)) (now (out .exit)) r ⌝ }
 {
     match c {
         Count::Refused(k) => Count::Refused(k),
@@ -189,7 +234,7 @@ fn quarter(
 // A ring's points after the first n.
 fn ring_points(stepping: bool, t: Stance, f: Frame, radius: f64, out: &mut [f64], n: usize) -> Count
     requires { ⌜ n * 3 ≤ length (now out) ⌝ }
-    ensures { λ r. ⌜ Ends (pushAll (places (now (out .entry))) (points n (now (out .entry))) (Rings.ringIn stepping t f radius)) (now (out .exit)) r ⌝ }
+    ensures { λ r. ⌜ Ends (pushAll (places (now (out .entry))) (points n (now (out .entry))) (Rings.ringIn stepping (Stances.placementOf t) f radius)) (now (out .exit)) r ⌝ }
 {
     let depth = ring_depth(stepping);
     let east = Vector::new(radius, 0.0, 0.0);
@@ -215,7 +260,7 @@ fn one_ring(
     m: usize,
 ) -> Counts
     requires { ⌜ (n * 3 ≤ length (now out)) × (m ≤ length (now begins)) ⌝ }
-    ensures { λ r. ⌜ EndsBoth (onePath copied (places (now (out .entry))) (length (now (begins .entry))) (Rings.ringIn stepping t f radius) (held n (now (out .entry)) m (now (begins .entry)))) (now (out .exit)) (now (begins .exit)) r ⌝ }
+    ensures { λ r. ⌜ EndsBoth (onePath copied (places (now (out .entry))) (length (now (begins .entry))) (Rings.ringIn stepping (Stances.placementOf t) f radius) (held n (now (out .entry)) m (now (begins .entry)))) (now (out .exit)) (now (begins .exit)) r ⌝ }
 {
     let o = paths::new_path(begins, m, n);
     match o {
@@ -243,7 +288,7 @@ pub fn ring(
     begins: &mut [usize],
 ) -> Counts
     requires { ⌜ Fit c (now out) (now begins) ⌝ }
-    ensures { λ r. ⌜ Adds (Rings.ringOf t f radius ∷ []) c (now (out .entry)) (now (begins .entry)) (now (out .exit)) (now (begins .exit)) r ⌝ }
+    ensures { λ r. ⌜ Adds (Rings.ringOf (Stances.placementOf t) f radius ∷ []) c (now (out .entry)) (now (begins .entry)) (now (out .exit)) (now (begins .exit)) r ⌝ }
 {
     match c {
         Counts::Refused(k) => Counts::Refused(k),

@@ -16,8 +16,7 @@ use Rattle.paths.specs.declared.Counts.{Counts}
 use Rattle.paths.specs.declared.Counts.the-variants.{Both, Refused}
 use Rattle.paths.proofs.Ending.{both-at, both-refused, refuses-both, answers-both}
 use Rattle.view.specs.declared.RenderArgs.{RenderArgs}
-use Rattle.draw_arcs.specs.Stances.{stanceOf}
-use Rattle.draw_arcs.specs.declared.Stance.{Stance}
+use Rattle.draw_arcs.specs.Stances.{Placement, unplaced}
 use Rattle.draw_collect.specs.Lined.{Lined}
 use Rattle.draw_collect.specs.Collect.{collected, collectedAll}
 use Rattle.draw_collect.specs.Slices.{roomOf, firstHeld, Lent}
@@ -40,7 +39,7 @@ module _ (a : RenderArgs) (wide many : ℕ) (at : ℕ → Lined) (ids : List ℕ
 
   module _ (xs : List Float) (ss : List ℕ) (chopped : List Float) (choppedStarts : List ℕ) (p q i : ℕ) (h : Collecting xs ss chopped choppedStarts p q i) where
     module _ (k : ℕ) (low : i < length ids) (here : k ≡ getD ids i 0) (ys : List Float) (us : List ℕ) {r : Counts}
-        {t : Stance} (stands : t ≡ stanceOf a) (w : EndsBoth (collected t (roomOf wide many chopped choppedStarts) (at k) (firstHeld wide many p xs q ss)) (take wide ys) (take many us) r) where
+        {t : Placement} (stands : t ≡ unplaced a) (w : EndsBoth (collected t (roomOf wide many chopped choppedStarts) (at k) (firstHeld wide many p xs q ss)) (take wide ys) (take many us) r) where
       onward : whole ≡ next (collected t (roomOf wide many chopped choppedStarts) (at k) (firstHeld wide many p xs q ss)) (collectedAll a (roomOf wide many chopped₀ choppedStarts₀) at (drop (i + 1) ids))
       unfolding collectedAll
       onward = sym (h .rest) ∙ rw (drop-cons ids i 0 low, ← here, ← stands, h .same-chopped, h .same-chopped-starts, add-one)

@@ -31,8 +31,7 @@ use Rattle.paths.proofs.Ending.{both-at, both-refused, refuses-both, answers-bo
 use Rattle.paths.proofs.Parts.{length-points}
 use Rattle.draw_lines.specs.Lines.{ownPaths}
 use Rattle.draw_lines.specs.Pushing.{addPaths}
-use Rattle.draw_arcs.specs.Stances.{placedStance}
-use Rattle.draw_arcs.specs.declared.Stance.{Stance}
+use Rattle.draw_arcs.specs.Stances.{Placement, placedPart}
 use Rattle.draw_shown.specs.Shown.{shownPaths}
 use Rattle.draw_lines.proofs.Adding.{ends-both-as}
 use Rattle.path_append.specs.Append.{appended}
@@ -70,11 +69,11 @@ module _ (at : ℕ → Entry) (own : ℕ → Solid → List (List Vector)) where
   bare-read (suc d) i = bare-of (readLined d at own) (read d at) (bare-read d) (own i) (at i)
 
 -- a cut of parts without lines adds nothing
-cut-of-nothing : (a : Stance) (w : LineRoom) (o : Op) (p : Paths) → collected a w (cutLines o noLines noLines) p ≡ answered p
+cut-of-nothing : (a : Placement) (w : LineRoom) (o : Op) (p : Paths) → collected a w (cutLines o noLines noLines) p ≡ answered p
 unfolding collected sifted choppedLines handed pointsOk stage pathsOf each appended pushAll
 cut-of-nothing a w o p = refl
 
-module _ (a : Stance) (wide many n m : ℕ) (xs : List Float) (ss : List ℕ) (chopped : List Float) (choppedStarts : List ℕ)
+module _ (a : Placement) (wide many n m : ℕ) (xs : List Float) (ss : List ℕ) (chopped : List Float) (choppedStarts : List ℕ)
     (numbers inverses : List Float) (marks : List ℕ) (ps : List Float) (starts owners : List ℕ) (d i : ℕ) (L : Lent d wide many n m xs ss) where
   abbrev value : Answer Paths
   value = collected a (roomOf wide many chopped choppedStarts) (linedAt d numbers inverses marks ps starts owners i) (firstHeld wide many n xs m ss)
@@ -127,7 +126,7 @@ module _ (a : Stance) (wide many n m : ℕ) (xs : List Float) (ss : List ℕ) (c
           rw (take-at ys (drop wide xs) wide (lx ∙ lw), take-at us (drop many ss) many (ls ∙ lm)) (ends-both-as g f)
 
       -- a placed part: t and v are its matrix and its inverse, x the part
-      module _ {t v : Matrix} {x : ℕ} (h : e ≡ Placed t v x) {b : Stance} (q : b ≡ placedStance t v a) (ys : List Float) (us : List ℕ) {r : Counts}
+      module _ {t v : Matrix} {x : ℕ} (h : e ≡ Placed t v x) {b : Placement} (q : b ≡ placedPart t v a) (ys : List Float) (us : List ℕ) {r : Counts}
           (ends : EndsBoth (collected b (roomOf wide many chopped choppedStarts) (linedAt (d - 1) numbers inverses marks ps starts owners x) (firstHeld wide many n xs m ss)) (take wide ys) (take many us) r) where
         part-as : value ≡ next (collected b (roomOf wide many chopped choppedStarts) (linedAt (d - 1) numbers inverses marks ps starts owners x) (firstHeld wide many n xs m ss)) (λ (u : Paths). answered (movedFrom t (length (points n (take wide xs))) u))
         unfolding linedOf collected
@@ -209,7 +208,7 @@ module _ (a : Stance) (wide many n m : ℕ) (xs : List Float) (ss : List ℕ) (c
               ends-both-as g f
 
 -- ---- the lines of both parts of a cut, one after the other
-module _ (a : Stance) (wide many : ℕ) (xs : List Float) (ss : List ℕ) (chopped : List Float) (choppedStarts : List ℕ) (x y : Lined) (ys : List Float) (us : List ℕ) {c : Counts}
+module _ (a : Placement) (wide many : ℕ) (xs : List Float) (ss : List ℕ) (chopped : List Float) (choppedStarts : List ℕ) (x y : Lined) (ys : List Float) (us : List ℕ) {c : Counts}
     (ends : EndsBoth (collected a (roomOf wide many chopped choppedStarts) x (firstHeld wide many 0 xs 0 ss)) (take wide ys) (take many us) c) where
   from-none : firstHeld wide many 0 xs 0 ss ≡ noPaths
   unfolding view

@@ -14,8 +14,7 @@ use Rattle.view.specs.declared.RenderArgs.{RenderArgs}
 use Rattle.path_chop.specs.Chop.{chopPaths}
 use Rattle.draw_cuts.specs.Cuts.{cutPaths}
 use Rattle.draw_lines.specs.Pushing.{addPaths}
-use Rattle.draw_arcs.specs.Stances.{stanceOf, placedStance}
-use Rattle.draw_arcs.specs.declared.Stance.{Stance}
+use Rattle.draw_arcs.specs.Stances.{Placement, unplaced, placedPart}
 use Rattle.draw_shown.specs.Shown.{orOutline}
 use Rattle.path_append.specs.Append.{appended}
 use Rattle.draw_collect.specs.Lined.{Lined, noLines, lined, placedLines, cutLines, bare}
@@ -44,10 +43,10 @@ unfoldable pub sifted : RenderArgs → LineRoom → Shape → Paths → Answer P
 sifted a w s p = next (choppedLines a (w .chopped) (w .begins) p) (λ (c : Paths). cutPaths s (c .vertices) (c .starts) (w .points) (w .starts))
 
 -- The lines of a drawn value after those that there are; a round solid without any has its outline. A cut's are collected in a vector of their own, which is then appended.
-unfoldable pub collected : Stance → LineRoom → Lined → Paths → Answer Paths
+unfoldable pub collected : Placement → LineRoom → Lined → Paths → Answer Paths
 collected t w noLines p = answered p
 collected t w (lined s ps) p = addPaths (w .points) (w .starts) (orOutline t s ps) p
-collected t w (placedLines m v x) p = next (collected (placedStance m v t) w x p) (λ (q : Paths). answered (movedFrom m (length (p .vertices)) q))
+collected t w (placedLines m v x) p = next (collected (placedPart m v t) w x p) (λ (q : Paths). answered (movedFrom m (length (p .vertices)) q))
 collected t w (cutLines o x y) p =
     next (next (collected t w x noPaths) (collected t w y))
     (λ (q : Paths). next (sifted (t .args) w (bare (cutLines o x y)) q) (appended (w .points) (w .starts) p))
@@ -55,4 +54,4 @@ collected t w (cutLines o x y) p =
 -- step 1 of a draw: the lines of each of these, in order
 unfoldable pub collectedAll : RenderArgs → LineRoom → (ℕ → Lined) → List ℕ → Paths → Answer Paths
 collectedAll a w at [] p = answered p
-collectedAll a w at (i ∷ is) p = next (collected (stanceOf a) w (at i) p) (collectedAll a w at is)
+collectedAll a w at (i ∷ is) p = next (collected (unplaced a) w (at i) p) (collectedAll a w at is)

@@ -11,6 +11,7 @@ use Rattle.paths.specs.declared.Counts.{Counts}
 use Rattle.scene_shape.specs.Shapes.{Shape}
 use Rattle.view.specs.declared.RenderArgs.{RenderArgs}
 use Rattle.path_append.specs.Append.{appended}
+use Rattle.draw_arcs.specs.Stances.{Placement}
 use Rattle.draw_arcs.specs.declared.Stance.{Stance}
 use Rattle.draw_collect.specs.Lined.{Lined, readLined, ownLines}
 use Rattle.draw_collect.specs.Collect.{LineRoom, collected, sifted}
@@ -23,7 +24,7 @@ abbrev pub linedAt : ℕ → List Float → List Float → List ℕ → List Flo
 linedAt depth numbers inverses marks points starts owners = readLined depth (entryAt numbers inverses marks) (ownLines marks points starts owners)
 
 -- the lines of entry a and then of entry b
-abbrev pub collectedBoth : Stance → LineRoom → (ℕ → Lined) → ℕ → ℕ → Answer Paths
+abbrev pub collectedBoth : Placement → LineRoom → (ℕ → Lined) → ℕ → ℕ → Answer Paths
 collectedBoth t w lined a b = next (collected t w (lined a) noPaths) (collected t w (lined b))
 
 -- the paths that the first vector holds, and those of the second
@@ -36,6 +37,11 @@ pub record Lent (depth wide many n m : ℕ) (xs : List Float) (ss : List ℕ) : 
   pub broad : depth * many ≤ length ss
   pub points-fit : n * 3 ≤ length (take wide xs)
   pub starts-fit : m ≤ length (take many ss)
+
+-- there is a place for the placing of each level
+pub record Spare (depth : ℕ) (t : Stance) : Type 0 where
+  pub enough : depth ≤ t .placings .free
+  pub most : t .placings .free ≤ 8
 
 -- the second vector's paths, if there are any, sifted and appended to the first's
 abbrev pub joined : RenderArgs → LineRoom → Shape → ℕ → ℕ → ℕ → List Float → ℕ → List ℕ → Counts → Answer Paths

@@ -10,10 +10,11 @@ ghost use Rattle.paths.specs.Paths.{pathsWith, noPaths};
 ghost use Rattle.paths.specs.Ends.{places, allPoints, held, EndsBoth};
 ghost use Rattle.paths.specs.declared.Counts.the-variants.{Both};
 ghost use Rattle.scene_shape.specs.Shapes.{decode};
+ghost use Rattle.draw_arcs.specs.Stances.{placementOf};
 ghost use Rattle.draw_collect.specs.Lined.{detailAt};
 ghost use Rattle.draw_collect.specs.Collect as Collect;
 ghost use Rattle.draw_collect.specs.Collect.{collected, collectedAll};
-ghost use Rattle.draw_collect.specs.Slices.{roomOf, linedAt, firstHeld, collectedBoth, Lent, joined};
+ghost use Rattle.draw_collect.specs.Slices.{roomOf, linedAt, firstHeld, collectedBoth, Lent, Spare, joined};
 use draw_arcs::Stance;
 use matrix::Matrix;
 use paths::Counts;
@@ -167,8 +168,8 @@ fn entry_paths(
     chopped: &mut [f64],
     chopped_starts: &mut [usize],
 ) -> Counts
-    requires { ⌜ Lent depth wide many n m (now work) (now begins) ⌝ }
-    ensures { λ r. ⌜ EndsBoth (collected t (roomOf wide many (now (chopped .entry)) (now («chopped_starts» .entry))) (linedAt depth (now (numbers .entry)) (now (inverses .entry)) (now (marks .entry)) (now (points .entry)) (now (starts .entry)) (now (owners .entry)) i) (firstHeld wide many n (now (work .entry)) m (now (begins .entry)))) (take wide (now (work .exit))) (take many (now (begins .exit))) r ⌝ }
+    requires { ⌜ Lent depth wide many n m (now work) (now begins) × Spare depth t ⌝ }
+    ensures { λ r. ⌜ EndsBoth (collected (placementOf t) (roomOf wide many (now (chopped .entry)) (now («chopped_starts» .entry))) (linedAt depth (now (numbers .entry)) (now (inverses .entry)) (now (marks .entry)) (now (points .entry)) (now (starts .entry)) (now (owners .entry)) i) (firstHeld wide many n (now (work .entry)) m (now (begins .entry)))) (take wide (now (work .exit))) (take many (now (begins .exit))) r ⌝ }
 {
     if depth == 0 {
         return Counts::Both(n, m);
@@ -280,8 +281,8 @@ fn part_paths(
     chopped: &mut [f64],
     chopped_starts: &mut [usize],
 ) -> Counts
-    requires { ⌜ Lent depth wide many 0 0 (now work) (now begins) ⌝ }
-    ensures { λ r. ⌜ EndsBoth (collectedBoth t (roomOf wide many (now (chopped .entry)) (now («chopped_starts» .entry))) (linedAt depth (now (numbers .entry)) (now (inverses .entry)) (now (marks .entry)) (now (points .entry)) (now (starts .entry)) (now (owners .entry))) a b) (take wide (now (work .exit))) (take many (now (begins .exit))) r ⌝ }
+    requires { ⌜ Lent depth wide many 0 0 (now work) (now begins) × Spare depth t ⌝ }
+    ensures { λ r. ⌜ EndsBoth (collectedBoth (placementOf t) (roomOf wide many (now (chopped .entry)) (now («chopped_starts» .entry))) (linedAt depth (now (numbers .entry)) (now (inverses .entry)) (now (marks .entry)) (now (points .entry)) (now (starts .entry)) (now (owners .entry))) a b) (take wide (now (work .exit))) (take many (now (begins .exit))) r ⌝ }
 {
     let r = entry_paths(
         numbers,

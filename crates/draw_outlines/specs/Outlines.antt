@@ -4,13 +4,12 @@ use mathlib.Core.List.{List, [], _∷_}
 use lib.Ieee.{Float, lt, le}
 use Rattle.floats.specs.Arith.{_⊕_, _⊖_, _⊗_, _⊘_, zeroF, oneF}
 use Rattle.sqrt.specs.Root.{sqrtOf}
-use Rattle.geometry.specs.Vectors.{vec, addV, subV, mulScalar, cross, lengthOf, normalizeOf, minAxis}
+use Rattle.geometry.specs.Vectors.{vec, addV, subV, mulScalar, divScalar, cross, lengthOf, minAxis}
 use Rattle.geometry.specs.declared.vector.Vector.{Vector}
-use Rattle.geometry.specs.declared.vector.Normalized.{Normalized}
-use Rattle.geometry.specs.declared.vector.Normalized.the-variants.{Unit, Zero}
 use Rattle.solids.specs.declared.solid.Solid.{Solid}
 use Rattle.solids.specs.declared.solid.Solid.the-variants.{Sphere, Cylinder, Cone, Cube, Triangle, ClosedCylinder, ClosedCone}
-use Rattle.draw_arcs.specs.declared.Stance.{Stance}
+use Rattle.draw_arcs.specs.declared.Frame.{Frame}
+use Rattle.draw_arcs.specs.Stances.{Placement}
 use Rattle.draw_rings.specs.Spheres.{sphereRing, sphereReach}
 use Rattle.draw_arcs.specs.Rings.{frameOf, levelAt, ringOf}
 
@@ -35,7 +34,7 @@ uprights r e eye z0 z1 =
     let q = tangentRoot e r in
     (firstTangent r r q e eye z0 ∷ firstTangent r r q e eye z1 ∷ []) ∷ (secondTangent r r q e eye z0 ∷ secondTangent r r q e eye z1 ∷ []) ∷ []
 
-unfoldable pub cylinderOutline : Stance → Float → Float → Float → List (List Vector)
+unfoldable pub cylinderOutline : Placement → Float → Float → Float → List (List Vector)
 cylinderOutline t r z0 z1 =
     let e = eyeSquare (t .args .eye) in
     ringOf t (levelAt z0) r ∷ ringOf t (levelAt z1) r ∷ cond (le e (r ⊗ r)) [] (uprights r e (t .args .eye) z0 z1)
@@ -49,29 +48,30 @@ slopes r c e eye h =
     let q = tangentRoot e c in
     (firstTangent r c q e eye zeroF ∷ vec zeroF zeroF h ∷ []) ∷ (secondTangent r c q e eye zeroF ∷ vec zeroF zeroF h ∷ []) ∷ []
 
-unfoldable pub coneOutline : Stance → Float → Float → List (List Vector)
+unfoldable pub coneOutline : Placement → Float → Float → List (List Vector)
 coneOutline t r h =
     let e = eyeSquare (t .args .eye) in
     let c = coneSide r h (t .args .eye) in
     ringOf t (levelAt zeroF) r ∷ cond (le e (c ⊗ c)) [] (slopes r c e (t .args .eye) h)
 
--- ---- a sphere at distance h > radius: one ring. Its axes are u, w cross w's `min_axis` normalised, and w cross u. Where nothing can be normalised there is no line: by h > radius
--- that does not come about but for an infinite or NaN eye.
-unfoldable pub ringAround : Stance → Vector → Float → Vector → Normalized → List (List Vector)
-ringAround t c r w (Unit u) = ringOf t (frameOf c u (cross w u)) r ∷ []
-ringAround t c r w Zero = []
+-- ---- a sphere at distance h > radius: one ring. "Normalised" is over the computed length, whatever that is: where h is infinite the ring is of NaNs.
+unfoldable pub unitOf : Vector → Vector
+unitOf v = divScalar v (lengthOf v)
 
-unfoldable pub ringFacing : Stance → Float → Float → Normalized → List (List Vector)
-ringFacing t r h (Unit w) = ringAround t (addV (t .args .eye) (mulScalar w (sphereReach r h))) (sphereRing r h) w (normalizeOf (cross w (minAxis w)))
-ringFacing t r h Zero = []
+-- along w, so far from the eye; its axes are u, w cross w's `min_axis` normalised, and w cross u
+unfoldable pub facing : Vector → Vector → Float → Frame
+facing eye w reach =
+    let u = unitOf (cross w (minAxis w)) in
+    frameOf (addV eye (mulScalar w reach)) u (cross w u)
 
-unfoldable pub sphereOutline : Stance → Vector → Float → List (List Vector)
+unfoldable pub sphereOutline : Placement → Vector → Float → List (List Vector)
 sphereOutline t center r =
     let d = subV center (t .args .eye) in
-    cond (lt r (lengthOf d)) (ringFacing t r (lengthOf d) (normalizeOf d)) []
+    let h = lengthOf d in
+    cond (lt r h) (ringOf t (facing (t .args .eye) (unitOf d) (sphereReach r h)) (sphereRing r h) ∷ []) []
 
 -- ---- the outline of a solid: round ones have one, kinds 8 and 9 those of 2 and 3
-unfoldable pub outlineOf : Stance → Solid → List (List Vector)
+unfoldable pub outlineOf : Placement → Solid → List (List Vector)
 outlineOf t (Sphere center radius) = sphereOutline t center radius
 outlineOf t (Cylinder radius z0 z1) = cylinderOutline t radius z0 z1
 outlineOf t (Cone radius height) = coneOutline t radius height

@@ -1,16 +1,18 @@
 // The outlines of round solids (document 02 (vii)): rings, and the lines where planes through the eye touch.
 ghost use mathlib.Core.Path.{_≡_};
+ghost use Prim.Native.Nat.{_*_, _≤_};
 ghost use lib.ListN.{length};
 ghost use Rattle.paths.specs.Ends.{places, Finished};
 ghost use Rattle.draw_lines.specs.Pushing.{Fit, Adds};
 ghost use Rattle.draw_rings.specs.Spheres as Spheres;
+ghost use Rattle.draw_arcs.specs.Stances.{placingsOf, placementOf};
 ghost use Rattle.draw_outlines.specs.Outlines as Outlines;
 ghost use Rattle.draw_outlines.specs.Calls as Calls;
+ghost use Rattle.draw_outlines.specs.Calls.{matricesIn};
 use draw_arcs::Frame;
+use draw_arcs::Placings;
 use draw_arcs::Stance;
-use geometry::vector::Normalized;
 use geometry::vector::Vector;
-use matrix::Matrix;
 use paths::Counts;
 use refusals::Refusal;
 use scene::entry::Simple;
@@ -92,7 +94,7 @@ fn cylinder_outline(
     begins: &mut [usize],
 ) -> Counts
     requires { ⌜ Fit c (now out) (now begins) ⌝ }
-    ensures { λ k. ⌜ Adds (Outlines.cylinderOutline t r z0 z1) c (now (out .entry)) (now (begins .entry)) (now (out .exit)) (now (begins .exit)) k ⌝ }
+    ensures { λ k. ⌜ Adds (Outlines.cylinderOutline (placementOf t) r z0 z1) c (now (out .entry)) (now (begins .entry)) (now (out .exit)) (now (begins .exit)) k ⌝ }
 {
     let c1 = draw_arcs::ring(c, t, draw_arcs::level_at(z0), r, out, begins);
     let c2 = draw_arcs::ring(c1, t, draw_arcs::level_at(z1), r, out, begins);
@@ -141,7 +143,7 @@ fn cone_outline(
     begins: &mut [usize],
 ) -> Counts
     requires { ⌜ Fit c (now out) (now begins) ⌝ }
-    ensures { λ k. ⌜ Adds (Outlines.coneOutline t r h) c (now (out .entry)) (now (begins .entry)) (now (out .exit)) (now (begins .exit)) k ⌝ }
+    ensures { λ k. ⌜ Adds (Outlines.coneOutline (placementOf t) r h) c (now (out .entry)) (now (begins .entry)) (now (out .exit)) (now (begins .exit)) k ⌝ }
 {
     let c1 = draw_arcs::ring(c, t, draw_arcs::level_at(0.0), r, out, begins);
     let a = t.args;
@@ -166,55 +168,24 @@ fn sphere_reach(r: f64, h: f64) -> f64
     (h * h - r * r) / h
 }
 
-// A ring around w with the first axis n.
-fn ring_around(
-    c: Counts,
-    t: Stance,
-    center: Vector,
-    radius: f64,
-    w: Vector,
-    n: Normalized,
-    out: &mut [f64],
-    begins: &mut [usize],
-) -> Counts
-    requires { ⌜ Fit c (now out) (now begins) ⌝ }
-    ensures { λ k. ⌜ Adds (Outlines.ringAround t center radius w n) c (now (out .entry)) (now (begins .entry)) (now (out .exit)) (now (begins .exit)) k ⌝ }
+// A vector over its computed length, whatever that is.
+fn unit(v: Vector) -> Vector
+    ensures { λ r. ⌜ r ≡ Outlines.unitOf v ⌝ }
 {
-    match n {
-        Normalized::Zero => c,
-        Normalized::Unit(u) => {
-            let f = Frame {
-                center,
-                first: u,
-                second: w.cross(u),
-            };
-            draw_arcs::ring(c, t, f, radius, out, begins)
-        }
-    }
+    v.div_scalar(v.norm())
 }
 
-// The ring of a sphere of radius r at distance h, in the direction n.
-fn ring_facing(
-    c: Counts,
-    t: Stance,
-    r: f64,
-    h: f64,
-    n: Normalized,
-    out: &mut [f64],
-    begins: &mut [usize],
-) -> Counts
-    requires { ⌜ Fit c (now out) (now begins) ⌝ }
-    ensures { λ k. ⌜ Adds (Outlines.ringFacing t r h n) c (now (out .entry)) (now (begins .entry)) (now (out .exit)) (now (begins .exit)) k ⌝ }
+// Where the ring of a sphere lies that is seen along w, so far from the eye.
+fn facing(eye: Vector, w: Vector, reach: f64) -> Frame
+    ensures { λ r. ⌜ r ≡ Outlines.facing eye w reach ⌝ }
 {
-    match n {
-        Normalized::Zero => c,
-        Normalized::Unit(w) => {
-            let a = t.args;
-            let eye = a.eye;
-            let center = eye.add(w.mul_scalar(sphere_reach(r, h)));
-            let u = w.cross(w.min_axis()).normalize();
-            ring_around(c, t, center, sphere_ring(r, h), w, u, out, begins)
-        }
+    let center = eye.add(w.mul_scalar(reach));
+    let first = unit(w.cross(w.min_axis()));
+    let second = w.cross(first);
+    Frame {
+        center,
+        first,
+        second,
     }
 }
 
@@ -228,14 +199,15 @@ fn sphere_outline(
     begins: &mut [usize],
 ) -> Counts
     requires { ⌜ Fit c (now out) (now begins) ⌝ }
-    ensures { λ k. ⌜ Adds (Outlines.sphereOutline t center r) c (now (out .entry)) (now (begins .entry)) (now (out .exit)) (now (begins .exit)) k ⌝ }
+    ensures { λ k. ⌜ Adds (Outlines.sphereOutline (placementOf t) center r) c (now (out .entry)) (now (begins .entry)) (now (out .exit)) (now (begins .exit)) k ⌝ }
 {
     let a = t.args;
     let eye = a.eye;
     let d = center.sub(eye);
     let h = d.norm();
     if r < h {
-        return ring_facing(c, t, r, h, d.normalize(), out, begins);
+        let f = facing(eye, unit(d), sphere_reach(r, h));
+        return draw_arcs::ring(c, t, f, sphere_ring(r, h), out, begins);
     }
     c
 }
@@ -243,7 +215,7 @@ fn sphere_outline(
 // The outline of a solid, after the paths that there are.
 pub fn outline(c: Counts, s: Solid, t: Stance, out: &mut [f64], begins: &mut [usize]) -> Counts
     requires { ⌜ Fit c (now out) (now begins) ⌝ }
-    ensures { λ k. ⌜ Adds (Outlines.outlineOf t s) c (now (out .entry)) (now (begins .entry)) (now (out .exit)) (now (begins .exit)) k ⌝ }
+    ensures { λ k. ⌜ Adds (Outlines.outlineOf (placementOf t) s) c (now (out .entry)) (now (begins .entry)) (now (out .exit)) (now (begins .exit)) k ⌝ }
 {
     match s {
         Solid::Sphere { center, radius } => sphere_outline(c, t, center, radius, out, begins),
@@ -262,8 +234,22 @@ pub fn outline(c: Counts, s: Solid, t: Stance, out: &mut [f64], begins: &mut [us
     }
 }
 
-fn stance_at(a: RenderArgs, eye: Vector, place: Matrix) -> Stance
-    ensures { λ r. ⌜ r ≡ Calls.stanceAt a eye place ⌝ }
+// The first n matrices of a slice, 16 numbers each by rows, as placings.
+fn placings_from(xs: &[f64], n: usize) -> Placings
+    requires { ⌜ (n ≤ 7) × (n * 16 ≤ length (now xs)) ⌝ }
+    ensures { λ r. ⌜ placingsOf r ≡ matricesIn n (now (xs .entry)) ⌝ }
+{
+    let mut p = Placings::none();
+    let mut k = n;
+    while k > 0 {
+        k -= 1;
+        p = p.with(scene::entry::matrix_of(rows::read_numbers(xs, k)));
+    }
+    p
+}
+
+fn stance_at(a: RenderArgs, eye: Vector, placings: Placings) -> Stance
+    ensures { λ r. ⌜ placementOf r ≡ Calls.placementAt a eye (placingsOf placings) ⌝ }
 {
     let screen = a.screen;
     Stance {
@@ -275,28 +261,35 @@ fn stance_at(a: RenderArgs, eye: Vector, place: Matrix) -> Stance
             step: a.step,
         },
         screen: path_chop::screen_of(a),
-        place,
+        placings,
     }
 }
 
-// The outline of one solid, in `out` and `begins`, and then zeros: by the eye in its own coordinates and the
-// product of its placings; or why it is refused, and zeros throughout.
+// The outline of one solid, in `out` and `begins`, and then zeros: by the eye in its own coordinates and its
+// placings, innermost first, 16 numbers each by rows; or why it is refused, and zeros throughout.
 pub fn outline_alone(
     solid: Simple,
     eye: Vector,
-    place: Matrix,
+    placings: &[f64],
     view: View,
     out: &mut [f64],
     begins: &mut [usize],
 ) -> Counts
-    ensures { λ r. ⌜ Finished (Calls.outlineCall solid eye place view (places (now (out .entry))) (length (now (begins .entry)))) (length (now (out .entry))) (length (now (begins .entry))) (now (out .exit)) (now (begins .exit)) r ⌝ }
+    ensures { λ r. ⌜ Finished (Calls.outlineCall solid eye (now (placings .entry)) view (places (now (out .entry))) (length (now (begins .entry)))) (length (now (out .entry))) (length (now (begins .entry))) (now (out .exit)) (now (begins .exit)) r ⌝ }
 {
+    if placings.len() % 16 != 0 {
+        return paths::finish(out, begins, Counts::Refused(Refusal::Lengths));
+    }
     match solid {
         Simple::Is(s) => {
+            let n = placings.len() / 16;
+            if n > 7 {
+                return paths::finish(out, begins, Counts::Refused(Refusal::Parts));
+            }
             if !view.is_ok() {
                 return paths::finish(out, begins, Counts::Refused(Refusal::View));
             }
-            let t = stance_at(view.args(), eye, place);
+            let t = stance_at(view.args(), eye, placings_from(placings, n));
             let r = outline(Counts::Both(0, 0), s, t, out, begins);
             paths::finish(out, begins, r)
         }

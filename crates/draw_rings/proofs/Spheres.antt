@@ -47,7 +47,7 @@ round-twice s a b B f =
     go n d q p t P u h = le-of-mul-le-mul-right {k = t} (omega (arith, mul-le-mul-right d h, ap (λ (x : ℕ). x * b) u)) P
 
 -- ---- a finite result has finite operands
-div-left : (x y : Float) → T (finite (x ⊘ y)) → T (finite x)
+pub div-left : (x y : Float) → T (finite (x ⊘ y)) → T (finite x)
 unfolding div
 div-left nan y h = h
 div-left (inf s) nan h = h
@@ -62,7 +62,7 @@ root-left (inf true) h = h
 root-left (inf false) h = h
 root-left (fin s m e) h = tt
 
-mul-right : (x y : Float) → T (finite (x ⊗ y)) → T (finite y)
+pub mul-right : (x y : Float) → T (finite (x ⊗ y)) → T (finite y)
 unfolding mul
 mul-right nan y h = absurd h
 mul-right (inf s) nan h = h

@@ -8,7 +8,7 @@ use lib.Ieee.{Float}
 use Rattle.geometry.specs.declared.vector.Vector.{Vector}
 use Rattle.solids.specs.declared.solid.Solid.{Solid}
 use Rattle.solids.specs.declared.solid.Solid.the-variants.{Sphere, Cylinder, Cone, Cube, Triangle, ClosedCylinder, ClosedCone}
-use Rattle.draw_arcs.specs.declared.Stance.{Stance}
+use Rattle.draw_arcs.specs.Stances.{Placement}
 use Rattle.paths.specs.Paths.{pathsOf}
 use Rattle.paths.specs.Ends.{places, held, EndsBoth}
 use Rattle.paths.specs.declared.Counts.{Counts}
@@ -70,7 +70,7 @@ unfolding hasPaths
 has-before [] qs h = cc
 has-before (p ∷ ps) qs h = refl
 
-module _ (t : Stance) where
+module _ (t : Placement) where
   kept-empty : (s : Solid) → outlineOf t s ≡ [] → (ps : List (List Vector)) → orOutline t s ps ≡ ps
   unfolding orOutline
   kept-empty s e [] = e

@@ -7,15 +7,15 @@ use Rattle.geometry.specs.declared.vector.Vector.{Vector}
 use Rattle.solids.specs.declared.solid.Solid.{Solid}
 use Rattle.solids.specs.declared.solid.Solid.the-variants.{Sphere, Cylinder, Cone, Cube, Triangle, ClosedCylinder, ClosedCone}
 use Rattle.draw_solids.specs.Lines.{solidPaths}
-use Rattle.draw_arcs.specs.declared.Stance.{Stance}
+use Rattle.draw_arcs.specs.Stances.{Placement}
 use Rattle.draw_outlines.specs.Outlines.{outlineOf}
 
 -- its lines, which are its stripes and those handed in for it, and its outline only where there are none; a handed-in path without points is one
-unfoldable pub orOutline : Stance → Solid → List (List Vector) → List (List Vector)
+unfoldable pub orOutline : Placement → Solid → List (List Vector) → List (List Vector)
 orOutline t s [] = outlineOf t s
 orOutline t s (p ∷ ps) = p ∷ ps
 
-unfoldable pub shownPaths : Stance → Solid → ℕ → List (List Vector) → List (List Vector)
+unfoldable pub shownPaths : Placement → Solid → ℕ → List (List Vector) → List (List Vector)
 shownPaths t s detail own = orOutline t s (solidPaths s detail own)
 
 unfoldable pub hasPaths : List (List Vector) → Bool

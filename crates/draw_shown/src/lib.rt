@@ -8,6 +8,7 @@ ghost use Rattle.paths.specs.Paths.{pathsOf};
 ghost use Rattle.paths.specs.Ends.{places, allPoints, held, EndsBoth};
 ghost use Rattle.draw_lines.specs.Pushing.{addPaths};
 ghost use Rattle.draw_lines.specs.Lines.{ownPaths};
+ghost use Rattle.draw_arcs.specs.Stances.{placementOf};
 ghost use Rattle.draw_shown.specs.Shown as Shown;
 use draw_arcs::Stance;
 use paths::Counts;
@@ -89,7 +90,7 @@ pub fn shown_paths(
     m: usize,
 ) -> Counts
     requires { ⌜ (n * 3 ≤ length (now out)) × (m ≤ length (now begins)) ⌝ }
-    ensures { λ r. ⌜ EndsBoth (addPaths (places (now (out .entry))) (length (now (begins .entry))) (Shown.shownPaths t solid detail (ownPaths i (pathsOf (allPoints (now (points .entry))) (now (starts .entry))) (now (owners .entry)))) (held n (now (out .entry)) m (now (begins .entry)))) (now (out .exit)) (now (begins .exit)) r ⌝ }
+    ensures { λ r. ⌜ EndsBoth (addPaths (places (now (out .entry))) (length (now (begins .entry))) (Shown.shownPaths (placementOf t) solid detail (ownPaths i (pathsOf (allPoints (now (points .entry))) (now (starts .entry))) (now (owners .entry)))) (held n (now (out .entry)) m (now (begins .entry)))) (now (out .exit)) (now (begins .exit)) r ⌝ }
 {
     let c = draw_solids::solid_paths(solid, detail, i, points, starts, owners, out, begins, n, m);
     if owns_path(starts, owners, i) {

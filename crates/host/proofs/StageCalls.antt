@@ -10,7 +10,6 @@ use Rattle.paths.specs.declared.Counts.{Counts}
 use Rattle.view.specs.declared.View.{View}
 use Rattle.path_chop.specs.Chop.{chopCall}
 use Rattle.geometry.specs.declared.vector.Vector.{Vector}
-use Rattle.matrix.specs.declared.Matrix.{Matrix}
 use Rattle.scene.specs.declared.entry.Simple.{Simple}
 use Rattle.draw_outlines.specs.Calls.{outlineCall}
 use Rattle.scene.specs.Scenes.{Scene}
@@ -33,6 +32,6 @@ pub draw-so : {v w : View} (t : Float) (s : Scene) (p : Places) (x y : ℕ) {xs 
 draw-so {w = w} t s p x y {xs} {ss} {c} e f = finished-so (drawWith t s w p) x y (subst (λ (v : View). Finished (drawWith t s v p) x y xs ss c) e f)
 
 -- an outline, of what the arrays hold
-pub outline-so : {s s′ : Simple} {e e′ : Vector} {m m′ : Matrix} {v v′ : View} (room startRoom x y : ℕ) {xs : List Float} {us : List ℕ} {c : Counts}
-    → s ≡ s′ → e ≡ e′ → m ≡ m′ → v ≡ v′ → Finished (outlineCall s e m v room startRoom) x y xs us c → Finished (outlineCall s′ e′ m′ v′ room startRoom) x y xs us c
-outline-so room startRoom x y hs he hm hv f = rw (← hs, ← he, ← hm, ← hv) f
+pub outline-so : {s s′ : Simple} {e e′ : Vector} {v v′ : View} (m : List Float) (room startRoom x y : ℕ) {xs : List Float} {us : List ℕ} {c : Counts}
+    → s ≡ s′ → e ≡ e′ → v ≡ v′ → Finished (outlineCall s e m v room startRoom) x y xs us c → Finished (outlineCall s′ e′ m v′ room startRoom) x y xs us c
+outline-so m room startRoom x y hs he hv f = rw (← hs, ← he, ← hv) f

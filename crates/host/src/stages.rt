@@ -6,7 +6,7 @@ ghost use Rattle.paths.specs.Ends.{places, Zeroed};
 ghost use Rattle.path_chop.specs.Chop.{chopCall};
 ghost use Rattle.rows.specs.Points.{pointOf};
 ghost use Rattle.rows.specs.Entries.{numbersOf};
-ghost use Rattle.scene.specs.Entries.{simpleOf, matrixOf};
+ghost use Rattle.scene.specs.Entries.{simpleOf};
 ghost use Rattle.draw_outlines.specs.Calls.{outlineCall};
 ghost use Rattle.path_simplify.specs.Simplify.{simplifyCall};
 ghost use Rattle.host.specs.StageCalls as StageCalls;
@@ -75,9 +75,9 @@ pub fn view_from(v: &[f64; 22]) -> View
     }
 }
 
-// The paths chopped for a view (matrix by rows, eye, width, height, step): numbers 2, 4, 8 and 9, then 10
-// and 13. `out` holds their points and `begins` their starts, then zeros; `points_out` and `paths_out` are
-// how many there are.
+// The paths chopped for a view (matrix by rows, eye, width, height, step): numbers 2, 4, 8 and 9, then 13.
+// `out` holds their points and `begins` their starts, then zeros; `points_out` and `paths_out` are how many
+// there are.
 #[no_mangle]
 pub extern "C" fn larnt_chop(
     view: &[f64; 22],
@@ -97,26 +97,27 @@ pub extern "C" fn larnt_chop(
 }
 
 // The outline that step 1 of a draw adds for a solid of kinds 1 to 5, 8 or 9 without lines of its own, in the
-// solid's own coordinates, where the eye stands there and its placings have this product (by rows): number 3 for
-// any other kind, 8 for the view, then 13. What is filled is as above.
+// solid's own coordinates, by the eye there and the placings, innermost first, 16 numbers each by rows: number 2
+// for a length that is no multiple of 16, 3 for any other kind, 4 for more than 7 placings, 8 for the view, then
+// 13. What is filled is as above.
 #[no_mangle]
 pub extern "C" fn larnt_outline(
     kind: u32,
     n: &[f64; 16],
     eye: &[f64; 3],
-    place: &[f64; 16],
+    placings: &[f64],
     view: &[f64; 22],
     out: &mut [f64],
     begins: &mut [usize],
     points_out: &mut usize,
     paths_out: &mut usize,
 ) -> u32
-    ensures { λ r. ⌜ StageCalls.PathsTold (outlineCall (simpleOf kind (numbersOf (now (n .entry)))) (pointOf (now (eye .entry))) (matrixOf (numbersOf (now (place .entry)))) (StageCalls.viewOfRow (now (view .entry))) (places (now (out .entry))) (length (now (begins .entry)))) (length (now (out .entry))) (length (now (begins .entry))) r (now (out .exit)) (now (begins .exit)) (now («points_out» .exit)) (now («paths_out» .exit)) ⌝ }
+    ensures { λ r. ⌜ StageCalls.PathsTold (outlineCall (simpleOf kind (numbersOf (now (n .entry)))) (pointOf (now (eye .entry))) (now (placings .entry)) (StageCalls.viewOfRow (now (view .entry))) (places (now (out .entry))) (length (now (begins .entry)))) (length (now (out .entry))) (length (now (begins .entry))) r (now (out .exit)) (now (begins .exit)) (now («points_out» .exit)) (now («paths_out» .exit)) ⌝ }
 {
     let c = draw_outlines::outline_alone(
         scene::entry::simple_of(kind, crate::sixteen(n)),
         crate::point(eye),
-        scene::entry::matrix_of(crate::sixteen(place)),
+        placings,
         view_from(view),
         out,
         begins,
@@ -177,7 +178,7 @@ pub extern "C" fn larnt_draw(
     ensures { λ _. ⌜ Zeroed 0 (now («node_marks» .entry)) (now («node_marks» .exit)) ⌝ }
     ensures { λ _. ⌜ Zeroed 0 (now (order .entry)) (now (order .exit)) ⌝ }
 {
-    let c = draw::draw(
+    let c = draw_coarse::draw(
         numbers,
         marks,
         points,

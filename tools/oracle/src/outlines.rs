@@ -2,7 +2,7 @@
 //! matrices. A draw's oracle takes them as lines that are handed in.
 
 use crate::check::{parts, round};
-use crate::plain::{matrix, of_matrix, render_args, vector};
+use crate::plain::{matrix, render_args, vector};
 use crate::stripes::striped;
 use crate::{Scene, View};
 use larnt_plain::common::EPS;
@@ -12,12 +12,12 @@ use larnt_plain::vector::Vector;
 
 pub type Line = Vec<[f64; 3]>;
 
-/// What a solid has of the view: the eye in its own coordinates, the product of the placings around it, and the view's
+/// What a solid has of the view: the eye in its own coordinates, the placings around it, innermost first, and the view's
 /// own screen matrix, sheet and step.
 #[derive(Clone)]
 struct Sight {
     eye: Vector,
-    place: Matrix,
+    placings: Vec<Matrix>,
     view: RenderArgs,
 }
 
@@ -25,12 +25,19 @@ impl Sight {
     /// At the top, where nothing is placed.
     fn of(view: &View) -> Sight {
         let view = render_args(view);
-        Sight { eye: view.eye, place: Matrix::identity(), view }
+        Sight { eye: view.eye, placings: Vec::new(), view }
     }
 
     /// Within a placing.
-    fn within(self, m: &Matrix) -> Sight {
-        Sight { eye: m.inverse().mul_position(self.eye), place: self.place.mul(m), ..self }
+    fn within(mut self, m: Matrix) -> Sight {
+        self.eye = m.inverse().mul_position(self.eye);
+        self.placings.insert(0, m);
+        self
+    }
+
+    /// A point moved by one placing after the other, as `transform` moves the points of a line.
+    fn moved(&self, p: Vector) -> Vector {
+        self.placings.iter().fold(p, |p, m| m.mul_position(p))
     }
 
     /// How deep halvings may nest.
@@ -41,7 +48,7 @@ impl Sight {
     /// The chopping rule of larnt's `path_chop_adaptive`, put to two ends as placed; at step 0 there is none.
     fn fine_enough(&self, ends: [Vector; 2]) -> bool {
         let RenderArgs { screen_mat, width, height, step, .. } = &self.view;
-        let [a, b] = ends.map(|v| self.place.mul_position(v));
+        let [a, b] = ends.map(|v| self.moved(v));
         let [sa, sb] = [a, b].map(|v| screen_mat.mul_position_w(v));
         let both = |beyond: &dyn Fn(Vector) -> bool| beyond(sa) && beyond(sb);
         *step > 0.0
@@ -143,14 +150,17 @@ fn sphere(n: &[f64], sight: &Sight) -> Vec<Line> {
     if !(h > r) {
         return Vec::new();
     }
-    let ring = || {
-        let w = unit(to)?;
-        let first = unit(w.cross(w.min_axis()))?;
-        let centre = sight.eye.add(w.mul_scalar((h * h - r * r) / h));
-        let radius = r * (h * h - r * r).sqrt() / h;
-        Some(Ring { centre, axes: [first, w.cross(first)], radius })
-    };
-    ring().iter().map(|ring| ring.line(sight)).collect()
+    let w = over_length(to);
+    let first = over_length(w.cross(w.min_axis()));
+    let centre = sight.eye.add(w.mul_scalar((h * h - r * r) / h));
+    let radius = r * (h * h - r * r).sqrt() / h;
+    vec![Ring { centre, axes: [first, w.cross(first)], radius }.line(sight)]
+}
+
+/// `normalize` without its assertion: a vector over its computed length, whatever that is.
+fn over_length(v: Vector) -> Vector {
+    let d = v.length();
+    Vector::new(v.x / d, v.y / d, v.z / d)
 }
 
 /// `normalize`, where that has an answer.
@@ -168,17 +178,22 @@ fn outline_of(kind: u32, numbers: &[f64], sight: &Sight) -> Vec<Line> {
     }
 }
 
-/// The outline of a solid alone, given the eye in its own coordinates and the product of the placings around it.
-pub fn outline(kind: u32, n: &[f64], eye: [f64; 3], place: &[f64; 16], view: &View) -> Vec<Line> {
-    let sight = Sight { eye: vector(eye), place: matrix(place), view: render_args(view) };
-    outline_of(kind, n, &sight)
+/// The outline of a solid alone, given the eye in its own coordinates and the placings around it, innermost first.
+pub fn outline(
+    kind: u32,
+    n: &[f64],
+    eye: [f64; 3],
+    placings: &[[f64; 16]],
+    view: &View,
+) -> Vec<Line> {
+    let placings = placings.iter().map(|m| matrix(m)).collect();
+    outline_of(kind, n, &Sight { eye: vector(eye), placings, view: render_args(view) })
 }
 
-/// The eye in the coordinates of what stands within these placings, outermost first, and their product.
-pub fn placed(view: &View, placings: &[[f64; 16]]) -> ([f64; 3], [f64; 16]) {
-    let within = |sight: Sight, m: &[f64; 16]| sight.within(&matrix(m));
-    let sight = placings.iter().fold(Sight::of(view), within);
-    (told(sight.eye), of_matrix(sight.place))
+/// The eye in the coordinates of what stands within these placings, innermost first.
+pub fn own_eye(view: &View, placings: &[[f64; 16]]) -> [f64; 3] {
+    let within = |sight: Sight, m: &[f64; 16]| sight.within(matrix(m));
+    told(placings.iter().rev().fold(Sight::of(view), within).eye)
 }
 
 /// Whether a solid is round and has neither handed-in lines nor stripes.
@@ -199,7 +214,7 @@ pub fn outlines(scene: &Scene, view: &View) -> Vec<Vec<Line>> {
         for part in parts(marks) {
             let sight = sights[i].clone();
             let placed = marks[0] == 6;
-            sights[*part as usize] = if placed { sight.within(&matrix(numbers)) } else { sight };
+            sights[*part as usize] = if placed { sight.within(matrix(numbers)) } else { sight };
         }
         if bare(scene, i) {
             found[i] = outline_of(marks[0], numbers, &sights[i]);

@@ -274,10 +274,9 @@ fn stripes(p: &mut Pieces) {
 
 /// Outlines: rings and lines by triangles of whole numbers, how far rings are halved, and who has an outline.
 fn outlines(p: &mut Pieces) {
-    use oracle::outlines::{outline, outlines, placed, with_outlines};
+    use oracle::outlines::{outline, outlines, own_eye, with_outlines};
     let view = |step: f64| View { step, ..outline_view() };
-    let seen =
-        |kind, numbers: &[f64], eye: [f64; 3]| outline(kind, numbers, eye, &IDENTITY, &view(0.0));
+    let seen = |kind, numbers: &[f64], eye: [f64; 3]| outline(kind, numbers, eye, &[], &view(0.0));
     let lens = |lines: &[oracle::outlines::Line]| lines.iter().map(Vec::len).collect::<Vec<_>>();
 
     // e = 25, q = 4
@@ -320,21 +319,30 @@ fn outlines(p: &mut Pieces) {
 
     // the sheet is 2 wide, and so is what it shows
     let ring =
-        |step, radius| outline(3, &[radius, 1.0], [0.0, 0.0, 5.0], &IDENTITY, &view(step))[0].len();
+        |step, radius| outline(3, &[radius, 1.0], [0.0, 0.0, 5.0], &[], &view(step))[0].len();
     p.equal("steps", [1000.0, 1.0, 0.5, 0.25].map(|s| ring(s, 0.5)), [5, 5, 9, 17]);
     p.equal("a step that is never reached", ring(1e-300, 0.5), 1025);
     p.equal("step 0 of either sign", [0.0, -0.0].map(|s| ring(s, 0.5)), [129, 129]);
     p.equal("radius 0", [0.0, 1e-300, 1.0].map(|s| ring(s, 0.0)), [5, 5, 5]);
     p.equal("ends nearer than 1e-9 squared", ring(1e-300, 1e-5), 5);
-    let twice = outline(3, &[0.5, 1.0], [0.0, 0.0, 5.0], &stretched(2.0), &view(0.25));
+    let twice = outline(3, &[0.5, 1.0], [0.0, 0.0, 5.0], &[stretched(2.0)], &view(0.25));
     p.equal("ends as placed", twice[0].len(), 33);
 
     let turned = [0., -1., 0., 0., 1., 0., 0., 0., 0., 0., 1., 0., 0., 0., 0., 1.];
     let mut moved = IDENTITY;
     moved[3] = 1.0;
-    let (eye, place) = placed(&view(0.0), &[moved, turned]);
+    let eye = own_eye(&view(0.0), &[turned, moved]);
     p.equal("the eye, through the outer placing first", eye, [0.0, 1.0, 5.0]);
-    p.equal("outer times inner", (place[1], place[3], place[4], place[7]), (-1.0, 1.0, 1.0, 0.0));
+    // a row 4 counts for nothing where a point is moved: by the product the ring would stand off the sheet
+    let (mut outer, mut inner) = (IDENTITY, IDENTITY);
+    (outer[3], inner[15]) = (0.5, 4.0);
+    let ends = outline(3, &[0.5, 1.0], [0.0, 0.0, 5.0], &[inner, outer], &view(0.25));
+    p.equal("ends moved by one placing after the other", ends[0].len(), 17);
+
+    // the square of the distance is no finite number
+    let far = outline(1, &[0.0, 0.0, 0.0, 1.0], [1e200, 1.0, 1.0], &[], &view(0.0));
+    let nans = far[0].iter().flatten().all(|x| x.is_nan());
+    p.equal("a ball infinitely far off: a ring of NaNs", (lens(&far), nans), (vec![129], true));
 
     // who has one
     let mut scene = one([2, 0, 0, 0], &[1.0, 0.0, 1.0]);

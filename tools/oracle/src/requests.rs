@@ -19,8 +19,8 @@
 //!     hit KIND NUMBERS RAY                -> t ok(0 or 1)
 //!     bounds KIND NUMBERS                 -> BOX
 //!     contains KIND NUMBERS POINT F       -> 0 or 1
-//!     outline KIND NUMBERS EYE(3) PLACE(16) VIEW -> LINES, with the eye in the solid's own coordinates and the
-//!                                            product of the placings
+//!     outline KIND NUMBERS EYE(3) PLACINGS VIEW -> LINES, with the eye in the solid's own coordinates and a
+//!                                            LIST of the placings' matrices, innermost first
 //!     segment POINT V W                   -> distance of the point from the segment v w
 //!     chop VIEW LINES POINTS STARTS       -> ok LINES         (places for points and starts)
 //!     simplify THRESHOLD LINES POINTS STARTS -> ok LINES
@@ -164,9 +164,9 @@ impl Words<'_> {
             }
             "outline" => {
                 let ((kind, numbers), eye) = (self.measures()?, self.floats()?);
-                let (place, view) = (self.floats()?, self.view()?);
+                let (placings, view) = (self.list(Self::floats)?, self.view()?);
                 let mut told = Scene::default();
-                let lines = outline(kind, &numbers, eye, &place, &view);
+                let lines = outline(kind, &numbers, eye, &placings, &view);
                 lines.iter().for_each(|line| told.push_line(0, line));
                 let Scene { points, starts, .. } = told;
                 lines_text(&Lines { points, starts })

@@ -1,3 +1,4 @@
+use Rattle.draw_arcs.specs.Stances.{placementOf}
 use Rattle.draw_arcs.proofs.Pushing.{no-depth, stopped, no-middle, only-end, half-refused, half-done}
 use native.Mathlib.Omega.{arith}
 use mathlib.Core.Path.{_∙_}
@@ -38,7 +39,7 @@ pieces-returns t c =
     let at3 = at2 .before in let ring-point = at3 .ring-point in
     let at5 = at3 .before .before in let if1 = at5 .if1 in
     let at7 = at5 .before .before in let args = at7 .args in
-    only-end (ringPoint (args .f)) (args .out .now) (args .n) (args .q) (pieces-of (endsHalving (args .stepping) (args .t) (args .f)) (args .radius) (args .depth) (args .p) (args .q)) (no-depth (endsHalving (args .stepping) (args .t) (args .f)) (args .radius) (args .depth) (args .p) (args .q) (if1 .taken)) _ (ring-point .ensures) _ (push .ensures)
+    only-end (ringPoint (args .f)) (args .out .now) (args .n) (args .q) (pieces-of (endsHalving (args .stepping) (placementOf (args .t)) (args .f)) (args .radius) (args .depth) (args .p) (args .q)) (no-depth (endsHalving (args .stepping) (placementOf (args .t)) (args .f)) (args .radius) (args .depth) (args .p) (args .q) (if1 .taken)) _ (ring-point .ensures) _ (push .ensures)
 
 pieces-push-requires-2 : (t : ℕ) → pieces-lts.Need-push-requires-2 (pieces-claims t) (pieces-at t) pieces.Post
 pieces-push-requires-2 t c κs = c .before .before .before .before .before .before .pre .1
@@ -50,7 +51,7 @@ pieces-returns-2 t c =
     let at5 = at3 .before .before in let if2 = at5 .if2 in
     let at6 = at5 .before in let ends-halving = at6 .ends-halving in
     let at9 = at6 .before .before .before in let args = at9 .args in
-    only-end (ringPoint (args .f)) (args .out .now) (args .n) (args .q) (pieces-of (endsHalving (args .stepping) (args .t) (args .f)) (args .radius) (args .depth) (args .p) (args .q)) (stopped (endsHalving (args .stepping) (args .t) (args .f)) (args .radius) (args .depth) (args .p) (args .q) _ (ends-halving .ensures) (if2 .taken)) _ (ring-point2 .ensures) _ (push2 .ensures)
+    only-end (ringPoint (args .f)) (args .out .now) (args .n) (args .q) (pieces-of (endsHalving (args .stepping) (placementOf (args .t)) (args .f)) (args .radius) (args .depth) (args .p) (args .q)) (stopped (endsHalving (args .stepping) (placementOf (args .t)) (args .f)) (args .radius) (args .depth) (args .p) (args .q) _ (ends-halving .ensures) (if2 .taken)) _ (ring-point2 .ensures) _ (push2 .ensures)
 
 pieces-push-requires-3 : (t : ℕ) → pieces-lts.Need-push-requires-3 (pieces-claims t) (pieces-at t) pieces.Post
 pieces-push-requires-3 t c κs =
@@ -78,7 +79,7 @@ pieces-returns-3 t c =
     let at5 = at3 .before .before in let enum-told = at5 .enum-told in
     let at7 = at5 .before .before in let ring-middle = at7 .ring-middle in
     let at12 = at7 .before .before .before .before .before in let args = at12 .args in
-    only-end (ringPoint (args .f)) (args .out .now) (args .n) (args .q) (pieces-of (endsHalving (args .stepping) (args .t) (args .f)) (args .radius) (args .depth) (args .p) (args .q)) (no-middle (endsHalving (args .stepping) (args .t) (args .f)) (args .radius) (args .depth) (args .p) (args .q) _ (ring-middle .ensures) (enum-told .given .1)) _ (ring-point3 .ensures) _ (push3 .ensures)
+    only-end (ringPoint (args .f)) (args .out .now) (args .n) (args .q) (pieces-of (endsHalving (args .stepping) (placementOf (args .t)) (args .f)) (args .radius) (args .depth) (args .p) (args .q)) (no-middle (endsHalving (args .stepping) (placementOf (args .t)) (args .f)) (args .radius) (args .depth) (args .p) (args .q) _ (ring-middle .ensures) (enum-told .given .1)) _ (ring-point3 .ensures) _ (push3 .ensures)
 
 pieces-returns-4 : (t : ℕ) → pieces-lts.Need-returns-4 (pieces-claims t) (pieces-at t) pieces.Post
 pieces-returns-4 t c =
@@ -90,7 +91,7 @@ pieces-returns-4 t c =
     let at12 = at11 .before in let ends-halving = at12 .ends-halving in
     let at13 = at12 .before in let if1 = at13 .if1 in
     let at15 = at13 .before .before in let args = at15 .args in
-    half-refused (ringPoint (args .f)) (args .out .now) (args .n) (endsHalving (args .stepping) (args .t) (args .f)) (args .radius) (args .depth) (args .p) (args .q) _ (ends-halving .ensures) (if2 .left) (if1 .left) _ (ring-middle .ensures) _ (m .given .1) _ (pieces .ensures) (r .given .1)
+    half-refused (ringPoint (args .f)) (args .out .now) (args .n) (endsHalving (args .stepping) (placementOf (args .t)) (args .f)) (args .radius) (args .depth) (args .p) (args .q) _ (ends-halving .ensures) (if2 .left) (if1 .left) _ (ring-middle .ensures) _ (m .given .1) _ (pieces .ensures) (r .given .1)
 
 pieces-returns-5 : (t : ℕ) → pieces-lts.Need-returns-5 (pieces-claims t) (pieces-at t) pieces.Post
 pieces-returns-5 t c =
@@ -103,7 +104,7 @@ pieces-returns-5 t c =
     let at16 = at15 .before in let ends-halving = at16 .ends-halving in
     let at17 = at16 .before in let if1 = at17 .if1 in
     let at19 = at17 .before .before in let args = at19 .args in
-    half-done (ringPoint (args .f)) (args .out .now) (args .n) (endsHalving (args .stepping) (args .t) (args .f)) (args .radius) (args .depth) (args .p) (args .q) _ (ends-halving .ensures) (if2 .left) (if1 .left) _ (ring-middle .ensures) _ (m .given .1) _ (pieces .ensures) (r2 .given .1) (pieces .kept .1 .1 .1 .1 .1 .1 .1 .0) _ (pieces2 .ensures)
+    half-done (ringPoint (args .f)) (args .out .now) (args .n) (endsHalving (args .stepping) (placementOf (args .t)) (args .f)) (args .radius) (args .depth) (args .p) (args .q) _ (ends-halving .ensures) (if2 .left) (if1 .left) _ (ring-middle .ensures) _ (m .given .1) _ (pieces .ensures) (r2 .given .1) (pieces .kept .1 .1 .1 .1 .1 .1 .1 .0) _ (pieces2 .ensures)
 
 pub +pieces-spec : {M : Type 1} → statement M
 +pieces-spec = close μ-pieces λ t. pieces-lts.spec (pieces-claims t)

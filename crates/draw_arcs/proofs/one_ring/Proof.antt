@@ -1,3 +1,4 @@
+use Rattle.draw_arcs.specs.Stances.{placementOf}
 use Rattle.draw_arcs.specs.Rings.{ringIn}
 use Rattle.paths.proofs.Stages.{one-full, one-refused, one-done}
 use Rattle.draw_lines.specs.Pushing.{copied}
@@ -17,7 +18,7 @@ returns c =
     let at1 = c .before in let o = at1 .o in
     let at5 = at1 .before .before .before .before in let new-path = at5 .new-path in
     let at9 = at5 .before .before .before .before in let args = at9 .args in
-    one-full copied (ringIn (args .stepping) (args .t) (args .f) (args .radius)) (args .out .now) (args .begins .now) (args .n) (args .m) _ (new-path .ensures) (o .given .1)
+    one-full copied (ringIn (args .stepping) (placementOf (args .t)) (args .f) (args .radius)) (args .out .now) (args .begins .now) (args .n) (args .m) _ (new-path .ensures) (o .given .1)
 
 returns-2 : tie.Need-returns-2
 returns-2 c =
@@ -26,7 +27,7 @@ returns-2 c =
     let at8 = at5 .before .before .before in let o2 = at8 .o2 in
     let at12 = at8 .before .before .before .before in let new-path = at12 .new-path in
     let at16 = at12 .before .before .before .before in let args = at16 .args in
-    one-refused copied (ringIn (args .stepping) (args .t) (args .f) (args .radius)) (args .out .now) (args .begins .now) (args .n) (args .m) _ (new-path .ensures) (o2 .given .1) _ (ring-points .ensures) (r .given .1)
+    one-refused copied (ringIn (args .stepping) (placementOf (args .t)) (args .f) (args .radius)) (args .out .now) (args .begins .now) (args .n) (args .m) _ (new-path .ensures) (o2 .given .1) _ (ring-points .ensures) (r .given .1)
 
 returns-3 : tie.Need-returns-3
 returns-3 c =
@@ -35,7 +36,7 @@ returns-3 c =
     let at10 = at7 .before .before .before in let o2 = at10 .o2 in
     let at14 = at10 .before .before .before .before in let new-path = at14 .new-path in
     let at18 = at14 .before .before .before .before in let args = at18 .args in
-    one-done copied (ringIn (args .stepping) (args .t) (args .f) (args .radius)) (args .out .now) (args .begins .now) (args .n) (args .m) _ (new-path .ensures) (o2 .given .1) _ (ring-points .ensures) _ (r2 .given .1) (c .close .ensures .0) (c .close .ensures .1)
+    one-done copied (ringIn (args .stepping) (placementOf (args .t)) (args .f) (args .radius)) (args .out .now) (args .begins .now) (args .n) (args .m) _ (new-path .ensures) (o2 .given .1) _ (ring-points .ensures) _ (r2 .given .1) (c .close .ensures .0) (c .close .ensures .1)
 
 pub one-ring-spec : {M : Type 1} → statement M
 one-ring-spec =

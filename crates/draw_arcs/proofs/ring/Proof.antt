@@ -1,3 +1,4 @@
+use Rattle.draw_arcs.specs.Stances.{placementOf}
 use Rattle.draw_arcs.specs.Rings.{ringOf}
 use Rattle.draw_lines.proofs.Adding.{adds-refused, adds-one}
 use borrow.Author.Needs.{needs}
@@ -19,7 +20,7 @@ returns-2 c =
     let at4 = c .before .before .before .before in let one-ring = at4 .one-ring in
     let at10 = at4 .before .before .before .before .before .before in let c2 = at10 .c2 in
     let at14 = at10 .before .before .before .before in let args = at14 .args in
-    adds-one (ringOf (args .t) (args .f) (args .radius)) (args .out .now) (args .begins .now) _ _ (c2 .given .1) (one-ring .ensures)
+    adds-one (ringOf (placementOf (args .t)) (args .f) (args .radius)) (args .out .now) (args .begins .now) _ _ (c2 .given .1) (one-ring .ensures)
 
 pub ring-spec : {M : Type 1} → statement M
 ring-spec =

@@ -1,3 +1,4 @@
+use Rattle.draw_arcs.specs.Stances.{placementOf}
 use Rattle.draw_arcs.proofs.Pushing.{ring-run}
 use borrow.Author.Needs.{needs}
 use Rattle.draw_arcs.proofs.ring_points.Statement.{statement}
@@ -17,7 +18,7 @@ returns c =
     let at24 = at23 .before in let new = at24 .new in
     let at25 = at24 .before in let ring-depth = at25 .ring-depth in
     let at27 = at25 .before .before in let args = at27 .args in
-    ring-run (args .stepping) (args .t) (args .f) (args .radius) _ (ring-depth .ensures) _ _ _ _ (new .ensures) (new2 .ensures) (new3 .ensures) (new4 .ensures) (args .out .now) (args .n) _ (ring-point .ensures) _ (push .ensures) (push .kept .0) _ (quarter .ensures) (quarter .kept .1 .1 .1 .1 .1 .1 .1 .1 .0) _ (quarter2 .ensures) (quarter2 .kept .1 .1 .1 .1 .1 .1 .1 .1 .0) _ (quarter3 .ensures) (quarter3 .kept .1 .1 .1 .1 .1 .1 .1 .1 .0) _ (quarter4 .ensures)
+    ring-run (args .stepping) (placementOf (args .t)) (args .f) (args .radius) _ (ring-depth .ensures) _ _ _ _ (new .ensures) (new2 .ensures) (new3 .ensures) (new4 .ensures) (args .out .now) (args .n) _ (ring-point .ensures) _ (push .ensures) (push .kept .0) _ (quarter .ensures) (quarter .kept .1 .1 .1 .1 .1 .1 .1 .1 .0) _ (quarter2 .ensures) (quarter2 .kept .1 .1 .1 .1 .1 .1 .1 .1 .0) _ (quarter3 .ensures) (quarter3 .kept .1 .1 .1 .1 .1 .1 .1 .1 .0) _ (quarter4 .ensures)
 
 pub ring-points-spec : {M : Type 1} → statement M
 ring-points-spec =

@@ -1,3 +1,4 @@
+use Rattle.draw_arcs.specs.Stances.{placementOf}
 use Rattle.draw_collect.proofs.Nesting.{entry-nowhere, one-wide, one-many, less-wide, less-many, entry-none, entry-shallow, entry-simple, placed-refused, placed-moved, parts-lent, joint-lent, joint, parts-refused, parts-on}
 use lib.Seq.{length-take-le}
 use Prim.Native.Nat.{_+_, _*_}
@@ -54,40 +55,43 @@ entry-paths-returns : (t : ℕ) → entry-paths-lts.Need-returns (entry-paths-cl
 entry-paths-returns t c =
     let at11 = c .before .before .before .before .before .before .before .before .before .before .before in let args = at11 .args in
     let pre = at11 .pre in
-    entry-nowhere (args .t) (args .wide) (args .many) (args .n) (args .m) (args .work .now) (args .begins .now) (args .chopped .now) (args .chopped-starts .now) (args .numbers .now) (args .inverses .now) (args .marks .now) (args .points .now) (args .starts .now) (args .owners .now) (args .depth) (args .i) (pre .1) (c .if1 .taken)
+    entry-nowhere (placementOf (args .t)) (args .wide) (args .many) (args .n) (args .m) (args .work .now) (args .begins .now) (args .chopped .now) (args .chopped-starts .now) (args .numbers .now) (args .inverses .now) (args .marks .now) (args .points .now) (args .starts .now) (args .owners .now) (args .depth) (args .i) (pre .1 .0) (c .if1 .taken)
 
 entry-paths-slice-relend-prefix-shown-paths : (t : ℕ) → entry-paths-lts.Need-slice-relend-prefix-shown-paths (entry-paths-claims t) (entry-paths-at t) entry-paths.Post
 entry-paths-slice-relend-prefix-shown-paths t c =
     let at5 = c .before .before .before .before .before in let if1 = at5 .if1 in
     let at16 = at5 .before .before .before .before .before .before .before .before .before .before .before in let args = at16 .args in
     let pre = at16 .pre in
-    one-wide (args .t) (args .wide) (args .many) (args .n) (args .m) (args .work .now) (args .begins .now) (args .chopped .now) (args .chopped-starts .now) (args .numbers .now) (args .inverses .now) (args .marks .now) (args .points .now) (args .starts .now) (args .owners .now) (args .depth) (args .i) (pre .1) (if1 .left)
+    one-wide (placementOf (args .t)) (args .wide) (args .many) (args .n) (args .m) (args .work .now) (args .begins .now) (args .chopped .now) (args .chopped-starts .now) (args .numbers .now) (args .inverses .now) (args .marks .now) (args .points .now) (args .starts .now) (args .owners .now) (args .depth) (args .i) (pre .1 .0) (if1 .left)
 
 entry-paths-slice-aggregate-shown-paths : (t : ℕ) → entry-paths-lts.Need-slice-aggregate-shown-paths (entry-paths-claims t) (entry-paths-at t) entry-paths.Post
 entry-paths-slice-aggregate-shown-paths t c =
     let at6 = c .before .before .before .before .before .before in let if1 = at6 .if1 in
     let at17 = at6 .before .before .before .before .before .before .before .before .before .before .before in let args = at17 .args in
     let pre = at17 .pre in
-    sym (length-take-le _ (args .work .now) (one-wide (args .t) (args .wide) (args .many) (args .n) (args .m) (args .work .now) (args .begins .now) (args .chopped .now) (args .chopped-starts .now) (args .numbers .now) (args .inverses .now) (args .marks .now) (args .points .now) (args .starts .now) (args .owners .now) (args .depth) (args .i) (pre .1) (if1 .left)))
+    sym (length-take-le _ (args .work .now) (one-wide (placementOf (args .t)) (args .wide) (args .many) (args .n) (args .m) (args .work .now) (args .begins .now) (args .chopped .now) (args .chopped-starts .now) (args .numbers .now) (args .inverses .now) (args .marks .now) (args .points .now) (args .starts .now) (args .owners .now) (args .depth) (args .i) (pre .1 .0) (if1 .left)))
 
 entry-paths-slice-relend-prefix-shown-paths-2 : (t : ℕ) → entry-paths-lts.Need-slice-relend-prefix-shown-paths-2 (entry-paths-claims t) (entry-paths-at t) entry-paths.Post
 entry-paths-slice-relend-prefix-shown-paths-2 t c =
     let at6 = c .before .before .before .before .before .before in let if1 = at6 .if1 in
     let at17 = at6 .before .before .before .before .before .before .before .before .before .before .before in let args = at17 .args in
     let pre = at17 .pre in
-    one-many (args .t) (args .wide) (args .many) (args .n) (args .m) (args .work .now) (args .begins .now) (args .chopped .now) (args .chopped-starts .now) (args .numbers .now) (args .inverses .now) (args .marks .now) (args .points .now) (args .starts .now) (args .owners .now) (args .depth) (args .i) (pre .1) (if1 .left)
+    one-many (placementOf (args .t)) (args .wide) (args .many) (args .n) (args .m) (args .work .now) (args .begins .now) (args .chopped .now) (args .chopped-starts .now) (args .numbers .now) (args .inverses .now) (args .marks .now) (args .points .now) (args .starts .now) (args .owners .now) (args .depth) (args .i) (pre .1 .0) (if1 .left)
 
 entry-paths-slice-aggregate-shown-paths-2 : (t : ℕ) → entry-paths-lts.Need-slice-aggregate-shown-paths-2 (entry-paths-claims t) (entry-paths-at t) entry-paths.Post
 entry-paths-slice-aggregate-shown-paths-2 t c =
     let at7 = c .before .before .before .before .before .before .before in let if1 = at7 .if1 in
     let at18 = at7 .before .before .before .before .before .before .before .before .before .before .before in let args = at18 .args in
     let pre = at18 .pre in
-    sym (length-take-le _ (args .begins .now) (one-many (args .t) (args .wide) (args .many) (args .n) (args .m) (args .work .now) (args .begins .now) (args .chopped .now) (args .chopped-starts .now) (args .numbers .now) (args .inverses .now) (args .marks .now) (args .points .now) (args .starts .now) (args .owners .now) (args .depth) (args .i) (pre .1) (if1 .left)))
+    sym (length-take-le _ (args .begins .now) (one-many (placementOf (args .t)) (args .wide) (args .many) (args .n) (args .m) (args .work .now) (args .begins .now) (args .chopped .now) (args .chopped-starts .now) (args .numbers .now) (args .inverses .now) (args .marks .now) (args .points .now) (args .starts .now) (args .owners .now) (args .depth) (args .i) (pre .1 .0) (if1 .left)))
 
 entry-paths-shown-paths-requires : (t : ℕ) → entry-paths-lts.Need-shown-paths-requires (entry-paths-claims t) (entry-paths-at t) entry-paths.Post
 entry-paths-shown-paths-requires t c κs =
     let at18 = c .before .before .before .before .before .before .before .before .before .before .before .before .before .before .before .before .before .before in let pre = at18 .pre in
-    (pre .1 .points-fit, pre .1 .starts-fit)
+    (pre .1 .0 .points-fit, pre .1 .0 .starts-fit)
+
+entry-paths-placed-stance-requires : (t : ℕ) → entry-paths-lts.Need-placed-stance-requires (entry-paths-claims t) (entry-paths-at t) entry-paths.Post
+entry-paths-placed-stance-requires t c κs = (omega (arith, c .before .before .before .before .if1 .left, c .before .before .before .before .before .before .before .before .before .before .before .before .before .before .before .pre .1 .1 .enough), c .before .before .before .before .before .before .before .before .before .before .before .before .before .before .before .pre .1 .1 .most)
 
 entry-paths-sub-entry-paths : (t : ℕ) → entry-paths-lts.Need-sub-entry-paths (entry-paths-claims t) (entry-paths-at t) entry-paths.Post
 entry-paths-sub-entry-paths t c =
@@ -96,10 +100,16 @@ entry-paths-sub-entry-paths t c =
 
 entry-paths-entry-paths-requires : (t : ℕ) → entry-paths-lts.Need-entry-paths-requires (entry-paths-claims t) (entry-paths-at t) entry-paths.Post
 entry-paths-entry-paths-requires t c κs =
-    let at9 = c .before .before .before .before .before .before .before .before .before in let if1 = at9 .if1 in
+    let at4 = c .before .before .before .before in let placed-stance = at4 .placed-stance in
+    let at9 = at4 .before .before .before .before .before in let if1 = at9 .if1 in
     let at20 = at9 .before .before .before .before .before .before .before .before .before .before .before in let args = at20 .args in
-    let pre = at20 .pre in
-    (omega (arith, pre .0, if1 .left), record { long = less-wide (args .t) (args .wide) (args .many) (args .n) (args .m) (args .work .now) (args .begins .now) (args .chopped .now) (args .chopped-starts .now) (args .numbers .now) (args .inverses .now) (args .marks .now) (args .points .now) (args .starts .now) (args .owners .now) (args .depth) (args .i) (pre .1) (if1 .left); broad = less-many (args .t) (args .wide) (args .many) (args .n) (args .m) (args .work .now) (args .begins .now) (args .chopped .now) (args .chopped-starts .now) (args .numbers .now) (args .inverses .now) (args .marks .now) (args .points .now) (args .starts .now) (args .owners .now) (args .depth) (args .i) (pre .1) (if1 .left); points-fit = pre .1 .points-fit; starts-fit = pre .1 .starts-fit })
+    let pre = at20 .pre in (
+      omega (arith, pre .0, if1 .left),
+      (
+        record { long = less-wide (placementOf (args .t)) (args .wide) (args .many) (args .n) (args .m) (args .work .now) (args .begins .now) (args .chopped .now) (args .chopped-starts .now) (args .numbers .now) (args .inverses .now) (args .marks .now) (args .points .now) (args .starts .now) (args .owners .now) (args .depth) (args .i) (pre .1 .0) (if1 .left); broad = less-many (placementOf (args .t)) (args .wide) (args .many) (args .n) (args .m) (args .work .now) (args .begins .now) (args .chopped .now) (args .chopped-starts .now) (args .numbers .now) (args .inverses .now) (args .marks .now) (args .points .now) (args .starts .now) (args .owners .now) (args .depth) (args .i) (pre .1 .0) (if1 .left); points-fit = pre .1 .0 .points-fit; starts-fit = pre .1 .0 .starts-fit },
+        record { enough = omega (arith, pre .1 .1 .enough, placed-stance .ensures .1); most = omega (arith, pre .1 .1 .most, placed-stance .ensures .1) },
+      ),
+    )
 
 entry-paths-slice-relend-prefix-move-points : (t : ℕ) → entry-paths-lts.Need-slice-relend-prefix-move-points (entry-paths-claims t) (entry-paths-at t) entry-paths.Post
 entry-paths-slice-relend-prefix-move-points t c =
@@ -107,7 +117,7 @@ entry-paths-slice-relend-prefix-move-points t c =
     let at21 = at11 .before .before .before .before .before .before .before .before .before .before in let if1 = at21 .if1 in
     let at32 = at21 .before .before .before .before .before .before .before .before .before .before .before in let args = at32 .args in
     let pre = at32 .pre in
-    omega (arith, (entry-paths .kept .1 .1 .1 .1 .1 .1 .1 .1 .1 .1 .1 .0), one-wide (args .t) (args .wide) (args .many) (args .n) (args .m) (args .work .now) (args .begins .now) (args .chopped .now) (args .chopped-starts .now) (args .numbers .now) (args .inverses .now) (args .marks .now) (args .points .now) (args .starts .now) (args .owners .now) (args .depth) (args .i) (pre .1) (if1 .left))
+    omega (arith, (entry-paths .kept .1 .1 .1 .1 .1 .1 .1 .1 .1 .1 .1 .0), one-wide (placementOf (args .t)) (args .wide) (args .many) (args .n) (args .m) (args .work .now) (args .begins .now) (args .chopped .now) (args .chopped-starts .now) (args .numbers .now) (args .inverses .now) (args .marks .now) (args .points .now) (args .starts .now) (args .owners .now) (args .depth) (args .i) (pre .1 .0) (if1 .left))
 
 entry-paths-slice-aggregate-move-points : (t : ℕ) → entry-paths-lts.Need-slice-aggregate-move-points (entry-paths-claims t) (entry-paths-at t) entry-paths.Post
 entry-paths-slice-aggregate-move-points t c =
@@ -115,7 +125,7 @@ entry-paths-slice-aggregate-move-points t c =
     let at22 = at12 .before .before .before .before .before .before .before .before .before .before in let if1 = at22 .if1 in
     let at33 = at22 .before .before .before .before .before .before .before .before .before .before .before in let args = at33 .args in
     let pre = at33 .pre in
-    sym (length-take-le _ (entry-paths .last .1 .1 .1 .1 .1 .1 .1 .1 .1 .1 .1 .0) (omega (arith, (entry-paths .kept .1 .1 .1 .1 .1 .1 .1 .1 .1 .1 .1 .0), one-wide (args .t) (args .wide) (args .many) (args .n) (args .m) (args .work .now) (args .begins .now) (args .chopped .now) (args .chopped-starts .now) (args .numbers .now) (args .inverses .now) (args .marks .now) (args .points .now) (args .starts .now) (args .owners .now) (args .depth) (args .i) (pre .1) (if1 .left))))
+    sym (length-take-le _ (entry-paths .last .1 .1 .1 .1 .1 .1 .1 .1 .1 .1 .1 .0) (omega (arith, (entry-paths .kept .1 .1 .1 .1 .1 .1 .1 .1 .1 .1 .1 .0), one-wide (placementOf (args .t)) (args .wide) (args .many) (args .n) (args .m) (args .work .now) (args .begins .now) (args .chopped .now) (args .chopped-starts .now) (args .numbers .now) (args .inverses .now) (args .marks .now) (args .points .now) (args .starts .now) (args .owners .now) (args .depth) (args .i) (pre .1 .0) (if1 .left))))
 
 entry-paths-move-points-requires : (t : ℕ) → entry-paths-lts.Need-move-points-requires (entry-paths-claims t) (entry-paths-at t) entry-paths.Post
 entry-paths-move-points-requires t c κs =
@@ -130,7 +140,7 @@ entry-paths-returns-2 t c =
     let at5 = at4 .before in let if1 = at5 .if1 in
     let at16 = at5 .before .before .before .before .before .before .before .before .before .before .before in let args = at16 .args in
     let pre = at16 .pre in
-    entry-shallow (args .t) (args .wide) (args .many) (args .n) (args .m) (args .work .now) (args .begins .now) (args .chopped .now) (args .chopped-starts .now) (args .numbers .now) (args .inverses .now) (args .marks .now) (args .points .now) (args .starts .now) (args .owners .now) (args .depth) (args .i) (pre .1) (if1 .left) (entry-at .ensures) (e3 .given .1) (c .if2 .taken)
+    entry-shallow (placementOf (args .t)) (args .wide) (args .many) (args .n) (args .m) (args .work .now) (args .begins .now) (args .chopped .now) (args .chopped-starts .now) (args .numbers .now) (args .inverses .now) (args .marks .now) (args .points .now) (args .starts .now) (args .owners .now) (args .depth) (args .i) (pre .1 .0) (if1 .left) (entry-at .ensures) (e3 .given .1) (c .if2 .taken)
 
 entry-paths-sub-part-paths : (t : ℕ) → entry-paths-lts.Need-sub-part-paths (entry-paths-claims t) (entry-paths-at t) entry-paths.Post
 entry-paths-sub-part-paths t c =
@@ -143,21 +153,21 @@ entry-paths-mul-part-paths t c =
     let at16 = at5 .before .before .before .before .before .before .before .before .before .before .before in let args = at16 .args in
     let good = at16 .good in
     let pre = at16 .pre in
-    omega (arith, one-wide (args .t) (args .wide) (args .many) (args .n) (args .m) (args .work .now) (args .begins .now) (args .chopped .now) (args .chopped-starts .now) (args .numbers .now) (args .inverses .now) (args .marks .now) (args .points .now) (args .starts .now) (args .owners .now) (args .depth) (args .i) (pre .1) (if1 .left), good)
+    omega (arith, one-wide (placementOf (args .t)) (args .wide) (args .many) (args .n) (args .m) (args .work .now) (args .begins .now) (args .chopped .now) (args .chopped-starts .now) (args .numbers .now) (args .inverses .now) (args .marks .now) (args .points .now) (args .starts .now) (args .owners .now) (args .depth) (args .i) (pre .1 .0) (if1 .left), good)
 
 entry-paths-sub-part-paths-2 : (t : ℕ) → entry-paths-lts.Need-sub-part-paths-2 (entry-paths-claims t) (entry-paths-at t) entry-paths.Post
 entry-paths-sub-part-paths-2 t c =
     let at5 = c .before .before .before .before .before in let if1 = at5 .if1 in
     let at16 = at5 .before .before .before .before .before .before .before .before .before .before .before in let args = at16 .args in
     let pre = at16 .pre in
-    one-wide (args .t) (args .wide) (args .many) (args .n) (args .m) (args .work .now) (args .begins .now) (args .chopped .now) (args .chopped-starts .now) (args .numbers .now) (args .inverses .now) (args .marks .now) (args .points .now) (args .starts .now) (args .owners .now) (args .depth) (args .i) (pre .1) (if1 .left)
+    one-wide (placementOf (args .t)) (args .wide) (args .many) (args .n) (args .m) (args .work .now) (args .begins .now) (args .chopped .now) (args .chopped-starts .now) (args .numbers .now) (args .inverses .now) (args .marks .now) (args .points .now) (args .starts .now) (args .owners .now) (args .depth) (args .i) (pre .1 .0) (if1 .left)
 
 entry-paths-part-part-paths-start : (t : ℕ) → entry-paths-lts.Need-part-part-paths-start (entry-paths-claims t) (entry-paths-at t) entry-paths.Post
 entry-paths-part-part-paths-start t c =
     let at5 = c .before .before .before .before .before in let if1 = at5 .if1 in
     let at16 = at5 .before .before .before .before .before .before .before .before .before .before .before in let args = at16 .args in
     let pre = at16 .pre in
-    one-wide (args .t) (args .wide) (args .many) (args .n) (args .m) (args .work .now) (args .begins .now) (args .chopped .now) (args .chopped-starts .now) (args .numbers .now) (args .inverses .now) (args .marks .now) (args .points .now) (args .starts .now) (args .owners .now) (args .depth) (args .i) (pre .1) (if1 .left)
+    one-wide (placementOf (args .t)) (args .wide) (args .many) (args .n) (args .m) (args .work .now) (args .begins .now) (args .chopped .now) (args .chopped-starts .now) (args .numbers .now) (args .inverses .now) (args .marks .now) (args .points .now) (args .starts .now) (args .owners .now) (args .depth) (args .i) (pre .1 .0) (if1 .left)
 
 entry-paths-mul-part-paths-2 : (t : ℕ) → entry-paths-lts.Need-mul-part-paths-2 (entry-paths-claims t) (entry-paths-at t) entry-paths.Post
 entry-paths-mul-part-paths-2 t c =
@@ -165,21 +175,21 @@ entry-paths-mul-part-paths-2 t c =
     let at17 = at6 .before .before .before .before .before .before .before .before .before .before .before in let args = at17 .args in
     let good = at17 .good in
     let pre = at17 .pre in
-    omega (arith, one-many (args .t) (args .wide) (args .many) (args .n) (args .m) (args .work .now) (args .begins .now) (args .chopped .now) (args .chopped-starts .now) (args .numbers .now) (args .inverses .now) (args .marks .now) (args .points .now) (args .starts .now) (args .owners .now) (args .depth) (args .i) (pre .1) (if1 .left), good)
+    omega (arith, one-many (placementOf (args .t)) (args .wide) (args .many) (args .n) (args .m) (args .work .now) (args .begins .now) (args .chopped .now) (args .chopped-starts .now) (args .numbers .now) (args .inverses .now) (args .marks .now) (args .points .now) (args .starts .now) (args .owners .now) (args .depth) (args .i) (pre .1 .0) (if1 .left), good)
 
 entry-paths-sub-part-paths-3 : (t : ℕ) → entry-paths-lts.Need-sub-part-paths-3 (entry-paths-claims t) (entry-paths-at t) entry-paths.Post
 entry-paths-sub-part-paths-3 t c =
     let at6 = c .before .before .before .before .before .before in let if1 = at6 .if1 in
     let at17 = at6 .before .before .before .before .before .before .before .before .before .before .before in let args = at17 .args in
     let pre = at17 .pre in
-    one-many (args .t) (args .wide) (args .many) (args .n) (args .m) (args .work .now) (args .begins .now) (args .chopped .now) (args .chopped-starts .now) (args .numbers .now) (args .inverses .now) (args .marks .now) (args .points .now) (args .starts .now) (args .owners .now) (args .depth) (args .i) (pre .1) (if1 .left)
+    one-many (placementOf (args .t)) (args .wide) (args .many) (args .n) (args .m) (args .work .now) (args .begins .now) (args .chopped .now) (args .chopped-starts .now) (args .numbers .now) (args .inverses .now) (args .marks .now) (args .points .now) (args .starts .now) (args .owners .now) (args .depth) (args .i) (pre .1 .0) (if1 .left)
 
 entry-paths-part-part-paths-start-2 : (t : ℕ) → entry-paths-lts.Need-part-part-paths-start-2 (entry-paths-claims t) (entry-paths-at t) entry-paths.Post
 entry-paths-part-part-paths-start-2 t c =
     let at6 = c .before .before .before .before .before .before in let if1 = at6 .if1 in
     let at17 = at6 .before .before .before .before .before .before .before .before .before .before .before in let args = at17 .args in
     let pre = at17 .pre in
-    one-many (args .t) (args .wide) (args .many) (args .n) (args .m) (args .work .now) (args .begins .now) (args .chopped .now) (args .chopped-starts .now) (args .numbers .now) (args .inverses .now) (args .marks .now) (args .points .now) (args .starts .now) (args .owners .now) (args .depth) (args .i) (pre .1) (if1 .left)
+    one-many (placementOf (args .t)) (args .wide) (args .many) (args .n) (args .m) (args .work .now) (args .begins .now) (args .chopped .now) (args .chopped-starts .now) (args .numbers .now) (args .inverses .now) (args .marks .now) (args .points .now) (args .starts .now) (args .owners .now) (args .depth) (args .i) (pre .1 .0) (if1 .left)
 
 entry-paths-part-paths-requires : (t : ℕ) → entry-paths-lts.Need-part-paths-requires (entry-paths-claims t) (entry-paths-at t) entry-paths.Post
 entry-paths-part-paths-requires t c κs =
@@ -188,8 +198,13 @@ entry-paths-part-paths-requires t c κs =
     let at8 = at6 .before .before in let entry-at = at8 .entry-at in
     let at9 = at8 .before in let if1 = at9 .if1 in
     let at20 = at9 .before .before .before .before .before .before .before .before .before .before .before in let args = at20 .args in
-    let pre = at20 .pre in
-    (omega (arith, pre .0, if1 .left, if2 .left), parts-lent (args .t) (args .wide) (args .many) (args .n) (args .m) (args .work .now) (args .begins .now) (args .chopped .now) (args .chopped-starts .now) (args .numbers .now) (args .inverses .now) (args .marks .now) (args .points .now) (args .starts .now) (args .owners .now) (args .depth) (args .i) (pre .1) (if1 .left) (entry-at .ensures) (e3 .given .1) (if2 .left))
+    let pre = at20 .pre in (
+      omega (arith, pre .0, if1 .left, if2 .left),
+      (
+        parts-lent (placementOf (args .t)) (args .wide) (args .many) (args .n) (args .m) (args .work .now) (args .begins .now) (args .chopped .now) (args .chopped-starts .now) (args .numbers .now) (args .inverses .now) (args .marks .now) (args .points .now) (args .starts .now) (args .owners .now) (args .depth) (args .i) (pre .1 .0) (if1 .left) (entry-at .ensures) (e3 .given .1) (if2 .left),
+        record { enough = omega (arith, pre .1 .1 .enough); most = pre .1 .1 .most },
+      ),
+    )
 
 entry-paths-join-requires : (t : ℕ) → entry-paths-lts.Need-join-requires (entry-paths-claims t) (entry-paths-at t) entry-paths.Post
 entry-paths-join-requires t c κs =
@@ -200,7 +215,7 @@ entry-paths-join-requires t c κs =
     let at22 = at21 .before in let if1 = at22 .if1 in
     let at33 = at22 .before .before .before .before .before .before .before .before .before .before .before in let args = at33 .args in
     let pre = at33 .pre in
-    joint-lent (args .t) (args .wide) (args .many) (args .n) (args .m) (args .work .now) (args .begins .now) (args .chopped .now) (args .chopped-starts .now) (args .numbers .now) (args .inverses .now) (args .marks .now) (args .points .now) (args .starts .now) (args .owners .now) (args .depth) (args .i) (pre .1) (if1 .left) (entry-at .ensures) (e3 .given .1) (if2 .left) (part-paths .last .1 .1 .1 .1 .1 .1 .1 .1 .1 .1 .1 .1 .0) (part-paths .last .1 .1 .1 .1 .1 .1 .1 .1 .1 .1 .1 .1 .1 .0) (part-paths .kept .1 .1 .1 .1 .1 .1 .1 .1 .1 .1 .1 .1 .0) (part-paths .kept .1 .1 .1 .1 .1 .1 .1 .1 .1 .1 .1 .1 .1 .0) (part-paths .ensures)
+    joint-lent (placementOf (args .t)) (args .wide) (args .many) (args .n) (args .m) (args .work .now) (args .begins .now) (args .chopped .now) (args .chopped-starts .now) (args .numbers .now) (args .inverses .now) (args .marks .now) (args .points .now) (args .starts .now) (args .owners .now) (args .depth) (args .i) (pre .1 .0) (if1 .left) (entry-at .ensures) (e3 .given .1) (if2 .left) (part-paths .last .1 .1 .1 .1 .1 .1 .1 .1 .1 .1 .1 .1 .0) (part-paths .last .1 .1 .1 .1 .1 .1 .1 .1 .1 .1 .1 .1 .1 .0) (part-paths .kept .1 .1 .1 .1 .1 .1 .1 .1 .1 .1 .1 .1 .0) (part-paths .kept .1 .1 .1 .1 .1 .1 .1 .1 .1 .1 .1 .1 .1 .0) (part-paths .ensures)
 
 entry-paths-returns-3 : (t : ℕ) → entry-paths-lts.Need-returns-3 (entry-paths-claims t) (entry-paths-at t) entry-paths.Post
 entry-paths-returns-3 t c =
@@ -208,7 +223,7 @@ entry-paths-returns-3 t c =
     let at3 = at2 .before in let if1 = at3 .if1 in
     let at14 = at3 .before .before .before .before .before .before .before .before .before .before .before in let args = at14 .args in
     let pre = at14 .pre in
-    entry-none (args .t) (args .wide) (args .many) (args .n) (args .m) (args .work .now) (args .begins .now) (args .chopped .now) (args .chopped-starts .now) (args .numbers .now) (args .inverses .now) (args .marks .now) (args .points .now) (args .starts .now) (args .owners .now) (args .depth) (args .i) (pre .1) (if1 .left) (entry-at .ensures) (c .enum-told .given .1)
+    entry-none (placementOf (args .t)) (args .wide) (args .many) (args .n) (args .m) (args .work .now) (args .begins .now) (args .chopped .now) (args .chopped-starts .now) (args .numbers .now) (args .inverses .now) (args .marks .now) (args .points .now) (args .starts .now) (args .owners .now) (args .depth) (args .i) (pre .1 .0) (if1 .left) (entry-at .ensures) (c .enum-told .given .1)
 
 entry-paths-returns-4 : (t : ℕ) → entry-paths-lts.Need-returns-4 (entry-paths-claims t) (entry-paths-at t) entry-paths.Post
 entry-paths-returns-4 t c =
@@ -219,7 +234,7 @@ entry-paths-returns-4 t c =
     let at12 = at11 .before in let if1 = at12 .if1 in
     let at23 = at12 .before .before .before .before .before .before .before .before .before .before .before in let args = at23 .args in
     let pre = at23 .pre in
-    entry-simple (args .t) (args .wide) (args .many) (args .n) (args .m) (args .work .now) (args .begins .now) (args .chopped .now) (args .chopped-starts .now) (args .numbers .now) (args .inverses .now) (args .marks .now) (args .points .now) (args .starts .now) (args .owners .now) (args .depth) (args .i) (pre .1) (if1 .left) (entry-at .ensures) (e .given .1) (detail-of .ensures) _ _ (shown-paths .ensures) (shown-paths .kept .1 .1 .1 .1 .1 .1 .1 .0) (shown-paths .kept .1 .1 .1 .1 .1 .1 .1 .1 .0)
+    entry-simple (placementOf (args .t)) (args .wide) (args .many) (args .n) (args .m) (args .work .now) (args .begins .now) (args .chopped .now) (args .chopped-starts .now) (args .numbers .now) (args .inverses .now) (args .marks .now) (args .points .now) (args .starts .now) (args .owners .now) (args .depth) (args .i) (pre .1 .0) (if1 .left) (entry-at .ensures) (e .given .1) (detail-of .ensures) _ _ (shown-paths .ensures) (shown-paths .kept .1 .1 .1 .1 .1 .1 .1 .0) (shown-paths .kept .1 .1 .1 .1 .1 .1 .1 .1 .0)
 
 entry-paths-returns-5 : (t : ℕ) → entry-paths-lts.Need-returns-5 (entry-paths-claims t) (entry-paths-at t) entry-paths.Post
 entry-paths-returns-5 t c =
@@ -231,7 +246,7 @@ entry-paths-returns-5 t c =
     let at21 = at20 .before in let if1 = at21 .if1 in
     let at32 = at21 .before .before .before .before .before .before .before .before .before .before .before in let args = at32 .args in
     let pre = at32 .pre in
-    placed-refused (args .t) (args .wide) (args .many) (args .n) (args .m) (args .work .now) (args .begins .now) (args .chopped .now) (args .chopped-starts .now) (args .numbers .now) (args .inverses .now) (args .marks .now) (args .points .now) (args .starts .now) (args .owners .now) (args .depth) (args .i) (pre .1) (if1 .left) (entry-at .ensures) (e2 .given .1) (placed-stance .ensures) _ _ (entry-paths .ensures) (r .given .1) _ _
+    placed-refused (placementOf (args .t)) (args .wide) (args .many) (args .n) (args .m) (args .work .now) (args .begins .now) (args .chopped .now) (args .chopped-starts .now) (args .numbers .now) (args .inverses .now) (args .marks .now) (args .points .now) (args .starts .now) (args .owners .now) (args .depth) (args .i) (pre .1 .0) (if1 .left) (entry-at .ensures) (e2 .given .1) (placed-stance .ensures .0) _ _ (entry-paths .ensures) (r .given .1) _ _
 
 entry-paths-returns-6 : (t : ℕ) → entry-paths-lts.Need-returns-6 (entry-paths-claims t) (entry-paths-at t) entry-paths.Post
 entry-paths-returns-6 t c =
@@ -244,14 +259,14 @@ entry-paths-returns-6 t c =
     let at25 = at24 .before in let if1 = at25 .if1 in
     let at36 = at25 .before .before .before .before .before .before .before .before .before .before .before in let args = at36 .args in
     let pre = at36 .pre in
-    placed-moved (args .t) (args .wide) (args .many) (args .n) (args .m) (args .work .now) (args .begins .now) (args .chopped .now) (args .chopped-starts .now) (args .numbers .now) (args .inverses .now) (args .marks .now) (args .points .now)
-    (args .starts .now) (args .owners .now) (args .depth) (args .i) (pre .1) (if1 .left) (entry-at .ensures) (e2 .given .1) (placed-stance .ensures) (entry-paths .last .1 .1 .1 .1 .1 .1 .1 .1 .1 .1 .1 .0)
+    placed-moved (placementOf (args .t)) (args .wide) (args .many) (args .n) (args .m) (args .work .now) (args .begins .now) (args .chopped .now) (args .chopped-starts .now) (args .numbers .now) (args .inverses .now) (args .marks .now) (args .points .now)
+    (args .starts .now) (args .owners .now) (args .depth) (args .i) (pre .1 .0) (if1 .left) (entry-at .ensures) (e2 .given .1) (placed-stance .ensures .0) (entry-paths .last .1 .1 .1 .1 .1 .1 .1 .1 .1 .1 .1 .0)
     (entry-paths .last .1 .1 .1 .1 .1 .1 .1 .1 .1 .1 .1 .1 .0) (entry-paths .ensures) (r2 .given .1) _ (move-points .ensures) (move-points .kept .1 .0)
     (omega (
       arith,
       (entry-paths .kept .1 .1 .1 .1 .1 .1 .1 .1 .1 .1 .1 .0),
-      one-wide (args .t) (args .wide) (args .many) (args .n) (args .m) (args .work .now) (args .begins .now) (args .chopped .now) (args .chopped-starts .now)
-          (args .numbers .now) (args .inverses .now) (args .marks .now) (args .points .now) (args .starts .now) (args .owners .now) (args .depth) (args .i) (pre .1) (if1 .left),
+      one-wide (placementOf (args .t)) (args .wide) (args .many) (args .n) (args .m) (args .work .now) (args .begins .now) (args .chopped .now) (args .chopped-starts .now)
+          (args .numbers .now) (args .inverses .now) (args .marks .now) (args .points .now) (args .starts .now) (args .owners .now) (args .depth) (args .i) (pre .1 .0) (if1 .left),
     ))
 
 entry-paths-returns-7 : (t : ℕ) → entry-paths-lts.Need-returns-7 (entry-paths-claims t) (entry-paths-at t) entry-paths.Post
@@ -264,8 +279,8 @@ entry-paths-returns-7 t c =
     let at31 = at30 .before in let if1 = at31 .if1 in
     let at42 = at31 .before .before .before .before .before .before .before .before .before .before .before in let args = at42 .args in
     let pre = at42 .pre in
-    joint (args .t) (args .wide) (args .many) (args .n) (args .m) (args .work .now) (args .begins .now) (args .chopped .now) (args .chopped-starts .now) (args .numbers .now) (args .inverses .now) (args .marks .now) (args .points .now)
-    (args .starts .now) (args .owners .now) (args .depth) (args .i) (pre .1) (if1 .left) (entry-at .ensures) (e3 .given .1) (if2 .left) (part-paths .last .1 .1 .1 .1 .1 .1 .1 .1 .1 .1 .1 .1 .0)
+    joint (placementOf (args .t)) (args .wide) (args .many) (args .n) (args .m) (args .work .now) (args .begins .now) (args .chopped .now) (args .chopped-starts .now) (args .numbers .now) (args .inverses .now) (args .marks .now) (args .points .now)
+    (args .starts .now) (args .owners .now) (args .depth) (args .i) (pre .1 .0) (if1 .left) (entry-at .ensures) (e3 .given .1) (if2 .left) (part-paths .last .1 .1 .1 .1 .1 .1 .1 .1 .1 .1 .1 .1 .0)
     (part-paths .last .1 .1 .1 .1 .1 .1 .1 .1 .1 .1 .1 .1 .1 .0) (part-paths .kept .1 .1 .1 .1 .1 .1 .1 .1 .1 .1 .1 .1 .0) (part-paths .kept .1 .1 .1 .1 .1 .1 .1 .1 .1 .1 .1 .1 .1 .0) (part-paths .ensures)
     (part-paths .last .1 .1 .1 .1 .1 .1 .1 .1 .1 .1 .1 .1 .1 .1 .0) (part-paths .last .1 .1 .1 .1 .1 .1 .1 .1 .1 .1 .1 .1 .1 .1 .1 .0) (part-paths .kept .1 .1 .1 .1 .1 .1 .1 .1 .1 .1 .1 .1 .1 .1 .0)
     (part-paths .kept .1 .1 .1 .1 .1 .1 .1 .1 .1 .1 .1 .1 .1 .1 .1 .0) _ _ (join .ensures)
@@ -279,15 +294,20 @@ part-paths-entry-paths-requires-2 : (t : ℕ) → part-paths-lts.Need-entry-path
 part-paths-entry-paths-requires-2 t c κs =
     let at5 = c .before .before .before .before .before in let r2 = at5 .r2 in
     let at15 = at5 .before .before .before .before .before .before .before .before .before .before in let entry-paths = at15 .entry-paths in
-    let at30 = at15 .before .before .before .before .before .before .before .before .before .before .before .before .before .before .before in let pre = at30 .pre in
-    (omega (arith, pre .0), record { long = omega (arith, pre .1 .long, (entry-paths .kept .1 .1 .1 .1 .1 .1 .1 .1 .1 .1 .1 .0)); broad = omega (arith, pre .1 .broad, (entry-paths .kept .1 .1 .1 .1 .1 .1 .1 .1 .1 .1 .1 .1 .0)); points-fit = entry-paths .ensures .fits _ _ (r2 .given .1) .0; starts-fit = entry-paths .ensures .fits _ _ (r2 .given .1) .1 })
+    let at30 = at15 .before .before .before .before .before .before .before .before .before .before .before .before .before .before .before in let pre = at30 .pre in (
+      omega (arith, pre .0),
+      (
+        record { long = omega (arith, pre .1 .0 .long, (entry-paths .kept .1 .1 .1 .1 .1 .1 .1 .1 .1 .1 .1 .0)); broad = omega (arith, pre .1 .0 .broad, (entry-paths .kept .1 .1 .1 .1 .1 .1 .1 .1 .1 .1 .1 .1 .0)); points-fit = entry-paths .ensures .fits _ _ (r2 .given .1) .0; starts-fit = entry-paths .ensures .fits _ _ (r2 .given .1) .1 },
+        pre .1 .1,
+      ),
+    )
 
 part-paths-returns : (t : ℕ) → part-paths-lts.Need-returns (entry-paths-below t, entry-paths.Post) (part-paths-at t) part-paths.Post
 part-paths-returns t c =
     let at1 = c .before in let r = at1 .r in
     let at11 = at1 .before .before .before .before .before .before .before .before .before .before in let entry-paths = at11 .entry-paths in
     let at26 = at11 .before .before .before .before .before .before .before .before .before .before .before .before .before .before .before in let args = at26 .args in
-    parts-refused (args .t) (args .wide) (args .many) (args .work .now) (args .begins .now) (args .chopped .now) (args .chopped-starts .now) _ _ _ _ (entry-paths .ensures) (r .given .1) _ _
+    parts-refused (placementOf (args .t)) (args .wide) (args .many) (args .work .now) (args .begins .now) (args .chopped .now) (args .chopped-starts .now) _ _ _ _ (entry-paths .ensures) (r .given .1) _ _
 
 part-paths-returns-2 : (t : ℕ) → part-paths-lts.Need-returns-2 (part-paths-claims t) (part-paths-at t) part-paths.Post
 part-paths-returns-2 t c =
@@ -295,7 +315,7 @@ part-paths-returns-2 t c =
     let at14 = at8 .before .before .before .before .before .before in let r2 = at14 .r2 in
     let at24 = at14 .before .before .before .before .before .before .before .before .before .before in let entry-paths = at24 .entry-paths in
     let at39 = at24 .before .before .before .before .before .before .before .before .before .before .before .before .before .before .before in let args = at39 .args in
-    parts-on (args .t) (args .wide) (args .many) (args .work .now) (args .begins .now) (args .chopped .now) (args .chopped-starts .now) _ _ _ _ (entry-paths .ensures) (r2 .given .1) (entry-paths .last .1 .1 .1 .1 .1 .1 .1 .1 .1 .1 .1 .1 .1 .1 .1 .0) (entry-paths .last .1 .1 .1 .1 .1 .1 .1 .1 .1 .1 .1 .1 .1 .1 .1 .1 .0) (entry-paths .kept .1 .1 .1 .1 .1 .1 .1 .1 .1 .1 .1 .1 .1 .1 .1 .0) (entry-paths .kept .1 .1 .1 .1 .1 .1 .1 .1 .1 .1 .1 .1 .1 .1 .1 .1 .0) _ _ (entry-paths2 .ensures)
+    parts-on (placementOf (args .t)) (args .wide) (args .many) (args .work .now) (args .begins .now) (args .chopped .now) (args .chopped-starts .now) _ _ _ _ (entry-paths .ensures) (r2 .given .1) (entry-paths .last .1 .1 .1 .1 .1 .1 .1 .1 .1 .1 .1 .1 .1 .1 .1 .0) (entry-paths .last .1 .1 .1 .1 .1 .1 .1 .1 .1 .1 .1 .1 .1 .1 .1 .1 .0) (entry-paths .kept .1 .1 .1 .1 .1 .1 .1 .1 .1 .1 .1 .1 .1 .1 .1 .0) (entry-paths .kept .1 .1 .1 .1 .1 .1 .1 .1 .1 .1 .1 .1 .1 .1 .1 .1 .0) _ _ (entry-paths2 .ensures)
 
 pub +entry-paths+part-paths-spec : {M : Type 1} → statement M
 +entry-paths+part-paths-spec = close μ-entry-paths μ-part-paths (λ t. entry-paths-lts.spec (entry-paths-claims t)
@@ -312,7 +332,7 @@ pub +entry-paths+part-paths-spec : {M : Type 1} → statement M
     (entry-paths-slice-aggregate-shown-paths-2 t)
     (entry-paths-shown-paths-requires t)
     (λ c. search needs)
-    (λ c κs. tt)
+    (entry-paths-placed-stance-requires t)
     (entry-paths-sub-entry-paths t)
     (entry-paths-entry-paths-requires t)
     (λ c. search needs)

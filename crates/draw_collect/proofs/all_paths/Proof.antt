@@ -37,8 +37,9 @@ shared-slice-read-index c =
 
 entry-paths-requires : tie.Need-entry-paths-requires Inv-loop μ-loop
 entry-paths-requires c κs =
-    let at8 = c .before .before .before .before .before .before .before .before in let loop = at8 .loop in
-    loop .inv .lent
+    let at4 = c .before .before .before .before in let stance-of = at4 .stance-of in
+    let at8 = at4 .before .before .before .before in let loop = at8 .loop in
+    (loop .inv .lent, record { enough = omega (arith, stance-of .ensures .1); most = omega (arith, stance-of .ensures .1) })
 
 same-length : tie.Need-same-length Inv-loop μ-loop
 same-length c =
@@ -74,7 +75,7 @@ returns c =
     let at20 = at19 .before in let loop = at20 .loop in
     let at32 = at20 .before .before .before .before .before .before .before .before .before .before .before .before in let args = at32 .args in
     let pre = at32 .pre in
-    collecting-refused (args .args) (args .wide) (args .many) _ (take (args .count) (args .listed .now)) (args .work .now) (args .begins .now) (args .chopped .now) (args .chopped-starts .now) (loop .work) (loop .begins) (loop .chopped) (loop .chopped-starts) (loop .p) (loop .q) (loop .i) (loop .inv) _ (omega (arith, loop-test .taken, pre .0, length-take-le (args .count) (args .listed .now) (pre .0))) (index .ensures .0 ∙ sym (getD-take (args .count) (args .listed .now) (loop .i) 0 (loop-test .taken))) (entry-paths .last .1 .1 .1 .1 .1 .1 .1 .1 .1 .1 .1 .0) (entry-paths .last .1 .1 .1 .1 .1 .1 .1 .1 .1 .1 .1 .1 .0) (stance-of .ensures) (entry-paths .ensures) (r .given .1)
+    collecting-refused (args .args) (args .wide) (args .many) _ (take (args .count) (args .listed .now)) (args .work .now) (args .begins .now) (args .chopped .now) (args .chopped-starts .now) (loop .work) (loop .begins) (loop .chopped) (loop .chopped-starts) (loop .p) (loop .q) (loop .i) (loop .inv) _ (omega (arith, loop-test .taken, pre .0, length-take-le (args .count) (args .listed .now) (pre .0))) (index .ensures .0 ∙ sym (getD-take (args .count) (args .listed .now) (loop .i) 0 (loop-test .taken))) (entry-paths .last .1 .1 .1 .1 .1 .1 .1 .1 .1 .1 .1 .0) (entry-paths .last .1 .1 .1 .1 .1 .1 .1 .1 .1 .1 .1 .1 .0) (stance-of .ensures .0) (entry-paths .ensures) (r .given .1)
 
 add-i : tie.Need-add-i Inv-loop μ-loop
 add-i c =
@@ -99,7 +100,7 @@ loop-again c =
     let pre = at32 .pre in
     collecting-turn (args .args) (args .wide) (args .many) _ (take (args .count) (args .listed .now)) (args .work .now) (args .begins .now) (args .chopped .now) (args .chopped-starts .now) (loop .work) (loop .begins) (loop .chopped)
     (loop .chopped-starts) (loop .p) (loop .q) (loop .i) (loop .inv) _ (omega (arith, loop-test .taken, pre .0, length-take-le (args .count) (args .listed .now) (pre .0)))
-    (index .ensures .0 ∙ sym (getD-take (args .count) (args .listed .now) (loop .i) 0 (loop-test .taken))) (entry-paths .last .1 .1 .1 .1 .1 .1 .1 .1 .1 .1 .1 .0) (entry-paths .last .1 .1 .1 .1 .1 .1 .1 .1 .1 .1 .1 .1 .0) (stance-of .ensures) (entry-paths .ensures)
+    (index .ensures .0 ∙ sym (getD-take (args .count) (args .listed .now) (loop .i) 0 (loop-test .taken))) (entry-paths .last .1 .1 .1 .1 .1 .1 .1 .1 .1 .1 .1 .0) (entry-paths .last .1 .1 .1 .1 .1 .1 .1 .1 .1 .1 .1 .1 .0) (stance-of .ensures .0) (entry-paths .ensures)
     (r2 .given .1) _ _ (entry-paths .kept .1 .1 .1 .1 .1 .1 .1 .1 .1 .1 .1 .0) (entry-paths .kept .1 .1 .1 .1 .1 .1 .1 .1 .1 .1 .1 .1 .0) (entry-paths .kept .1 .1 .1 .1 .1 .1 .1 .1 .1 .1 .1 .1 .1 .1 .1 .0)
     (entry-paths .kept .1 .1 .1 .1 .1 .1 .1 .1 .1 .1 .1 .1 .1 .1 .1 .1 .0)
 

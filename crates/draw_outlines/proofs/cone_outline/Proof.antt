@@ -1,3 +1,4 @@
+use Rattle.draw_arcs.specs.Stances.{placementOf}
 use Rattle.draw_lines.proofs.Adding.{adds-then, adds-as}
 use Rattle.draw_outlines.specs.Outlines.{coneOutline}
 use borrow.Author.Needs.{needs}
@@ -12,7 +13,7 @@ returns c =
     let at9 = at2 .before .before .before .before .before .before .before in let ring = at9 .ring in
     let at12 = at9 .before .before .before in let level-at = at12 .level-at in
     let at15 = at12 .before .before .before in let args = at15 .args in
-    adds-as _ (coneOutline (args .t) (args .r) (args .h)) (ring .ensures) (simp (level-at .ensures, ← eye-square .ensures, ← cone-side .ensures, c .if1 .taken))
+    adds-as _ (coneOutline (placementOf (args .t)) (args .r) (args .h)) (ring .ensures) (simp (level-at .ensures, ← eye-square .ensures, ← cone-side .ensures, c .if1 .taken))
 
 returns-2 : tie.Need-returns-2
 unfolding coneOutline
@@ -24,7 +25,7 @@ returns-2 c =
     let at16 = at9 .before .before .before .before .before .before .before in let ring = at16 .ring in
     let at19 = at16 .before .before .before in let level-at = at19 .level-at in
     let at22 = at19 .before .before .before in let args = at22 .args in
-    adds-as _ (coneOutline (args .t) (args .r) (args .h)) (adds-then _ _ _ _ _ _ _ _ _ (ring .ensures) (ring .kept .1 .1 .1 .1 .0) (ring .kept .1 .1 .1 .1 .1 .0) (slopes .ensures)) (simp (level-at .ensures, ← eye-square .ensures, ← cone-side .ensures, if1 .left))
+    adds-as _ (coneOutline (placementOf (args .t)) (args .r) (args .h)) (adds-then _ _ _ _ _ _ _ _ _ (ring .ensures) (ring .kept .1 .1 .1 .1 .0) (ring .kept .1 .1 .1 .1 .1 .0) (slopes .ensures)) (simp (level-at .ensures, ← eye-square .ensures, ← cone-side .ensures, if1 .left))
 
 pub cone-outline-spec : {M : Type 1} → statement M
 cone-outline-spec =

@@ -1,3 +1,4 @@
+use Rattle.draw_arcs.specs.Stances.{placementOf}
 use Rattle.draw_lines.proofs.Adding.{adds-then, adds-as}
 use mathlib.Core.Path.{_∙_}
 use Rattle.draw_outlines.specs.Outlines.{cylinderOutline}
@@ -14,7 +15,7 @@ returns c =
     let at16 = at11 .before .before .before .before .before in let ring = at16 .ring in
     let at19 = at16 .before .before .before in let level-at = at19 .level-at in
     let at22 = at19 .before .before .before in let args = at22 .args in
-    adds-as _ (cylinderOutline (args .t) (args .r) (args .z0) (args .z1)) (adds-then _ _ _ _ _ _ _ _ _ (ring .ensures) (ring .kept .1 .1 .1 .1 .0) (ring .kept .1 .1 .1 .1 .1 .0) (ring2 .ensures)) (simp (level-at .ensures, level-at2 .ensures, ← eye-square .ensures, c .if1 .taken))
+    adds-as _ (cylinderOutline (placementOf (args .t)) (args .r) (args .z0) (args .z1)) (adds-then _ _ _ _ _ _ _ _ _ (ring .ensures) (ring .kept .1 .1 .1 .1 .0) (ring .kept .1 .1 .1 .1 .1 .0) (ring2 .ensures)) (simp (level-at .ensures, level-at2 .ensures, ← eye-square .ensures, c .if1 .taken))
 
 returns-2 : tie.Need-returns-2
 unfolding cylinderOutline
@@ -27,7 +28,7 @@ returns-2 c =
     let at23 = at18 .before .before .before .before .before in let ring = at23 .ring in
     let at26 = at23 .before .before .before in let level-at = at26 .level-at in
     let at29 = at26 .before .before .before in let args = at29 .args in
-    adds-as _ (cylinderOutline (args .t) (args .r) (args .z0) (args .z1)) (adds-then _ _ _ _ _ _ _ _ _ (adds-then _ _ _ _ _ _ _ _ _ (ring .ensures) (ring .kept .1 .1 .1 .1 .0) (ring .kept .1 .1 .1 .1 .1 .0) (ring2 .ensures)) (ring2 .kept .1 .1 .1 .1 .0 ∙ ring .kept .1 .1 .1 .1 .0) (ring2 .kept .1 .1 .1 .1 .1 .0 ∙ ring .kept .1 .1 .1 .1 .1 .0) (uprights .ensures)) (simp (level-at .ensures, level-at2 .ensures, ← eye-square .ensures, if1 .left))
+    adds-as _ (cylinderOutline (placementOf (args .t)) (args .r) (args .z0) (args .z1)) (adds-then _ _ _ _ _ _ _ _ _ (adds-then _ _ _ _ _ _ _ _ _ (ring .ensures) (ring .kept .1 .1 .1 .1 .0) (ring .kept .1 .1 .1 .1 .1 .0) (ring2 .ensures)) (ring2 .kept .1 .1 .1 .1 .0 ∙ ring .kept .1 .1 .1 .1 .0) (ring2 .kept .1 .1 .1 .1 .1 .0 ∙ ring .kept .1 .1 .1 .1 .1 .0) (uprights .ensures)) (simp (level-at .ensures, level-at2 .ensures, ← eye-square .ensures, if1 .left))
 
 pub cylinder-outline-spec : {M : Type 1} → statement M
 cylinder-outline-spec =

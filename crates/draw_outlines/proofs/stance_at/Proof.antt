@@ -1,9 +1,9 @@
-use Rattle.draw_outlines.specs.Calls.{stanceAt}
+use Rattle.draw_outlines.specs.Calls.{placementAt}
 use Rattle.draw_outlines.proofs.stance_at.Statement.{statement}
 use Rattle.draw_outlines.proofs.stance_at.Tie as tie
 
 returns : tie.Need-returns
-unfolding stanceAt
+unfolding placementAt
 returns c = simp (← c .screen-of .ensures)
 
 pub stance-at-spec : {M : Type 1} → statement M
