@@ -55,7 +55,7 @@ extend-adds {A} room (v ∷ vs) xs ys e =
 
 -- ---- one more path
 -- no start is beyond the points
-abbrev Low : ℕ → List ℕ → Type 0
+abbrev pub Low : ℕ → List ℕ → Type 0
 Low n [] = 0 ≤ n
 Low n (s ∷ ss) = (s ≤ n) × Low n ss
 
@@ -101,10 +101,30 @@ pub record Added (out o : Paths) (ps : List (List Vector)) : Type 0 where
   pub low : Low (length (o .vertices)) (o .starts)
   pub paths : pathsOf (o .vertices) (o .starts) ≡ pathsOf (out .vertices) (out .starts) ++ ps
 
-closed-adds : (vs ws : List Vector) (ss : List ℕ) → Low (length vs) ss → Added (pathsWith vs ss) (closed (pathsWith (vs ++ ws) (ss ++ (length vs ∷ [])))) (withPoints (ws ∷ []))
+pub closed-adds : (vs ws : List Vector) (ss : List ℕ) → Low (length vs) ss → Added (pathsWith vs ss) (closed (pathsWith (vs ++ ws) (ss ++ (length vs ∷ [])))) (withPoints (ws ∷ []))
 unfolding closed withPoints
 closed-adds vs [] ss h = rw (close-empty vs [] ss refl, append-nil vs) (record { low = h; paths = sym (append-nil (pathsOf vs ss)) })
 closed-adds vs (w ∷ ws) ss h = rw (close-full vs (w ∷ ws) ss (omega arith)) (record { low = low-more (length vs) (length (vs ++ (w ∷ ws))) ss (omega (arith, length-append vs (w ∷ ws))) h; paths = paths-more vs (w ∷ ws) ss h })
+
+with-append : (ps qs : List (List Vector)) → withPoints (ps ++ qs) ≡ withPoints ps ++ withPoints qs
+unfolding withPoints
+with-append [] qs = refl
+with-append ([] ∷ ps) qs = with-append ps qs
+with-append ((v ∷ p) ∷ ps) qs = ap (λ (l : List (List Vector)). (v ∷ p) ∷ l) (with-append ps qs)
+
+pub added-none : (out : Paths) → Low (length (out .vertices)) (out .starts) → Added out out []
+added-none out h = record { low = h; paths = sym (append-nil (pathsOf (out .vertices) (out .starts))) }
+
+-- added in two steps
+pub added-more : (out o q : Paths) (ps qs : List (List Vector)) → Added out o (withPoints ps) → Added o q (withPoints qs) → Added out q (withPoints (ps ++ qs))
+added-more out o q ps qs a b = record {
+  low = b .low;
+  paths =
+      b .paths
+      ∙ ap (λ (l : List (List Vector)). l ++ withPoints qs) (a .paths)
+      ∙ append-assoc (pathsOf (out .vertices) (out .starts)) (withPoints ps) (withPoints qs)
+      ∙ ap (λ (l : List (List Vector)). pathsOf (out .vertices) (out .starts) ++ l) (sym (with-append ps qs));
+}
 
 -- ---- a stage whose work adds `made p` for a path p
 module _ (work : ℕ → List Vector → List Vector → Answer (List Vector)) (made : List Vector → List Vector)
@@ -123,27 +143,13 @@ module _ (work : ℕ → List Vector → List Vector → Answer (List Vector)) (
       let g : closed (pathsWith (v ++ made p) (s ++ (length v ∷ []))) ≡ o = ap₂ (λ (x : List Vector) (y : Paths). closed (pathsWith x (y .starts))) (sym u) (sym q) ∙ z in
       subst (λ (x : Paths). Added out x (withPoints (made p ∷ []))) g (closed-adds v (made p) s h)
 
-  with-append : (ps qs : List (List Vector)) → withPoints (ps ++ qs) ≡ withPoints ps ++ withPoints qs
-  unfolding withPoints
-  with-append [] qs = refl
-  with-append ([] ∷ ps) qs = with-append ps qs
-  with-append ((v ∷ p) ∷ ps) qs = ap (λ (l : List (List Vector)). (v ∷ p) ∷ l) (with-append ps qs)
-
   each-adds : (ps : List (List Vector)) (out o : Paths) → Low (length (out .vertices)) (out .starts) → each (onePath work room startRoom) ps out ≡ answered o → Added out o (withPoints (map made ps))
   unfolding each withPoints
-  each-adds [] out o h e = let q : out ≡ o = cc in subst (λ (x : Paths). Added out x []) q (record { low = h; paths = sym (append-nil (pathsOf (out .vertices) (out .starts))) })
+  each-adds [] out o h e = let q : out ≡ o = cc in subst (λ (x : Paths). Added out x []) q (added-none out h)
   each-adds (p ∷ ps) out o h e =
       let a = next-answered (onePath work room startRoom p out) (each (onePath work room startRoom) ps) o e in
       let b = one-adds p out (a .0) h (a .1) in
-      let c = each-adds ps (a .0) o (b .low) (a .2) in
-      record {
-        low = c .low;
-        paths =
-            c .paths
-            ∙ ap (λ (l : List (List Vector)). l ++ withPoints (map made ps)) (b .paths)
-            ∙ append-assoc (pathsOf (out .vertices) (out .starts)) (withPoints (made p ∷ [])) (withPoints (map made ps))
-            ∙ ap (λ (l : List (List Vector)). pathsOf (out .vertices) (out .starts) ++ l) (sym (with-append (made p ∷ []) (map made ps)));
-      }
+      added-more out (a .0) o (made p ∷ []) (map made ps) b (each-adds ps (a .0) o (b .low) (a .2))
 
   pub stage-made : (vs : List Vector) (ss : List ℕ) (o : Paths) → stage (onePath work) vs ss room startRoom ≡ answered o → pathsOf (o .vertices) (o .starts) ≡ withPoints (map made (pathsOf vs ss))
   unfolding stage pathsOf

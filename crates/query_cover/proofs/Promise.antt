@@ -25,11 +25,11 @@ use Rattle.tree_sight.specs.Sights.{eyeRay, sees}
 use Rattle.tree_sight.specs.declared.Sight.{Sight}
 use Rattle.tree_sight.specs.declared.Sight.the-variants.{Visible, Hidden, Refused as NotSeen}
 use Rattle.tree_cover.specs.Seeking.{seekRows, coveredBy}
-use Rattle.tree_cover.specs.Agreeing.{SameOrHidden}
-use Rattle.tree_cover.proofs.Sighting.{covered-agrees, no-only-if-short}
+use Rattle.tree_cover.specs.Agreeing.{SameOrHidden, orShort, orHidden}
+use Rattle.tree_cover.proofs.Sighting.{covered-agrees, covered-ends, no-only-if-short}
 use Rattle.query_scene.specs.Queries.{ownHits, seenAfter, visibleOf}
 use Rattle.query_cover.specs.Covered.{coveredPast, coveredOf}
-use Rattle.query_cover.specs.Promise.{CoveredLikeVisible, CoveredOnlyIfShort}
+use Rattle.query_cover.specs.Promise.{CoveredLikeVisible, CoveredOnlyIfShort, visibleButFor, OnlyDeparture}
 
 module _ (s : Scene) (boxes : List Float) (marks order : List ℕ) (eye point : Vector) where
   abbrev stopping : Sight
@@ -46,6 +46,15 @@ module _ (s : Scene) (boxes : List Float) (marks order : List ℕ) (eye point : 
   like-after (Accepted n) false b f g = refl
   like-after (Accepted n) true false f g = refl
   like-after (Accepted n) true true f g = covered-agrees (ownHits s) boxes marks order eye point (f refl) (g refl)
+
+  departs-after : (k : Refusal) (v : Verdict) (a b : Bool) → (a ≡ true → Within eye) → (b ≡ true → Within point)
+      → orHidden k (seenAfter v (cond a (cond b stopping (NotSeen Point)) (NotSeen View)))
+      ≡ seenAfter v (cond a (cond b (sees (λ (r : Ray). walkRows (λ (i : ℕ). orShort k (distanceOf eye point) (ownHits s r i)) r boxes marks order) eye point) (NotSeen Point)) (NotSeen View))
+  unfolding seenAfter orHidden
+  departs-after k (Refused n) a b f g = refl
+  departs-after k (Accepted n) false b f g = refl
+  departs-after k (Accepted n) true false f g = refl
+  departs-after k (Accepted n) true true f g = covered-ends k (ownHits s) boxes marks order eye point (f refl) (g refl)
 
   abbrev Far : Type 0
   Far = (i : ℕ) × (h : Hit) × (ownHits s (eyeRay eye point) i ≡ At h) × T (lt (h .t) (distanceOf eye point))
@@ -73,3 +82,8 @@ covered-like-visible s boxes marks order eye point =
 pub covered-only-if-short : CoveredOnlyIfShort
 unfolding coveredOf coveredPast
 covered-only-if-short s boxes marks order eye point e = short-after s boxes marks order eye point (checkOf s) (withinPoint eye) (withinPoint point) e
+
+pub only-departure : OnlyDeparture
+unfolding coveredOf coveredPast visibleButFor
+only-departure k s boxes marks order eye point =
+    departs-after s boxes marks order eye point k (checkOf s) (withinPoint eye) (withinPoint point) (within-point eye) (within-point point)

@@ -17,24 +17,24 @@ use Rattle.tree_walk.specs.declared.Nearest.{Nearest}
 use Rattle.tree_walk.specs.declared.Found.the-variants.{Best}
 use Rattle.tree_sight.specs.Sights.{Answered}
 use Rattle.tree_sight.specs.declared.Sight.the-variants.{Hidden}
-use Rattle.theorem_hiding.specs.Covers.{Premise}
+use Rattle.theorem_hiding.specs.Covers.{PremiseWithin}
 use Rattle.query_scene.specs.Queries.{ownHits, intersectOf, visibleOf, occluderOf}
 use Rattle.query_scene.specs.declared.NamedSight.the-variants.{Hidden as HiddenBy}
-use Rattle.theorem_covering.specs.Scenes.{CoversPoint, Short, Draws, BuiltRows}
+use Rattle.theorem_covering.specs.Scenes.{CoversPoint, Short, DrawsSolid, BuiltRows}
 
 -- A point that a solid covers is hidden in every scene that draws the solid, whatever else it draws and in whatever order: where the scene is answered, the eye test
 -- on the rows that the build left says no. The premise: point and eye pass 8 and 9, the computed distance isn't 0, no component of the normalised direction is -0.
 abbrev pub CoveredPointHidden : Type 0
 CoveredPointHidden =
-    (solid : Shape) (eye point : Vector) → CoversPoint solid eye point → Premise eye point
-    → (s : Scene) → Draws s solid → (nodeBoxes : List Float) (nodeMarks order : List ℕ) → BuiltRows s nodeBoxes nodeMarks order
+    (solid : Shape) (eye point : Vector) → CoversPoint solid eye point → PremiseWithin eye point
+    → (s : Scene) → DrawsSolid s solid → (nodeBoxes : List Float) (nodeMarks order : List ℕ) → BuiltRows s nodeBoxes nodeMarks order
     → Answered (visibleOf s nodeBoxes nodeMarks order eye point) → visibleOf s nodeBoxes nodeMarks order eye point ≡ Hidden
 
 -- No point is hidden unless some solid that the scene draws has an own returned distance that falls short of the eye.
 abbrev pub HiddenPointShort : Type 0
 HiddenPointShort =
     (eye point : Vector) → Within eye → Within point → (s : Scene) (nodeBoxes : List Float) (nodeMarks order : List ℕ) → BuiltRows s nodeBoxes nodeMarks order
-    → visibleOf s nodeBoxes nodeMarks order eye point ≡ Hidden → (solid : Shape) × Draws s solid × Short solid eye point
+    → visibleOf s nodeBoxes nodeMarks order eye point ≡ Hidden → (solid : Shape) × DrawsSolid s solid × Short solid eye point
 
 -- Request (i), of every hit: on the rows that a build left, the nearest hit of a ray is the one that the entry which it names gives by itself, and the scene draws that entry; or it is
 -- no hit, and names none.

@@ -3,6 +3,7 @@ use Prim.Native.Nat.{ℕ}
 use mathlib.Core.Path.{_≡_, refl, sym, ap, subst, _∙_}
 use mathlib.Core.Logic.{inl, inr}
 use mathlib.Core.List.{List, [], _∷_}
+use lib.ListN.{length}
 use lib.Dec.{T}
 use lib.Ieee.{Float, isNan, lt, le, eq, neg, ofBits, add, sub, mul, div}
 use Rattle.floats.specs.Arith.{zeroF}
@@ -39,14 +40,13 @@ use Rattle.tree_sight.specs.Sights.{sees, byDistance, eyeRay}
 use Rattle.tree_sight.specs.declared.Sight.the-variants.{Visible, Hidden}
 use Rattle.query_scene.specs.Queries.{buildOf, builtAfter, plantedOf, visibleOf, seenAfter}
 use Rattle.query_scene.specs.declared.Built.the-variants.{Nodes}
-use Rattle.theorem_covering.specs.Scenes.{CoversPoint, Draws}
 use Rattle.draw.specs.Drawing.{solidIn}
-use Rattle.theorem_demand3.specs.Demand3.{EyeTest}
+use Rattle.theorem_demand3.specs.Demand3.{Covers, Draws, Answers}
 use Rattle.theorem_demand3.specs.Witnesses.{overhead, openBin, trueBin, binEye, ShortNotCovering, TrueBinClear}
-use Rattle.theorem_demand3.proofs.Answers.{seenOnRows, eye-test}
+use Rattle.theorem_demand3.proofs.Answers.{boxesOn, marksOn, orderOn, seenOnRows, eye-test}
 
-built-bin : buildOf openBin 1 1 ≡ Nodes 1
-unfolding buildOf builtAfter plantedOf checkOf firstMet lengthsAgree allOf known isKind isStripes fewStripes stripeCount striped names namedBefore deepest depthsTo partsFree entryOk partsOk ownersOk goodStarts measured simpleMeasured solidMeasured cubeMeasured exceeds placingOk withinBox withinPoint within larger closedOf simpleOf simpleOr entryOf ownEntry shapeOf read opOf cutOf compositeOf shapeBox solidBox unnamed nodesFor orderFor layout rootOf belowOf leaves belowRoot treeOf planOf planAxis arranged splitBy hullOf hull extendBox minV maxV minOf maxOf isNan lt le eq neg ofBits
+built-bin : buildOf openBin (placesOf (boxesOn openBin) (marksOn openBin)) (length (orderOn openBin)) ≡ Nodes 1
+unfolding buildOf builtAfter plantedOf checkOf firstMet lengthsAgree allOf known isKind isStripes fewStripes stripeCount striped names namedBefore deepest depthsTo partsFree entryOk partsOk ownersOk goodStarts measured simpleMeasured solidMeasured cubeMeasured exceeds placingOk withinBox withinPoint within larger closedOf simpleOf simpleOr entryOf ownEntry shapeOf read opOf cutOf compositeOf shapeBox solidBox unnamed nodesFor orderFor layout rootOf belowOf leaves belowRoot treeOf planOf planAxis arranged splitBy hullOf hull extendBox minV maxV minOf maxOf isNan lt le eq neg ofBits placesOf padded flat
 built-bin = refl
 
 seen-bin : seenOnRows openBin binEye overhead ≡ Hidden
@@ -66,21 +66,21 @@ too-late : T (le (boxTest (shapeBox (solidIn openBin 2)) (eyeRay binEye overhead
 unfolding closedOf simpleOf simpleOr entryOf ownEntry shapeOf read opOf cutOf compositeOf shapeBox solidBox extendBox shapeHit hitOf cubeHit shapeContains cutFrom step both tellOf acceptedOr restarted takesAway cutContains position isOk minHit containsOf cubeContains outside boxTest overlap slab ordered eyeRay sqrtOf distanceOf lengthOf lengthSquared subV divV divScalar dot minV maxV minComponent maxComponent minOf maxOf addV mulScalar add sub mul div lt le eq neg isNan ofBits
 too-late h = h
 
-cut-uncovered : CoversPoint (solidIn openBin 2) binEye overhead → ⊥
+cut-uncovered : Covers (solidIn openBin 2) binEye overhead → ⊥
 cut-uncovered c =
     too-late (subst (λ (x : Float). T (le (boxTest (shapeBox (solidIn openBin 2)) (eyeRay binEye overhead) .tmin) x)) (ap distance (sym (c .falls .returned))) (c .no-later))
 
-bin-hidden : EyeTest openBin binEye overhead Hidden
-bin-hidden = eye-test openBin 1 1 1 built-bin binEye overhead Hidden (inr refl) seen-bin
+bin-hidden : Answers openBin binEye overhead Hidden
+bin-hidden = eye-test openBin 1 built-bin binEye overhead Hidden seen-bin
 
 only-cut : (i : ℕ) → Member i (2 ∷ []) → i ≡ 2
 only-cut i (inl e) = sym e
 only-cut i (inr m) = absurd m
 
-none-covers : (solid : Shape) → Draws openBin solid → CoversPoint solid binEye overhead → ⊥
+none-covers : (solid : Shape) → Draws openBin solid → Covers solid binEye overhead → ⊥
 none-covers solid d c =
     let e : d .0 ≡ 2 = only-cut (d .0) (subst (λ (l : List ℕ). Member (d .0) l) cut-drawn (d .1)) in
-    cut-uncovered (subst (λ (x : Shape). CoversPoint x binEye overhead) (sym (d .2) ∙ ap (solidIn openBin) e) c)
+    cut-uncovered (subst (λ (x : Shape). Covers x binEye overhead) (sym (d .2) ∙ ap (solidIn openBin) e) c)
 
 pub short-not-covering : ShortNotCovering
 short-not-covering = record {
@@ -91,8 +91,8 @@ short-not-covering = record {
 }
 
 -- ---- with the true distance
-built-true : buildOf trueBin 1 1 ≡ Nodes 1
-unfolding buildOf builtAfter plantedOf checkOf firstMet lengthsAgree allOf known isKind isStripes fewStripes stripeCount striped names namedBefore deepest depthsTo partsFree entryOk partsOk ownersOk goodStarts measured simpleMeasured solidMeasured cubeMeasured exceeds placingOk withinBox withinPoint within larger closedOf simpleOf simpleOr entryOf ownEntry shapeOf read opOf cutOf compositeOf shapeBox solidBox unnamed nodesFor orderFor layout rootOf belowOf leaves belowRoot treeOf planOf planAxis arranged splitBy hullOf hull extendBox minV maxV minOf maxOf isNan lt le eq neg ofBits
+built-true : buildOf trueBin (placesOf (boxesOn trueBin) (marksOn trueBin)) (length (orderOn trueBin)) ≡ Nodes 1
+unfolding buildOf builtAfter plantedOf checkOf firstMet lengthsAgree allOf known isKind isStripes fewStripes stripeCount striped names namedBefore deepest depthsTo partsFree entryOk partsOk ownersOk goodStarts measured simpleMeasured solidMeasured cubeMeasured exceeds placingOk withinBox withinPoint within larger closedOf simpleOf simpleOr entryOf ownEntry shapeOf read opOf cutOf compositeOf shapeBox solidBox unnamed nodesFor orderFor layout rootOf belowOf leaves belowRoot treeOf planOf planAxis arranged splitBy hullOf hull extendBox minV maxV minOf maxOf isNan lt le eq neg ofBits placesOf padded flat
 built-true = refl
 
 seen-true : seenOnRows trueBin binEye overhead ≡ Visible
@@ -100,4 +100,4 @@ unfolding visibleOf seenAfter sees byDistance walkRows walkOn scan tried nearer 
 seen-true = refl
 
 pub true-bin-clear : TrueBinClear
-true-bin-clear = eye-test trueBin 1 1 1 built-true binEye overhead Visible (inl refl) seen-true
+true-bin-clear = eye-test trueBin 1 built-true binEye overhead Visible seen-true

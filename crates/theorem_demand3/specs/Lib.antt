@@ -1,2 +1,3 @@
+pub mod Terms
 pub mod Demand3
 pub mod Witnesses

@@ -1,2 +1,5 @@
 pub mod Seeing
 pub mod Sheets
+pub mod Traces
+pub mod Draws
+pub mod Counted

@@ -26,12 +26,12 @@ use Rattle.scene.specs.Scenes.{Scene}
 use Rattle.tree_sight.specs.Sights.{eyeRay, Answered}
 use Rattle.tree_sight.specs.declared.Sight.{Sight}
 use Rattle.tree_sight.specs.declared.Sight.the-variants.{Visible, Hidden, Refused as NotSeen}
-use Rattle.theorem_hiding.specs.Covers.{NoMinusZero, Premise}
+use Rattle.theorem_hiding.specs.Covers.{NoMinusZero, PremiseWithin}
 use Rattle.theorem_hiding.proofs.Hiding.{covered-is-hidden, hidden-falls-short, nothing-is-hidden}
 use Rattle.query_scene.specs.Queries.{buildOf, visibleOf}
 use Rattle.query_scene.specs.declared.Built.the-variants.{Nodes}
 use Rattle.theorem_covering.proofs.Trees.{scene-tree}
-use Rattle.theorem_covering.specs.Scenes.{CoversPoint, Short, Draws, BuiltRows}
+use Rattle.theorem_covering.specs.Scenes.{CoversPoint, Short, DrawsSolid, BuiltRows}
 use Rattle.paths.specs.Answers.{answered, refused}
 use Rattle.paths.specs.Paths.{Paths, pathsOf, withPoints}
 use Rattle.paths.specs.Ends.{held, Finished}
@@ -127,20 +127,20 @@ module _ {t : Float} {s : Scene} {v : View} {w : Places} {q : Paths} (D : Drawin
     -- A point that a solid covers is dropped as hidden, and not passed, in every draw of every scene that draws the solid, whatever else the scene holds and in whatever
     -- order. The premise: the draw is answered, the computed distance isn't 0, no component of the normalised direction is -0.
     pub covered-point-dropped : (solid : Shape) → CoversPoint solid (v .eye) point → T (not (eq (distanceOf (v .eye) point) zeroF)) → NoMinusZero (eyeRay (v .eye) point .direction)
-        → Draws s solid → HiddenIn s v point × (PassedIn s v point → ⊥)
+        → DrawsSolid s solid → HiddenIn s v point × (PassedIn s v point → ⊥)
     covered-point-dropped solid covers apart direction draws =
         let some = some-drawn (drawn (s .marks)) (draws .0) (draws .1) in
-        let premise : Premise (v .eye) point = record { eye-within = eye-in; point-within = point-in; apart = apart; direction = direction } in
+        let premise : PremiseWithin (v .eye) point = record { eye-within = eye-in; point-within = point-in; apart = apart; direction = direction } in
         let e = seen-tree s (D .count) (D .accepted) some (v .eye) point in
         let hidden : seenIn s (v .eye) point ≡ Hidden =
         e ∙ covered-is-hidden Shape shapeBox shapeHit solid (v .eye) point covers premise (solidIn s) (drawn (s .marks)) _ (scene-tree s (D .count) (D .accepted) some) draws (subst Answered e (judged .1)) in
         let d : HiddenIn s v point = step-four .1 .1 hidden in
         (d, λ p. kept-not-dropped p (d .dropped))
 
-    short-of-eye : seenIn s (v .eye) point ≡ Hidden → (solid : Shape) × Draws s solid × Short solid (v .eye) point
+    short-of-eye : seenIn s (v .eye) point ≡ Hidden → (solid : Shape) × DrawsSolid s solid × Short solid (v .eye) point
     short-of-eye hidden = go (drawn (s .marks)) refl
       where
-        go : (l : List ℕ) → drawn (s .marks) ≡ l → (solid : Shape) × Draws s solid × Short solid (v .eye) point
+        go : (l : List ℕ) → drawn (s .marks) ≡ l → (solid : Shape) × DrawsSolid s solid × Short solid (v .eye) point
         go [] none =
             let e : Visible ≡ Hidden = sym (seen-nothing s none (v .eye) point ∙ nothing-is-hidden (v .eye) point eye-in point-in) ∙ hidden in
             let z : _≡_ {A = ℕ} 0 1 = cc in absurd (omega arith)
@@ -150,7 +150,7 @@ module _ {t : Float} {s : Scene} {v : View} {w : Places} {q : Paths} (D : Drawin
             (sym (seen-tree s (D .count) (D .accepted) some (v .eye) point) ∙ hidden)
 
   -- No point is dropped as hidden unless some solid that the scene draws has an own returned distance that falls short of the eye.
-  pub dropped-point-short : (point : Vector) → Put D point → HiddenIn s v point → (solid : Shape) × Draws s solid × Short solid (v .eye) point
+  pub dropped-point-short : (point : Vector) → Put D point → HiddenIn s v point → (solid : Shape) × DrawsSolid s solid × Short solid (v .eye) point
   dropped-point-short point put d = short-of-eye point put (d .left) (step-four point put (d .left) .1 .0 d)
 
   -- Each point put to step 4 is clipped away, or passed, or dropped as hidden: there is no fourth way.

@@ -1,4 +1,5 @@
--- Document 01's terms of demand 3 in a draw. The demand itself is `Demand3` (theorem_demand3/specs/Demand3.antt); what it rests on here is proved in proofs/Sheets.antt.
+-- Document 01's terms of demand 3 in a draw. The demand itself is `Demand3` (theorem_demand3/specs/Demand3.antt); what it rests on here is proved in
+-- proofs/Sheets.antt.
 use mathlib.Core.Path.{_≡_}
 use mathlib.Core.List.{List}
 use lib.Ieee.{Float}

@@ -1,1 +1,2 @@
-// Demand 3 in a draw: terms in specs/, what the demand rests on in proofs/.
+// What a draw does, from its lines to the sheet, and demand 3 in a draw. Terms and statements in specs/, proofs in
+// proofs/.

@@ -52,8 +52,8 @@ abbrev pub ClippedIsDropped : Type 0
 ClippedIsDropped =
     (matrix : Matrix) (seen : Vector → Sight) (v : Vector) → (LeftAfterClipping matrix v → ⊥) → clipFilter matrix seen v ≡ Drop
 
--- Step 4, where it is answered: each point of each path that is left after clipping is passed exactly if visible answers yes, and dropped as hidden exactly if it
--- answers no.
+-- Step 4, where it is answered: each point of each path that is left after clipping is passed exactly if visible answers yes, and dropped as hidden
+-- exactly if it answers no.
 abbrev pub StepPasses : Type 0
 StepPasses =
     (matrix : Matrix) (seen : Vector → Sight) (vs : List Vector) (ss : List ℕ) (room startRoom : ℕ) (q : Paths) → clipPaths matrix seen vs ss room startRoom ≡ answered q

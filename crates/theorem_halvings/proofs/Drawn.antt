@@ -20,8 +20,7 @@ use Rattle.view.specs.declared.RenderArgs.{RenderArgs}
 use Rattle.path_rdp.specs.Rdp.{thresholdOk}
 use Rattle.path_append.specs.Append.{appended}
 use Rattle.path_chop.specs.Chop.{mostHalvings, chopUpto}
-use Rattle.draw_arcs.specs.Stances.{stanceOf, placedStance}
-use Rattle.draw_arcs.specs.declared.Stance.{Stance}
+use Rattle.draw_arcs.specs.Stances.{Placement, unplaced, placedPart}
 use Rattle.draw_collect.specs.Lined.{Lined, noLines, lined, placedLines, cutLines, bare}
 use Rattle.draw_collect.specs.Collect.{LineRoom, movedFrom, handed, choppedLines, sifted, collected, collectedAll}
 use Rattle.draw_render.specs.Render.{Places, mapped, staged, rendered}
@@ -30,11 +29,11 @@ use Rattle.theorem_halvings.specs.Unlimited.{Chopper, collectedBy, colle
 use Rattle.theorem_halvings.proofs.Alike.{next-same, chop-unlimited}
 
 -- ---- with its own chop in place of its own, a draw is itself
-own-collected : (a : Stance) (w : LineRoom) (x : Lined) (p : Paths) → collectedBy choppedLines a w x p ≡ collected a w x p
+own-collected : (a : Placement) (w : LineRoom) (x : Lined) (p : Paths) → collectedBy choppedLines a w x p ≡ collected a w x p
 unfolding collectedBy collected sifted
 own-collected a w noLines p = refl
 own-collected a w (lined s ps) p = refl
-own-collected a w (placedLines m v x) p = ap (λ (r : Answer Paths). next r (λ (q : Paths). answered (movedFrom m (length (p .vertices)) q))) (own-collected (placedStance m v a) w x p)
+own-collected a w (placedLines m v x) p = ap (λ (r : Answer Paths). next r (λ (q : Paths). answered (movedFrom m (length (p .vertices)) q))) (own-collected (placedPart m v a) w x p)
 own-collected a w (cutLines o x y) p =
     let onward : Paths → Answer Paths = λ (q : Paths). next (sifted (a .args) w (bare (cutLines o x y)) q) (appended (w .points) (w .starts) p) in
     ap (λ (r : Answer Paths). next (next r (collectedBy choppedLines a w y)) onward) (own-collected a w x noPaths)
@@ -44,8 +43,8 @@ own-all : (a : RenderArgs) (w : LineRoom) (at : ℕ → Lined) (is : List ℕ) (
 unfolding collectedAllBy collectedAll
 own-all a w at [] p = refl
 own-all a w at (i ∷ is) p =
-    ap (λ (r : Answer Paths). next r (collectedAllBy choppedLines a w at is)) (own-collected (stanceOf a) w (at i) p)
-    ∙ next-same (collected (stanceOf a) w (at i) p) (collectedAllBy choppedLines a w at is) (collectedAll a w at is) (own-all a w at is)
+    ap (λ (r : Answer Paths). next r (collectedAllBy choppedLines a w at is)) (own-collected (unplaced a) w (at i) p)
+    ∙ next-same (collected (unplaced a) w (at i) p) (collectedAllBy choppedLines a w at is) (collectedAll a w at is) (own-all a w at is)
 
 own-rendered : (t : Float) (v : View) (w : Places) (at : ℕ → Lined) (box : ℕ → BBox) (ids : List ℕ) → renderedBy choppedLines t v w at box ids ≡ rendered t v w at box ids
 unfolding renderedBy rendered staged

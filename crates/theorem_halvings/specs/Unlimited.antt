@@ -22,8 +22,7 @@ use Rattle.path_rdp.specs.Rdp.{thresholdOk}
 use Rattle.path_append.specs.Append.{appended}
 use Rattle.path_chop.specs.Chop.{mostHalvings, chopUpto, callUpto, chopPaths, chopCall}
 use Rattle.draw_cuts.specs.Cuts.{cutPaths}
-use Rattle.draw_arcs.specs.Stances.{stanceOf, placedStance}
-use Rattle.draw_arcs.specs.declared.Stance.{Stance}
+use Rattle.draw_arcs.specs.Stances.{Placement, unplaced, placedPart}
 use Rattle.draw_collect.specs.Lined.{Lined, noLines, lined, placedLines, cutLines, bare}
 use Rattle.draw_collect.specs.Collect.{LineRoom, movedFrom, handed, collected}
 use Rattle.draw_render.specs.Render.{Places, stepping, seenLines, simplifiedLines, mapped}
@@ -43,10 +42,10 @@ CallUnlimited = (k : ℕ) (v : View) (xs : List Float) (ss : List ℕ) (room sta
 abbrev pub Chopper : Type 0
 Chopper = RenderArgs → ℕ → ℕ → Paths → Answer Paths
 
-unfoldable pub collectedBy : Chopper → Stance → LineRoom → Lined → Paths → Answer Paths
+unfoldable pub collectedBy : Chopper → Placement → LineRoom → Lined → Paths → Answer Paths
 collectedBy chop t w noLines p = collected t w noLines p
 collectedBy chop t w (lined s ps) p = collected t w (lined s ps) p
-collectedBy chop t w (placedLines m v x) p = next (collectedBy chop (placedStance m v t) w x p) (λ (q : Paths). answered (movedFrom m (length (p .vertices)) q))
+collectedBy chop t w (placedLines m v x) p = next (collectedBy chop (placedPart m v t) w x p) (λ (q : Paths). answered (movedFrom m (length (p .vertices)) q))
 collectedBy chop t w (cutLines o x y) p =
     next (next (collectedBy chop t w x noPaths) (collectedBy chop t w y))
     (λ (q : Paths). next (next (chop (t .args) (w .chopped) (w .begins) q)
@@ -54,7 +53,7 @@ collectedBy chop t w (cutLines o x y) p =
 
 unfoldable pub collectedAllBy : Chopper → RenderArgs → LineRoom → (ℕ → Lined) → List ℕ → Paths → Answer Paths
 collectedAllBy chop a w at [] p = answered p
-collectedAllBy chop a w at (i ∷ is) p = next (collectedBy chop (stanceOf a) w (at i) p) (collectedAllBy chop a w at is)
+collectedAllBy chop a w at (i ∷ is) p = next (collectedBy chop (unplaced a) w (at i) p) (collectedAllBy chop a w at is)
 
 unfoldable pub renderedBy : Chopper → Float → View → Places → (ℕ → Lined) → (ℕ → BBox) → List ℕ → Answer Paths
 renderedBy chop t v w at box ids =

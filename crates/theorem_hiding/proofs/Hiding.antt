@@ -22,7 +22,7 @@ use Rattle.tree_walk.specs.declared.Found.the-variants.{Best}
 use Rattle.tree_walk.proofs.Visits.{visit-le, visit-from, visit-hits}
 use Rattle.tree_sight.specs.Sights.{eyeRay}
 use Rattle.tree_sight.proofs.Answers.{answered-best, short-hidden, hidden-best, reaching-visible}
-use Rattle.theorem_hiding.specs.Covers.{Covers, NoMinusZero}
+use Rattle.theorem_hiding.specs.Covers.{CoversBy, NoMinusZero}
 use Rattle.theorem_hiding.specs.Hiding.{CoveredIsHidden, NamedFallsShort, HiddenFallsShort, NothingIsHidden}
 
 inf-number : T (number INF)
@@ -40,7 +40,7 @@ covered-is-hidden S box hit s eye point covers p solid entries tree of holds ans
     let found = answered-best nearest eye point (p .apart) answered in
     let b : Nearest = found .0 in
     let i : ℕ = holds .0 in
-    let c : Covers box hit (solid i) eye point = subst (λ (x : S). Covers box hit x eye point) (sym (holds .2)) covers in
+    let c : CoversBy box hit (solid i) eye point = subst (λ (x : S). CoversBy box hit x eye point) (sym (holds .2)) covers in
     let r : Ray = eyeRay eye point in
     let boxes : ℕ → BBox = λ (j : ℕ). box (solid j) in
     let l = visit-hits (λ (j : ℕ). hit (solid j) r) r (eye-ray-usable eye point (p .point-within) (p .direction)) boxes i (of .fine i (holds .1)) (c .falls .own) (c .falls .returned)

@@ -25,15 +25,15 @@ use Rattle.tree_sight.specs.declared.Sight.{Sight}
 
 -- Document 01's falls short: the solid's own returned distance is < length, false at a NaN. Document 01's own returned distance is the t that its hit gives the ray
 -- of the eye test, a miss's t included; where the hit meets number 11 there is none.
-pub record FallsShort {S : Type 0} (hit : S → Ray → Struck) (s : S) (eye point : Vector) : Type 0 where
+pub record ShortBy {S : Type 0} (hit : S → Ray → Struck) (s : S) (eye point : Vector) : Type 0 where
   pub own : Hit
   pub returned : hit s (eyeRay eye point) ≡ At own
   pub short : T (lt (own .t) (distanceOf eye point))
 
 -- Document 01's covers: a solid covers a point exactly when, on the ray from point to eye, its own box passes the test and is entered no later than its own returned
 -- distance, and that distance falls short of the eye. No later is <=, false at a NaN.
-pub record Covers {S : Type 0} (box : S → BBox) (hit : S → Ray → Struck) (s : S) (eye point : Vector) : Type 0 where
-  pub falls : FallsShort hit s eye point
+pub record CoversBy {S : Type 0} (box : S → BBox) (hit : S → Ray → Struck) (s : S) (eye point : Vector) : Type 0 where
+  pub falls : ShortBy hit s eye point
   pub passed : T (passes (boxTest (box s) (eyeRay eye point)))
   pub no-later : T (le (boxTest (box s) (eyeRay eye point) .tmin) (falls .own .t))
 
@@ -57,7 +57,7 @@ pub record NoMinusZero (v : Vector) : Type 0 where
   pub z : T (straight (v .z))
 
 -- The premise on point and eye: numbers 8 and 9 let them pass, the computed distance isn't 0, no component of the normalised direction is -0.
-pub record Premise (eye point : Vector) : Type 0 where
+pub record PremiseWithin (eye point : Vector) : Type 0 where
   pub eye-within : Within eye
   pub point-within : Within point
   pub apart : T (not (eq (distanceOf eye point) zeroF))

@@ -39,9 +39,7 @@ use Rattle.query_scene.proofs.Plants.{each-unnamed}
 use Rattle.scene_merge.specs.MergedScenes.{raised, raisedMarks, raisedBy, pointsGiven, pointsOf, mergedScene}
 use Rattle.scene_merge.proofs.Raising.{marks-length}
 use Rattle.query_merge.proofs.Answers.{marks-four, merged-entries}
-use Rattle.theorem_covering.specs.Scenes.{CoversPoint}
-use Rattle.theorem_demand3.specs.Demand3.{PremiseOn, HiddenFrom}
-use Rattle.theorem_demand3.proofs.Demand3.{demand-3}
+use Rattle.theorem_demand3.proofs.Demand3.{covered-hidden}
 use Rattle.theorem_merge.specs.Merged.{BothAccepted, MergedAccepted, MergedDrawn, SameThere, MergedSame, CoveredIn, MergedCovers, MergedHides}
 use Rattle.theorem_merge.proofs.Names.{Appended, merged-ok, merged-drawn}
 use Rattle.theorem_merge.proofs.Solids.{merged-first, merged-second}
@@ -265,16 +263,6 @@ module _ (s u : Scene) (B : BothAccepted s u) where
   covered-there eye point (inl c) = (c .0, (c .1 .0, drawn-s (c .1 .0) (c .1 .1), sym (solid-s (c .1 .0) (drawn-low (s .marks) (c .1 .0) (c .1 .1))) ∙ c .1 .2), c .2)
   covered-there eye point (inr c) = (c .0, (entriesOf s + c .1 .0, drawn-u (c .1 .0) (c .1 .1), sym (solid-u (c .1 .0) (drawn-low (u .marks) (c .1 .0) (c .1 .1))) ∙ c .1 .2), c .2)
 
-  -- ---- and hides it
-  hidden-there : (eye point : Vector) → CoveredIn s eye point ⊎ CoveredIn u eye point → PremiseOn eye point → HiddenFrom (mergedScene s u) eye point
-  unfolding mergedScene
-  hidden-there eye point (inl c) premise =
-      let i = c .1 .0 in
-      demand-3 .covered-stays-hidden s (mergedScene s u) i i (same-s i (drawn-low (s .marks) i (c .1 .1))) (omega (arith, sixteen)) (drawn-s i (c .1 .1)) eye point (subst (λ (x : Shape). CoversPoint x eye point) (sym (c .1 .2)) (c .2)) premise
-  hidden-there eye point (inr c) premise =
-      let j = c .1 .0 in
-      demand-3 .covered-stays-hidden u (mergedScene s u) j (entriesOf s + j) (same-u j (drawn-low (u .marks) j (c .1 .1))) (omega (arith, sixteen′)) (drawn-u j (c .1 .1)) eye point (subst (λ (x : Shape). CoversPoint x eye point) (sym (c .1 .2)) (c .2)) premise
-
 -- ---- the theorems
 pub merged-accepted : MergedAccepted
 merged-accepted s u B = both-accepted s u B
@@ -291,4 +279,6 @@ pub merged-covers : MergedCovers
 merged-covers s u B eye point c = covered-there s u B eye point c
 
 pub merged-hides : MergedHides
-merged-hides s u B eye point c premise = hidden-there s u B eye point c premise
+merged-hides s u B eye point c premise a sure answers =
+    let k = covered-there s u B eye point c in
+    covered-hidden (k .0) eye point (k .2) premise (mergedScene s u) (k .1) a sure answers

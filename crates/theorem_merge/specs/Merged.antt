@@ -11,8 +11,10 @@ use Rattle.check_scene.specs.Checks.{checkOf}
 use Rattle.check_scene.specs.declared.Verdict.the-variants.{Accepted}
 use Rattle.theorem_solids.specs.Same.{SameSolid}
 use Rattle.scene_merge.specs.MergedScenes.{mergedScene}
-use Rattle.theorem_covering.specs.Scenes.{CoversPoint, Draws}
-use Rattle.theorem_demand3.specs.Demand3.{PremiseOn, HiddenFrom}
+use Rattle.tree_sight.specs.Sights.{Answered}
+use Rattle.tree_sight.specs.declared.Sight.{Sight}
+use Rattle.tree_sight.specs.declared.Sight.the-variants.{Hidden}
+use Rattle.theorem_demand3.specs.Demand3.{Covers, Draws, Premise, Answers}
 
 -- two accepted scenes, of at most 1,024 entries together
 pub record BothAccepted (s u : Scene) : Type 0 where
@@ -40,7 +42,7 @@ MergedSame = (s u : Scene) → BothAccepted s u → SameThere s u (mergedScene s
 
 -- a solid that the scene draws covers the point
 abbrev pub CoveredIn : Scene → Vector → Vector → Type 0
-CoveredIn s eye point = (solid : Shape) × Draws s solid × CoversPoint solid eye point
+CoveredIn s eye point = (solid : Shape) × Draws s solid × Covers solid eye point
 
 -- A point covered in either scene is covered in the merged one.
 abbrev pub MergedCovers : Type 0
@@ -48,4 +50,6 @@ MergedCovers = (s u : Scene) → BothAccepted s u → (eye point : Vector) → C
 
 -- And hidden there on demand 3's premise, for the eye test alone and in a draw alike.
 abbrev pub MergedHides : Type 0
-MergedHides = (s u : Scene) → BothAccepted s u → (eye point : Vector) → CoveredIn s eye point ⊎ CoveredIn u eye point → PremiseOn eye point → HiddenFrom (mergedScene s u) eye point
+MergedHides =
+    (s u : Scene) → BothAccepted s u → (eye point : Vector) → CoveredIn s eye point ⊎ CoveredIn u eye point → Premise eye point
+    → (a : Sight) → Answered a → Answers (mergedScene s u) eye point a → a ≡ Hidden

@@ -65,10 +65,10 @@ module _ {R : Type 0} (o : Operations R) (𝓡 : CommutativeRing o) where
       ∙ ap (λ (c : R). add c (opp z)) (sym twice)
       ∙ 𝓡 .plusNegated z
 
-  mul-opp : (a b : R) → mul a (opp b) ≡ opp (mul a b)
+  pub mul-opp : (a b : R) → mul a (opp b) ≡ opp (mul a b)
   mul-opp a b = opp-only (mul a b) (mul a (opp b)) (sym (𝓡 .timesPlus a b (opp b)) ∙ ap (mul a) (𝓡 .plusNegated b) ∙ mul-null a)
 
-  mul-sub : (a b c : R) → mul a (sub b c) ≡ sub (mul a b) (mul a c)
+  pub mul-sub : (a b c : R) → mul a (sub b c) ≡ sub (mul a b) (mul a c)
   mul-sub a b c = ap (mul a) (𝓡 .minusIs b c) ∙ 𝓡 .timesPlus a b (opp c) ∙ ap (add (mul a b)) (mul-opp a c) ∙ sym (𝓡 .minusIs (mul a b) (mul a c))
 
   sub-sub : (a b c d : R) → sub (sub a b) (sub c d) ≡ sub (add a d) (add b c)

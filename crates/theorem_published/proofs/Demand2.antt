@@ -3,7 +3,8 @@ use mathlib.Core.Path.{refl}
 use Rattle.sqrt.specs.Root.{sqrtOf}
 use Rattle.sqrt.proofs.Nearest.{nearest-of-all}
 use Rattle.theorem_published.specs.Demand2.{Demand2}
-use Rattle.theorem_published.proofs.Slabs.{slanted-meets-all, test-is-overlap, passes-exactly-ahead, entered-last, left-first, within-all-slabs}
+use Rattle.theorem_published.proofs.Slabs.{slanted-meets-all, test-is-overlap, passes-exactly-ahead, swapped-by-comparison, entered-last, left-first, within-all-slabs}
+use Rattle.theorem_published.proofs.Planes.{exact-slab, exact-slab-down, wholes-ordered}
 use Rattle.theorem_published.proofs.Cramer.{triangle-is-formula, cramers-rule, only-solution}
 use Rattle.theorem_published.proofs.Peucker.{simplified-as-published, only-published, simplified-by-scan, only-by-scan}
 
@@ -19,6 +20,10 @@ demand-2 = record {
   box-is-overlap = test-is-overlap;
   box-passes = passes-exactly-ahead;
   box-slanted = slanted-meets-all;
+  box-exact = exact-slab;
+  box-exact-down = exact-slab-down;
+  box-exact-wholes = wholes-ordered;
+  box-swapped = swapped-by-comparison;
   box-entered = entered-last;
   box-left = left-first;
   box-within = within-all-slabs;

@@ -1,21 +1,22 @@
 -- The box test against slabs: the proofs. Assumes nothing.
-use mathlib.Core.Path.{_≡_, sym, subst}
+use mathlib.Core.Path.{_≡_, refl, sym, subst}
 use mathlib.Core.Logic.{_⊎_, inl, inr}
 use mathlib.Core.Bool.{not}
 use lib.Dec.{T, not-T}
-use lib.Ieee.{Float, eq, lt, le, ofBits}
+use lib.Ieee.{Float, nan, inf, fin, eq, lt, le, isNan, ofBits}
 use lib.Ieee.Scale.{finite}
 use lib.Ieee.Fits.{and-i, and-l, and-r}
 use Rattle.floats.specs.Arith.{_⊖_, zeroF}
-use Rattle.floats.specs.Numbers.{number, within}
+use Rattle.floats.specs.Numbers.{number, within, minOf, maxOf}
 use Rattle.floats.proofs.Bounds.{within-sub}
 use Rattle.floats.proofs.Quotients.{quotient-number}
 use Rattle.floats.proofs.Order.{finite-number, le-refl, le-trans, le-not-gt, not-gt→le, le→not-gt, not-ge→lt, lt-le-trans, le-number-l, le-number-r}
-use Rattle.geometry.specs.Boxes.{slab, overlap, boxTest, passes}
+use Rattle.geometry.specs.Boxes.{spanOf, ordered, slab, overlap, boxTest, passes}
 use Rattle.geometry.specs.declared.ray.Ray.{Ray}
 use Rattle.geometry.specs.declared.bounding_box.BBox.{BBox}
+use Rattle.geometry.specs.declared.bounding_box.Span.{Span}
 use Rattle.theorem_published.specs.Slabs.{meetsAt, InSlabs, MeetsAll, InSpan, AheadInSlabs, slabX, slabY, slabZ, WithinEnds}
-use Rattle.theorem_published.specs.Slabs.{SlantedMeetsAll, TestIsOverlap, PassesExactlyAhead, EnteredLast, LeftFirst, WithinAllSlabs}
+use Rattle.theorem_published.specs.Slabs.{SlantedMeetsAll, TestIsOverlap, PassesExactlyAhead, SwappedByComparison, EnteredLast, LeftFirst, WithinAllSlabs}
 use Rattle.theorem_published.proofs.Overlaps.{Numbers, ordered-numbers, ordered-in, ordered-out, overlap-numbers, overlap-in, overlap-out, last-of, first-of}
 
 -- ---- planes are met at numbers
@@ -143,3 +144,20 @@ module _ (b : BBox) (r : Ray) (u : Float) where
 
 pub within-all-slabs : WithinAllSlabs
 within-all-slabs b r u = (within-out b r u, λ h. within-in b r u (h .0) (h .1) (h .2))
+
+-- ---- the ends of a slab at a NaN
+nan-first : (b : Float) → ordered nan b ≡ spanOf nan b
+unfolding ordered lt
+nan-first nan = refl
+nan-first (inf s) = refl
+nan-first (fin s m e) = refl
+
+nan-second : (a : Float) → ordered a nan ≡ spanOf a nan
+unfolding ordered lt
+nan-second nan = refl
+nan-second (inf s) = refl
+nan-second (fin s m e) = refl
+
+pub swapped-by-comparison : SwappedByComparison
+unfolding ordered minOf maxOf lt isNan ofBits
+swapped-by-comparison = record { first-nan = nan-first; second-nan = nan-second; not-by-min-and-max = λ h. subst (λ (s : Span). T (number (s .tmin))) (sym h) tt }

@@ -1,5 +1,6 @@
--- Document 01's triangle against Möller and Trumbore. The ray from o along d meets the plane of the triangle that has a corner v1, and from there the edges a and b, where
--- o + s d = v1 + u a + v b. With t = o - v1, p = d × b, q = t × a and det = a · p, they answer s = (b · q) / det, u = (t · p) / det and v = (d · q) / det.
+-- Document 01's triangle against Möller and Trumbore. The ray from o along d meets the plane of the triangle that has a corner v1, and from there the
+-- edges a and b, where o + s d = v1 + u a + v b. With t = o - v1, p = d × b, q = t × a and det = a · p, they answer s = (b · q) / det, u = (t · p) / det
+-- and v = (d · q) / det.
 use mathlib.Core.Path.{_≡_}
 use mathlib.Core.Bool.{not, cond, _&&_, _||_}
 use mathlib.Core.Int.{ℤ, _+ℤ_, _-ℤ_, _*ℤ_}

@@ -1,4 +1,5 @@
 pub mod Slabs
+pub mod Planes
 pub mod Cramer
 pub mod Peucker
 pub mod Demand2

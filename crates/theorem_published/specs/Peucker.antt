@@ -1,4 +1,5 @@
--- Document 01's simplification against the published method of Ramer, Douglas and Peucker, as they describe it: with no scan for the farthest vertex, and no count of rounds.
+-- Document 01's simplification against the published method of Ramer, Douglas and Peucker, as they describe it: with no scan for the farthest vertex, and
+-- no count of rounds.
 use mathlib.Core.Path.{_≡_}
 use mathlib.Core.Bool.{true, false}
 use mathlib.Core.List.{List, [], _∷_, _++_}
@@ -30,7 +31,8 @@ pub record PublishedMethod (t : Float) (f : List Vector → List Vector) : Type 
   pub short : (p : List Vector) → length p < 3 → f p ≡ p
   -- where no vertex between the ends is farther than t, the ends alone are kept
   pub ends : (p : List Vector) → 3 ≤ length p → ((i : ℕ) → 1 ≤ i → i + 2 ≤ length p → T (le (away p i) t)) → f p ≡ firstVertex p ∷ lastVertex p ∷ []
-  -- where the first farthest is farther than t, the path is split there; the two parts, which share that vertex, are simplified alike and joined, the vertex kept once
+  -- where the first farthest is farther than t, the path is split there; the two parts, which share that vertex, are simplified alike and joined, the
+  -- vertex kept once
   pub split : (p : List Vector) (k : ℕ) → FirstFarthest p k → T (lt t (away p k)) → f p ≡ front (f (take (k + 1) p)) ++ f (drop k p)
 
 -- Simplification is by the published method, where the threshold is not negative.

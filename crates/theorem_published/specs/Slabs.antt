@@ -1,14 +1,15 @@
--- Document 01's box test against the published method of slabs (Kay and Kajiya): a box is where three slabs overlap, each between two parallel planes, and a ray is in
--- the box at the parameters at which it is between the planes of all three pairs. The definition takes a greatest and a least; what is said here has neither.
+-- Document 01's box test against the published method of slabs (Kay and Kajiya): a box is where three slabs overlap, each between two parallel planes, and
+-- a ray is in the box at the parameters at which it is between the planes of all three pairs. The definition takes a greatest and a least; what is said
+-- here has neither.
 use mathlib.Core.Path.{_≡_}
 use mathlib.Core.Logic.{_⊎_, _↔_}
 use mathlib.Core.Bool.{not}
 use lib.Dec.{T}
-use lib.Ieee.{Float, eq, lt, le}
+use lib.Ieee.{Float, nan, eq, lt, le}
 use lib.Ieee.Scale.{finite}
-use Rattle.floats.specs.Arith.{_⊖_, _⊘_, zeroF}
-use Rattle.floats.specs.Numbers.{number}
-use Rattle.geometry.specs.Boxes.{slab, boxTest, passes}
+use Rattle.floats.specs.Arith.{_⊖_, _⊘_, zeroF, oneF}
+use Rattle.floats.specs.Numbers.{number, minOf, maxOf}
+use Rattle.geometry.specs.Boxes.{spanOf, ordered, slab, boxTest, passes}
 use Rattle.geometry.specs.Limits.{Within}
 use Rattle.geometry.specs.declared.vector.Vector.{Vector}
 use Rattle.geometry.specs.declared.ray.Ray.{Ray}
@@ -83,6 +84,13 @@ slabY b r = slab (b .min .y) (b .max .y) (r .origin .y) (r .direction .y)
 
 abbrev pub slabZ : BBox → Ray → Span
 slabZ b r = slab (b .min .z) (b .max .z) (r .origin .z) (r .direction .z)
+
+-- Document 01's second mistake to shut out: the ends of a slab are swapped by the comparison, which leaves them as they are where one is a NaN; min and max would put the
+-- other end in its place.
+pub record SwappedByComparison : Type 0 where
+  pub first-nan : (b : Float) → ordered nan b ≡ spanOf nan b
+  pub second-nan : (a : Float) → ordered a nan ≡ spanOf a nan
+  pub not-by-min-and-max : ordered nan oneF ≡ spanOf (minOf nan oneF) (maxOf nan oneF) → ⊥
 
 -- m is one of a, b and c, and none of them that is a number is greater
 pub record LastOfThree (a b c m : Float) : Type 0 where

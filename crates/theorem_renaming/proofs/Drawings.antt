@@ -29,7 +29,7 @@ use Rattle.paths.specs.Paths.{Paths, noPaths}
 use Rattle.view.specs.Views.{viewport, argsOf}
 use Rattle.view.specs.declared.View.{View}
 use Rattle.view.specs.declared.RenderArgs.{RenderArgs}
-use Rattle.draw_arcs.specs.Stances.{stanceOf}
+use Rattle.draw_arcs.specs.Stances.{unplaced}
 use Rattle.draw_collect.specs.Lined.{Lined, bare}
 use Rattle.draw_collect.specs.Collect.{LineRoom, choppedLines, collected, collectedAll}
 use Rattle.draw_render.specs.Render.{Places, stepping, nearestOf, seenBy, onTree, seenLines, simplifiedLines, mapped, staged, rendered}
@@ -57,7 +57,7 @@ module _ (f : ℕ → ℕ) where
   collect-map : (a : RenderArgs) (w : LineRoom) (at : ℕ → Lined) (ids : List ℕ) (p : Paths) → collectedAll a w at (map f ids) p ≡ collectedAll a w (λ (i : ℕ). at (f i)) ids p
   unfolding collectedAll
   collect-map a w at [] p = refl
-  collect-map a w at (i ∷ ids) p = ap (next (collected (stanceOf a) w (at (f i)) p)) (fun-ext (λ (q : Paths). collect-map a w at ids q))
+  collect-map a w at (i ∷ ids) p = ap (next (collected (unplaced a) w (at (f i)) p)) (fun-ext (λ (q : Paths). collect-map a w at ids q))
 
   nearest-map : (solid : ℕ → Shape) (box : ℕ → BBox) (ids : List ℕ) (r : Ray) → struckBy (nearestOf solid box (map f ids) r) ≡ struckBy (nearestOf (λ (i : ℕ). solid (f i)) (λ (i : ℕ). box (f i)) ids r)
   unfolding nearestOf

@@ -28,10 +28,11 @@ use Rattle.tree_sight.specs.Sights.{eyeRay, byDistance, sees}
 use Rattle.tree_sight.specs.declared.Sight.{Sight}
 use Rattle.tree_sight.specs.declared.Sight.the-variants.{Visible, Hidden, Refused as NotSeen}
 use Rattle.tree_cover.specs.Seeking.{soughtOn, scanTo, goOn, seekOn, seekRows, bySought, coveredBy}
-use Rattle.tree_cover.specs.Agreeing.{Agrees, SameOrHidden, CoveredAgrees, NoOnlyIfShort}
+use Rattle.tree_cover.specs.Agreeing.{Agrees, SameOrHidden, CoveredAgrees, NoOnlyIfShort, orShort, orCovered, orHidden, CoveredEnds}
+use Rattle.refusals.specs.declared.Refusal.{Refusal}
 use Rattle.tree_cover.specs.declared.Sought.{Sought}
 use Rattle.tree_cover.specs.declared.Sought.the-variants.{Open, Covered, Refused}
-use Rattle.tree_cover.proofs.Agreeing.{seek-agrees}
+use Rattle.tree_cover.proofs.Agreeing.{seek-agrees, ends-at-the-first}
 
 -- ---- the same answer, or no
 sight-agrees : (far : Float) (s : Sought) (f : Found) → Agrees far s f → SameOrHidden (bySought s) (byDistance f far)
@@ -56,6 +57,28 @@ covered-agrees hits boxes marks order eye point E P =
     (sight-agrees (distanceOf eye point) _ _ (seek-agrees (distanceOf eye point) (hits (eyeRay eye point)) (eyeRay eye point) boxes marks order (distance-le eye point E P)))
   where
     go : (t : Bool) (a b : Sight) → SameOrHidden a b → SameOrHidden (cond t Visible a) (cond t Visible b)
+    go true a b h = refl
+    go false a b h = h
+
+-- ---- where it ends
+sight-ends : (k : Refusal) (far : Float) (s : Sought) (f g : Found) → Agrees far s f → orCovered k s ≡ g → orHidden k (bySought s) ≡ byDistance g far
+unfolding bySought byDistance orCovered orHidden
+sight-ends k far (Open b) f g a e = sym (go (le far (b .hit .t)) (a .1)) ∙ ap (λ (x : Found). byDistance x far) e
+  where
+    go : (t : Bool) → T t → cond t Visible Hidden ≡ Visible
+    go true h = refl
+    go false h = absurd h
+sight-ends k far Covered f g a e = ap (λ (x : Found). byDistance x far) e
+sight-ends k far (Refused n) f g a e = ap (λ (x : Found). byDistance x far) e
+
+pub covered-ends : CoveredEnds
+unfolding coveredBy sees orHidden
+covered-ends k hits boxes marks order eye point E P =
+    let d = distanceOf eye point in
+    let r = eyeRay eye point in
+    go (eq d zeroF) _ _ (sight-ends k d _ _ _ (seek-agrees d (hits r) r boxes marks order (distance-le eye point E P)) (ends-at-the-first k d (hits r) r boxes marks order))
+  where
+    go : (t : Bool) (a b : Sight) → orHidden k a ≡ b → orHidden k (cond t Visible a) ≡ cond t Visible b
     go true a b h = refl
     go false a b h = h
 

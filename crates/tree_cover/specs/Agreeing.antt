@@ -76,3 +76,16 @@ NoOnlyIfShort =
     (hits : Ray → ℕ → Struck) (boxes : List Float) (marks order : List ℕ) (eye point : Vector)
     → coveredBy (λ (d : Float) (r : Ray). seekRows d (hits r) r boxes marks order) eye point ≡ Hidden
     → (i : ℕ) × (h : Hit) × (hits (eyeRay eye point) i ≡ At h) × T (lt (h .t) (distanceOf eye point))
+
+-- the eye test's answer, or k where it says no
+unfoldable pub orHidden : Refusal → Sight → Sight
+orHidden k Visible = Visible
+orHidden k Hidden = NotSeen k
+orHidden k (NotSeen n) = NotSeen n
+
+-- `EndsAtTheFirst` of the eye test: were each solid that falls short to refuse with a number, the full eye test would meet that number exactly where this one says no, and agree with it elsewhere.
+abbrev pub CoveredEnds : Type 0
+CoveredEnds =
+    (k : Refusal) (hits : Ray → ℕ → Struck) (boxes : List Float) (marks order : List ℕ) (eye point : Vector) → Within eye → Within point
+    → orHidden k (coveredBy (λ (d : Float) (r : Ray). seekRows d (hits r) r boxes marks order) eye point)
+    ≡ sees (λ (r : Ray). walkRows (λ (i : ℕ). orShort k (distanceOf eye point) (hits r i)) r boxes marks order) eye point

@@ -29,10 +29,9 @@ use Rattle.theorem_filters.specs.Passing.{LeftAfterClipping}
 use Rattle.theorem_filters.proofs.Passing.{clipped-is-dropped}
 use Rattle.draw_render.specs.Render.{Places, stepping}
 use Rattle.draw.specs.Drawing.{seenIn, Drawing}
 use Rattle.theorem_draws.specs.Sheets.{Put, ClippedIn, PassedIn, HiddenIn}
+use Rattle.theorem_draws.specs.Draws.{Seen}
 use Rattle.theorem_draws.proofs.Sheets.{each-point, step-four, step-four-leaves, simplified-so, unsimplified-so, sheet-paths}
-use Rattle.theorem_demand3.specs.Demand3.{Seen}
-use Rattle.theorem_demand3.proofs.Chains.{with-points}
 
 -- ---- members
 module _ {A B : Type 0} (f : A → B) where
@@ -71,6 +70,13 @@ with-member [] p m = absurd m
 with-member ([] ∷ ps) p m = inr (with-member ps p m)
 with-member ((v ∷ r) ∷ ps) p (inl e) = inl e
 with-member ((v ∷ r) ∷ ps) p (inr m) = inr (with-member ps p m)
+
+pub with-points : (ps : List (List Vector)) (p : List Vector) → Member p (withPoints ps) → 0 < length p
+unfolding withPoints
+with-points [] p m = absurd m
+with-points ([] ∷ ps) p m = with-points ps p m
+with-points ((v ∷ r) ∷ ps) p (inl e) = rw (← e) (omega arith)
+with-points ((v ∷ r) ∷ ps) p (inr m) = with-points ps p m
 
 partner : {A B : Type 0} (r : A → B → Type 0) (xs : List A) (ys : List B) → Pairwise r xs ys → (y : B) → Member y ys → (x : A) × Member x xs × r x y
 unfolding Pairwise
