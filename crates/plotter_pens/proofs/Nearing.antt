@@ -1,4 +1,5 @@
--- No path that waits is nearer than the one picked, and none before it is as near; the path is whole. Assumes nothing.
+-- No path that waits is nearer than the one picked, and none before it is as near; 15 exactly if nothing waits; the path is whole.
+-- Assumes nothing.
 use mathlib.Core.Path.{_≡_, refl, sym, ap, _∙_, subst}
 use mathlib.Core.Bool.{Bool, true, false, cond}
 use mathlib.Core.List.{List}
@@ -16,12 +17,15 @@ use Rattle.rows.proofs.Starts.{good-parted}
 use Rattle.paths.specs.Ends.{places}
 use Rattle.paths.specs.Ranges.{rangeOf, lesserOf}
 use Rattle.paths.specs.declared.Range.{Range}
+use Rattle.refusals.specs.declared.Refusal.{Refusal}
 use Rattle.plotter_pens.specs.declared.NearestPath.{NearestPath}
-use Rattle.plotter_pens.specs.Pens.{LentDrawing, rangeIn, waits, noPath, nearerPath, offered, nearestIn, nearestOfBoth}
+use Rattle.plotter_pens.specs.declared.Choice.the-variants.{UsedUp, Refused}
+use Rattle.plotter_pens.specs.Pens.{LentDrawing, rangeIn, waits, noPath, nearerPath, offered, nearestIn, nearestOfBoth, lengthsGood, bothStartWell, numbersFinite, pickOf}
 use Rattle.plotter_pens.specs.EachOnce.{pathCount}
-use Rattle.plotter_pens.specs.FirstNearest.{waitsAt, pathDistance, FirstOfNearest, PicksFirstNearest, WholePath, PicksWholePath}
+use Rattle.plotter_pens.specs.FirstNearest.{waitsAt, pathDistance, FirstOfNearest, NothingWaits, PicksFirstNearest, WholePath, PicksWholePath}
 use Rattle.plotter_pens.proofs.Scans.{true-false}
-use Rattle.plotter_pens.proofs.Sound.{yard-at, lines-at, Found, pick-holds}
+use Rattle.plotter_pens.proofs.Sound.{yard-at, lines-at, found-waits, none-waits, Found, pick-holds}
+use Rattle.plotter_pens.proofs.Answers.{from-none, pick-2, pick-4, pick-9, pick-near}
 
 -- ---- the least of numbered distances, the first of those that are equal
 module _ (w : ℕ → Bool) (δ : ℕ → Float) where
@@ -170,12 +174,38 @@ module _ (yard lines : LentDrawing) (marks : List ℕ) (pen : Vector) where
       let l : Least w δ (pathCount yard lines) i = rw e at (over-both .least f) in
       record { waiting = l .so; none-nearer = l .none-nearer; none-before = l .none-before }
 
+  -- ---- 15
+  nothing-found : ((j : ℕ) → j < pathCount yard lines → waitsAt yard lines marks j ≡ false) → nearestOfBoth yard lines marks pen .found ≡ false
+  nothing-found none = by (nearestOfBoth yard lines marks pen .found) refl
+    where
+      by : (u : Bool) → nearestOfBoth yard lines marks pen .found ≡ u → nearestOfBoth yard lines marks pen .found ≡ false
+      by true f = let i = found-waits yard lines marks pen f in true-false _ (i .so) (none _ (i .there))
+      by false f = f
+
+  used-up-so : NothingWaits yard lines marks pen → pickOf yard lines marks pen ≡ UsedUp
+  used-up-so h =
+      sym (pick-near yard lines marks pen _ refl (h .lengths) _ refl (h .starts) _ refl (h .numbers) UsedUp
+      (from-none yard lines (nearestOfBoth yard lines marks pen) (nothing-found (h .none-waits))))
+
+  no-refusal : {A : Type 0} (x : Refusal) → Refused x ≡ pickOf yard lines marks pen → pickOf yard lines marks pen ≡ UsedUp → A
+  no-refusal x e f = let z : _≡_ {A = ℕ} 0 1 = cc in absurd (omega arith)
+
+  waits-for-none : (u v w : Bool) → u ≡ lengthsGood yard lines marks → v ≡ bothStartWell yard lines → w ≡ numbersFinite yard lines pen
+      → pickOf yard lines marks pen ≡ UsedUp → NothingWaits yard lines marks pen
+  waits-for-none true true true a b c e =
+      record { lengths = sym a; starts = sym b; numbers = sym c; none-waits = none-waits yard lines marks pen (rw e at (pick-holds yard lines marks pen)) }
+  waits-for-none false v w a b c e = no-refusal _ (pick-2 yard lines marks pen false a refl) e
+  waits-for-none true false w a b c e = no-refusal _ (pick-4 yard lines marks pen true a refl false b refl) e
+  waits-for-none true true false a b c e = no-refusal _ (pick-9 yard lines marks pen true a refl true b refl false c refl) e
+
   pub picks-first-nearest : PicksFirstNearest yard lines marks pen
   picks-first-nearest =
       record {
         of-yard = λ k r e. let h : Found yard lines marks pen k yard k r = rw e at (pick-holds yard lines marks pen) in found-first k (h .found) (h .place);
         of-lines = λ k r e. let h : Found yard lines marks pen (length (yard .starts) + k) lines k r = rw e at (pick-holds yard lines marks pen) in
             found-first (length (yard .starts) + k) (h .found) (h .place);
+        used-up = used-up-so;
+        only-then = waits-for-none _ _ _ refl refl refl;
       }
 
 -- ---- the path is whole

@@ -1,2 +1,3 @@
+pub mod Lost
 pub mod Rings
 pub mod Scenes

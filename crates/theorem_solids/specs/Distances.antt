@@ -1,7 +1,10 @@
--- What document 02 (vi) leaves as it was: operations 0 and 1 answer as document 01 says, and 2 and 3 differ from them in the distance of a hit alone.
+-- Document 02 (vi): operations 0 and 1 answer as document 01 says; 2 and 3 hit and miss where they do, and answer a hit's distance from the first origin.
 use Prim.Native.Nat.{ℕ, zero, suc}
 use mathlib.Core.Path.{_≡_}
-use mathlib.Core.Bool.{Bool, false, not, _||_, cond}
+use mathlib.Core.Bool.{Bool, true, false, not, _||_, cond}
+use mathlib.Core.List.{List, [], _∷_, foldl}
+use lib.Ieee.{Float}
+use Rattle.floats.specs.Arith.{_⊕_, zeroF, hundredth}
 use Rattle.geometry.specs.Rays.{position}
 use Rattle.geometry.specs.Hits.{isOk}
 use Rattle.geometry.specs.declared.vector.Vector.{Vector}
@@ -32,6 +35,33 @@ pub record LastRay (a b : Shape) (r : Ray) : Type 0 where
   pub intersection : shapeHit (cut Intersection a b) r ≡ lastHit Intersection a b r
   pub difference : shapeHit (cut Difference a b) r ≡ lastHit Difference a b r
 
+-- ---- the distance from the first origin
+-- the t of each hit that a cut rejects, in order, with so many restarts left
+unfoldable pub rejectedOr : (Ray → List Float) → (Vector → Bool) → Ray → Struck → List Float
+rejectedOr again inside r (Refused n) = []
+rejectedOr again inside r (At h) = cond (not (isOk h) || inside (position r (h .t))) [] (h .t ∷ again (restarted r (h .t)))
+
+unfoldable pub rejectedFrom : ℕ → (Ray → Struck) → (Ray → Struck) → (Vector → Bool) → Ray → List Float
+rejectedFrom zero a b inside r = rejectedOr (λ _. []) inside r (both (a r) (b r))
+rejectedFrom (suc n) a b inside r = rejectedOr (rejectedFrom n a b inside) inside r (both (a r) (b r))
+
+abbrev pub rejectedHits : Op → Shape → Shape → Ray → List Float
+rejectedHits o a b = rejectedFrom 64 (shapeHit a) (shapeHit b) (cutContains o (shapeContains a) (shapeContains b))
+
+-- "the sum of (t + 0.01) over all restarts in order"
+unfoldable pub restartSum : List Float → Float
+restartSum ts = foldl (λ (sum t : Float). sum ⊕ (t ⊕ hundredth)) zeroF ts
+
+-- ".. then plus the last t; where the last is a miss (ok false), it is returned unchanged"
+unfoldable pub plusRestarts : List Float → Struck → Struck
+plusRestarts ts (At h) = At (cond (h .ok) (record { t = restartSum ts ⊕ h .t; ok = true }) h)
+plusRestarts ts (Refused k) = Refused k
+
+-- Of the same parts, operation 2 answers what 0 does, and 3 what 1 does, with that sum over the hits rejected on the way.
+pub record TrueDistance (a b : Shape) (r : Ray) : Type 0 where
+  pub intersection : shapeHit (cut TrueIntersection a b) r ≡ plusRestarts (rejectedHits Intersection a b r) (shapeHit (cut Intersection a b) r)
+  pub difference : shapeHit (cut TrueDifference a b) r ≡ plusRestarts (rejectedHits Difference a b r) (shapeHit (cut Difference a b) r)
+
 -- the same answer but for the t of a hit; a miss, or a refusal, is the same
 abbrev pub ButForDistance : Struck → Struck → Type 0
 ButForDistance (At h) (At g) = (h .ok ≡ g .ok) × (h .ok ≡ false → h ≡ g)
@@ -39,7 +69,7 @@ ButForDistance (At h) (Refused k) = ⊥
 ButForDistance (Refused k) (At g) = ⊥
 ButForDistance (Refused k) (Refused m) = k ≡ m
 
--- Of the same parts, operation 2 answers as 0 and 3 as 1, but for the distance of a hit.
+-- So operation 2 answers as 0 and 3 as 1, but for the distance of a hit.
 pub record TrueCutAlike (a b : Shape) (r : Ray) : Type 0 where
   pub intersection : ButForDistance (shapeHit (cut Intersection a b) r) (shapeHit (cut TrueIntersection a b) r)
   pub difference : ButForDistance (shapeHit (cut Difference a b) r) (shapeHit (cut TrueDifference a b) r)
