@@ -1,15 +1,23 @@
 /* The calls that libhost.a exports (`rt staticlib host`), the preview of libhost_preview.a, and at the end those of
    libhost_text.a, libhost_plotter.a and libhost_merge.a. `tools/house` holds these declarations to the crates of these
-   names, type by type. The pointers must not be null, not even those of no elements, and what is filled must overlap
-   neither what is read nor anything else that is filled. Matrices stand by rows.
+   names, type by type. Matrices stand by rows.
 
-   Stack, measured (docs/MEASURES.md): larnt_draw and larnt_draw_with need about 216 KB for local arrays, larnt_build
-   198 KB, and 512 bytes for each level of the tree, at most 1,023 levels, so 740 KB at most.
-   larnt_own_hit, larnt_own_contains, larnt_intersect, larnt_visible, larnt_occluder, larnt_covered and
-   larnt_covered_all need about 200 KB, larnt_check 10 KB.
-   larnt_chop and larnt_simplify need 4 KB and larnt_outline 13 KB, however long the paths are. larnt_preview,
-   larnt_merge, larnt_write and larnt_canonical were not measured: the first works as larnt_draw_with does, the others
-   have the local arrays of a check, about 200 KB, and larnt_canonical those of a yard's text besides. */
+   Conditions, which no call can test:
+   - No pointer is null, not even one of no elements; each is aligned, and has as many elements behind it as its count or
+     its array says.
+   - What is lent is initialised, also what is only filled, and a `bool` that is lent holds 0 or 1: the contracts are
+     about the values that stand there before a call.
+   - What is filled overlaps neither what is read nor anything else that is filled, and nobody else writes to what is lent
+     while a call runs. The calls keep nothing between them, so threads may call at once.
+   - Floating point is as a program starts with it: rounding to nearest, subnormal numbers kept.
+   - C converts an argument to the type of its parameter without a word, so a caller that has wider numbers tests them
+     first: 260 as a byte of the plotter is 4, a go.
+
+   Stack, measured (docs/MEASURES.md): larnt_draw and larnt_draw_with need about 241 KB for local arrays, larnt_preview
+   247 KB, larnt_build 198 KB, and 512 bytes for each level of the tree, at most 1,023 levels, so 759 KB at most.
+   larnt_own_hit, larnt_own_contains, larnt_intersect, larnt_visible, larnt_occluder, larnt_covered, larnt_covered_all,
+   larnt_merge and larnt_write need about 200 KB, larnt_check 10 KB, larnt_canonical 340 KB.
+   larnt_chop and larnt_simplify need 4 KB and larnt_outline 29 KB, however long the paths are. */
 #ifndef LARNT_H
 #define LARNT_H
 
@@ -101,8 +109,9 @@ uint32_t larnt_solid_contains(uint32_t kind, const double numbers[16], const dou
    (detail 0 intersection, 1 difference, which answer the t of the last ray as the Rust does; 2 and 3 the same
    with the true distance, from a ray's first origin). The detail of kind 4 is its stripes, 1 to 1,000; that of
    kinds 2, 3, 8 and 9 is the stripe count, 0 to 360: a line at each (360 / count, rounded down) degrees, before the
-   handed-in ones, 0 for these only. Three numbers a point; a path has a start, in points, and an owner, an
-   entry of kinds 1 to 3, 8 or 9. */
+   handed-in ones; 0 for none. A solid of kinds 1 to 3, 8 or 9 that has neither stripes nor a handed-in line is drawn with
+   its outline (larnt_outline); a line without points is one too. Three numbers a point; a path has a start, in points, and
+   an owner, an entry of kinds 1 to 3, 8 or 9. */
 #define LARNT_SCENE \
     const double *numbers, size_t numbers_count, const uint32_t *marks, size_t marks_count, \
     const double *points, size_t points_count, const size_t *starts, size_t starts_count, \
@@ -180,11 +189,12 @@ uint32_t larnt_chop(const double view[22], const double *points, size_t points_c
 /* The outline that a draw's first step adds for a round solid that has neither stripes nor handed-in lines, in the
    solid's own coordinates: rings, then lines. The solid is one of kinds 1 to 5, 8 or 9 with its 16 numbers, as above
    (cubes and triangles have no outline). `eye` is the eye as the solid sees it, taken back through each placing's
-   inverse, outermost first; `place` is the product of the placings' matrices, outermost first, from the identity on;
-   the view is the draw's own, as for larnt_chop. Fills paths as larnt_chop does. 3 for any other kind, 8 for the
-   view, 13; the numbers of the solid, of `eye` and of `place` are not judged. */
-uint32_t larnt_outline(uint32_t kind, const double numbers[16], const double eye[3], const double place[16],
-                       const double view[22], LARNT_PATHS);
+   inverse, outermost first; `placings` are the matrices of the placings around it, innermost first, 16 numbers each,
+   so none for a solid that is not placed; the view is the draw's own, as for larnt_chop. Fills paths as larnt_chop
+   does. 2 where `placings_count` is no multiple of 16, 3 for any other kind, 4 for more than 7 placings, 8 for the
+   view, 13; the numbers of the solid, of `eye` and of `placings` are not judged. */
+uint32_t larnt_outline(uint32_t kind, const double numbers[16], const double eye[3], const double *placings,
+                       size_t placings_count, const double view[22], LARNT_PATHS);
 
 /* The paths simplified. */
 uint32_t larnt_simplify(const double *points, size_t points_count, const size_t *starts, size_t starts_count,
@@ -212,7 +222,9 @@ uint32_t larnt_draw_with(LARNT_SCENE, const double view[22], double threshold, d
 
 /* The preview that libhost_preview.a exports (`rt staticlib host_preview`): the answer of larnt_draw_with and its
    counts, for `out` of out_len numbers and `begins` of begins_len starts, neither of which is lent. It works in what
-   a draw works in, and that is zeros afterwards. To learn how many places a draw needs, ask with SIZE_MAX. */
+   a draw works in, and that is zeros afterwards. To learn how many places a draw needs, ask with SIZE_MAX; then lend
+   three numbers a point, and one start more than it counts paths: at step 0 a path that vanishes takes a start until it
+   does, and a draw with only as many starts as paths are left may meet 13. At a step above 0 the counts are enough. */
 uint32_t larnt_preview(LARNT_SCENE, const double view[22], double threshold, size_t out_len, size_t begins_len,
                        double *work, size_t work_count, size_t *work_starts, size_t work_starts_count,
                        double *chopped, size_t chopped_count, size_t *chopped_starts, size_t chopped_starts_count,
@@ -222,14 +234,16 @@ uint32_t larnt_preview(LARNT_SCENE, const double view[22], double threshold, siz
 /* Canonical text: the calls that libhost_text.a exports (`rt staticlib host_text`).
 
    Writes a view and a scene as forms: the view's line, then one line for each drawn entry in order; counts and
-   operations in decimal, every other number as # and 16 upper-case digits, a round solid's count of 0 left out. The text
-   is followed by zeros; `count` becomes how many bytes it has. Answers 0, or the number of the refusal: 2 to 7 or 14
-   for the scene, 8 for the view, 13 where `text` is too short; `text` is then zeros throughout, and `count` 0. */
+   operations in decimal, every other number as # and 16 upper-case digits, a round solid's count of 0 left out. A NaN,
+   which only a point of a line may be, is #7FF8000000000000 whatever its bits are. The text is followed by zeros;
+   `count` becomes how many bytes it has. Answers 0, or the number of the refusal: 2 to 7 or 14 for the scene, 8 for the
+   view, 13 where `text` is too short; `text` is then zeros throughout, and `count` 0. */
 uint32_t larnt_write(LARNT_SCENE, const double view[22], uint8_t *text, size_t text_count, size_t *count);
 
 /* What the program `canonical` answers a yard's text: the same in canonical form, or "(refused N)" and a line feed,
-   followed by zeros. Answers how many bytes that is; N is 13 where `out` is too short for the text, and the answer 0
-   where it is too short for either. */
+   followed by zeros. An accepted text that is in that form already is printed as it came; one with a NaN of other bits
+   than #7FF8000000000000 is not in that form. Answers how many bytes that is; N is 13 where `out` is too short for the
+   text, and the answer 0 where it is too short for either. */
 size_t larnt_canonical(const uint8_t *text, size_t text_count, uint8_t *out, size_t out_count);
 
 /* The plotter's registers: the calls that libhost_plotter.a exports (`rt staticlib host_plotter`), declared in
@@ -246,7 +260,8 @@ typedef struct {
 
 /* Writes one byte. Answers 0, or the number of the refusal, and then nothing changes: 16 for bytes 1 and 7 and
    past byte 7, 17 for a command that is not 1 to 4 and for any while busy. A go past 8,410 in X or 5,940 in Y
-   answers 0 too: it sets bit 2 and moves nothing. A write to the mask clears pending. */
+   answers 0 too: it sets bit 2 and moves nothing. A write to the mask clears pending. A value outside 0 to 255 is none
+   of these refusals: C has made a byte of it before the call (see the conditions at the top). */
 uint32_t larnt_plotter_write(larnt_registers *registers, size_t at, uint8_t value);
 
 /* One step: while busy each axis moves one tenth toward the target; on arrival busy clears, and bit 0 of pending
@@ -469,7 +484,8 @@ static inline uint32_t larnt_scene_draw_with(const larnt_scene *scene, const dou
 }
 
 /* How many points and paths larnt_scene_draw_with leaves in `out` where that has room for them (libhost_preview.a): the
-   counts of `out` are filled, and nothing else of it is looked at, so a caller may size it by them. */
+   counts of `out` are filled, and nothing else of it is looked at. A caller may size it by them: points_room is
+   points_count, and paths_room one more than paths (larnt_preview says why). */
 static inline uint32_t larnt_scene_preview(const larnt_scene *scene, const double view[22], double threshold,
                                            larnt_paths *out, larnt_work *work)
 {
@@ -501,9 +517,11 @@ static inline uint32_t larnt_scene_write(const larnt_scene *scene, const double 
 
 /* The outline of one solid. */
 static inline uint32_t larnt_lines_outline(uint32_t kind, const double numbers[16], const double eye[3],
-                                           const double place[16], const double view[22], larnt_paths *out)
+                                           const double *placings, size_t placings_count, const double view[22],
+                                           larnt_paths *out)
 {
-    return larnt_outline(kind, numbers, eye, place, view, LARNT_OF_ROOM(out), &out->points_count, &out->paths);
+    return larnt_outline(kind, numbers, eye, LARNT_SLICE(const double, placings, placings_count), view,
+                         LARNT_OF_ROOM(out), &out->points_count, &out->paths);
 }
 
 /* `marks` has one byte a path, the yard's first. */

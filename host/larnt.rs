@@ -45,7 +45,8 @@ pub mod raw {
             kind: u32,
             numbers: &[f64; 16],
             eye: &[f64; 3],
-            place: &[f64; 16],
+            placings: *const f64,
+            placings_count: usize,
             view: &[f64; 22],
             out: *mut f64,
             out_count: usize,
@@ -614,12 +615,12 @@ pub fn chop(
 }
 
 /// The same of the outline that step 1 of a draw adds for a solid without lines, in its own coordinates: by the eye
-/// there, the product of its placings, and the draw's view.
+/// there, the placings around it, innermost first, 16 numbers each, and the draw's view.
 pub fn outline(
     kind: u32,
     numbers: &[f64; 16],
     eye: &[f64; 3],
-    place: &[f64; 16],
+    placings: &[f64],
     view: &[f64; 22],
     out: &mut [f64],
     begins: &mut [usize],
@@ -630,7 +631,8 @@ pub fn outline(
             kind,
             numbers,
             eye,
-            place,
+            placings.as_ptr(),
+            placings.len(),
             view,
             out.as_mut_ptr(),
             out.len(),
@@ -751,7 +753,7 @@ pub fn canonical(text: &[u8], out: &mut [u8]) -> usize {
     unsafe { raw::larnt_canonical(text.as_ptr(), text.len(), out.as_mut_ptr(), out.len()) }
 }
 
-/// The same simplified with a threshold; a sheet in fine detail passes 1e-6.
+/// Fills the drawing simplified with a threshold; a sheet in fine detail passes 1e-6.
 pub fn draw_with(
     s: Scene,
     view: &[f64; 22],
@@ -764,7 +766,8 @@ pub fn draw_with(
     on_work!(larnt_draw_with, s, work, view, threshold, p, out.len(), q, begins.len())
 }
 
-/// How many points and paths `draw_with` would fill of `out` numbers and `begins` starts, or its number.
+/// How many points and paths `draw_with` would fill of `out` numbers and `begins` starts, or its number. A draw that is lent
+/// what is counted needs one start more: at step 0 a path that vanishes has one until it does.
 pub fn preview(
     s: Scene,
     view: &[f64; 22],

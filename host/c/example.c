@@ -5,9 +5,10 @@
        cc -std=c99 -Wall -Wextra -O2 -Ihost host/c/example.c target/staticlib/libhost.a target/staticlib/libhost_preview.a -o target/example
        target/example < examples/silos.yard
 
-   The reader takes what `yard` takes, and a little more: a form may go over several lines, and there is no limit on
-   how much it reads. What a draw works in grows until a preview finds it enough, and the drawing is lent the places that
-   this counts. */
+   It prints what `yard` prints, so it passes the threshold of a sheet in fine detail itself: larnt_scene_draw has the
+   coarser one by default. The reader takes what `yard` takes, and a little more: a form may go over several lines, and
+   there is no limit on how much it reads. What a draw works in grows until a preview finds it enough, and the drawing is
+   lent the places that this counts, and one start more. */
 #include <inttypes.h>
 #include <stdio.h>
 #include <stdlib.h>
@@ -26,14 +27,24 @@ static void refuse(uint32_t number)
     exit(1);
 }
 
-static void *room_for(void *old, size_t count, size_t size)
+static void *taken(void *memory)
 {
-    void *taken = realloc(old, count * size);
-    if (taken == NULL) {
+    if (memory == NULL) {
         fprintf(stderr, "no memory\n");
         exit(2);
     }
-    return taken;
+    return memory;
+}
+
+static void *room_for(void *old, size_t count, size_t size)
+{
+    return taken(realloc(old, count * size));
+}
+
+/* Room that is lent to the library, which wants it initialised. */
+static void *zeros(size_t count, size_t size)
+{
+    return taken(calloc(count > 0 ? count : 1, size));
 }
 
 #define LIST(type) struct { type *at; size_t count, room; }
@@ -66,13 +77,16 @@ static void bracket(char which)
     at++;
 }
 
-/* The next word, as long as a number or a head can be. */
+/* The next word, as long as a number or a head can be; of the zeros before a decimal's other digits one is kept. */
 static void word(char into[24])
 {
     size_t n = 0;
     next();
-    while (*at != '\0' && strchr(" \n()", *at) == NULL && n < 23)
+    while (*at != '\0' && strchr(" \n()", *at) == NULL && n < 23) {
+        if (n > 0 && into[n - 1] == '0' && (n == 1 || (n == 2 && into[0] == '-')) && *at >= '0' && *at <= '9')
+            n--;
         into[n++] = *at++;
+    }
     into[n] = '\0';
 }
 
@@ -206,18 +220,19 @@ static uint32_t draw(const larnt_scene *scene, const double view[LARNT_VIEW_NUMB
     larnt_work work = {.room = n, .tree = {.nodes = larnt_tree_nodes(scene->entries)}};
     uint32_t answer;
 
-    work.work = room_for(NULL, LARNT_WORK_SLICES * LARNT_POINT_NUMBERS * n, sizeof *work.work);
-    work.work_starts = room_for(NULL, LARNT_WORK_SLICES * n, sizeof *work.work_starts);
-    work.chopped = room_for(NULL, LARNT_POINT_NUMBERS * n, sizeof *work.chopped);
-    work.chopped_starts = room_for(NULL, n, sizeof *work.chopped_starts);
-    work.tree.boxes = room_for(NULL, LARNT_NODE_NUMBERS * work.tree.nodes, sizeof *work.tree.boxes);
-    work.tree.marks = room_for(NULL, LARNT_NODE_MARKS * work.tree.nodes, sizeof *work.tree.marks);
-    work.tree.order = room_for(NULL, work.tree.nodes, sizeof *work.tree.order);
+    work.work = zeros(LARNT_WORK_SLICES * LARNT_POINT_NUMBERS * n, sizeof *work.work);
+    work.work_starts = zeros(LARNT_WORK_SLICES * n, sizeof *work.work_starts);
+    work.chopped = zeros(LARNT_POINT_NUMBERS * n, sizeof *work.chopped);
+    work.chopped_starts = zeros(n, sizeof *work.chopped_starts);
+    work.tree.boxes = zeros(LARNT_NODE_NUMBERS * work.tree.nodes, sizeof *work.tree.boxes);
+    work.tree.marks = zeros(LARNT_NODE_MARKS * work.tree.nodes, sizeof *work.tree.marks);
+    work.tree.order = zeros(work.tree.nodes, sizeof *work.tree.order);
     answer = larnt_scene_preview(scene, view, FINE, &drawing, &work);
-    if (answer == LARNT_DONE && drawing.paths > 0) {
-        drawing.points_room = drawing.points_count, drawing.paths_room = drawing.paths;
-        drawing.points = room_for(NULL, LARNT_POINT_NUMBERS * drawing.points_room, sizeof *drawing.points);
-        drawing.starts = room_for(NULL, drawing.paths_room, sizeof *drawing.starts);
+    if (answer == LARNT_DONE) {
+        drawing.points_room = drawing.points_count;
+        drawing.paths_room = drawing.paths + 1; /* at step 0 a path that vanishes has a start until it does */
+        drawing.points = zeros(LARNT_POINT_NUMBERS * drawing.points_room, sizeof *drawing.points);
+        drawing.starts = zeros(drawing.paths_room, sizeof *drawing.starts);
         answer = larnt_scene_draw_with(scene, view, FINE, &drawing, &work);
     }
     if (answer == LARNT_DONE)

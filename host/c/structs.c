@@ -154,7 +154,7 @@ static void paths(void)
 
     const double ball[16] = {0, 0, 0, 1}, placed[16] = {1, 0, 0, 0, 0, 1, 0, 0, 0, 0, 1, 0, 0, 0, 0, 1};
     room(&b), out = room(&a);
-    x = larnt_lines_outline(LARNT_SPHERE, ball, eye, placed, view, &out), y = larnt_outline(LARNT_SPHERE, ball, eye, placed, view, OUT);
+    x = larnt_lines_outline(LARNT_SPHERE, ball, eye, placed, 16, view, &out), y = larnt_outline(LARNT_SPHERE, ball, eye, placed, 16, view, OUT);
     drawn("outline", x, y, &out);
     if (out.paths != 1 || out.points_count < 4)
         printf("the outline has %zu points\n", out.points_count), exit(1);

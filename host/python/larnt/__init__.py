@@ -15,6 +15,7 @@ program `yard`; `python3 -m larnt sheet` makes sheets.
 from . import forms, hidden, matrices, sheets, texts
 from .camera import Camera, View
 from .drawing import Drawing
+from .lengths import distance, length, sqrt
 from .library import Missing
 from .plotter import Plotter, pick, ways
 from .refusals import WORDS, Refused
@@ -23,5 +24,5 @@ from .solids import BY_CORE, DIFFERENCE, INTERSECTION, NO_LINES, Cone, Cube, Cut
 
 __all__ = (
     "BY_CORE COARSE DIFFERENCE FINE INTERSECTION MOST_POINTS NO_LINES WORDS Camera Cone Cube Cut Cylinder Drawing Missing Operation Part "
-    "Placed Plotter Refused Rounded Scene Solid Sphere Triangle Turned View forms hidden matrices pick pipe sheets texts ways"
+    "Placed Plotter Refused Rounded Scene Solid Sphere Triangle Turned View distance forms hidden length matrices pick pipe sheets sqrt texts ways"
 ).split()

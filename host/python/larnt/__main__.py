@@ -12,7 +12,7 @@ import time
 import webbrowser
 from typing import Any, Callable, Dict, List, Optional, Sequence, Tuple
 
-from . import forms, library, matrices, outlines, progress, scene, sheets, solids, texts, turn
+from . import diagnosis, forms, library, matrices, outlines, progress, scene, sheets, solids, texts, turn
 from .camera import Camera, View
 from .drawing import Drawing
 from .library import Missing
@@ -43,7 +43,9 @@ def arguments(given: Optional[Sequence[str]]) -> argparse.Namespace:
     add("--outlines", choices=OUTLINES, help="round solids: the lines of the text kept as they stand (default), with rings rounded as fine as the step (default where "
         "that is finer than the text's), with those that were made for its eye turned to this one (default where the eye is moved), an outline where lines are "
         "missing, an outline for all in place of their lines, or the core's own outlines, which lie in the surface")
-    add("--threshold", type=float, default=scene.FINE, help="of simplification (default %(default)g; 1e-4 for fewer vertices)")
+    detail = sheet.add_mutually_exclusive_group()
+    detail.add_argument("--fine", dest="threshold", action="store_const", const=scene.FINE, default=scene.COARSE, help="a sheet in fine detail, simplified with %(const)g, as `yard` draws it")
+    detail.add_argument("--threshold", type=float, default=scene.COARSE, help="of simplification (default %(default)g; less keeps more vertices)")
     add("--most-points", type=int, default=scene.MOST_POINTS, metavar="N", help="the most room that a draw is lent (default %(default)s)")
     add("--paper", default="A4", help="A0 to A5, or WIDTHxHEIGHT in millimetres (default A4, landscape)")
     add("--portrait", action="store_true", help="the paper upright")
@@ -243,7 +245,7 @@ def made(options: argparse.Namespace, text: str, sheet: Sheet) -> None:
     try:
         drawing = drawn(of, view, options)
     except Refused as refusal:
-        if refusal.number == 8 and view is yard.view and yard.view_at:
+        if refusal.number == 8 and view is yard.view and yard.view_at and any(diagnosis.view_troubles(view, None)):
             refusal.line, refusal.column = yard.view_at
         raise
     if sheet.title and not sheet.notes:

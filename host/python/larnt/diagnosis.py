@@ -118,7 +118,8 @@ def troubles(number: int, solid: Solid) -> Iterator[str]:
     if number == 11:
         yield "a look past this cut restarts more than 64 times"
     if number == 14:
-        yield f"the stripe count is {solids.detail(solid):,}, and 360 is the most"
+        stripes = solids.detail(solid)
+        yield f"the stripe count is {stripes:,}, and {'360 is the most' if stripes > 0 else 'must not be negative'}"
 
 
 def measure_troubles(solid: Solid) -> Iterator[str]:

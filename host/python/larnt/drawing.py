@@ -9,6 +9,9 @@ from typing import List
 from .matrices import Vector
 
 
+PATH = re.compile(r"\(path(?: \(#[0-9A-F]{16} #[0-9A-F]{16} #[0-9A-F]{16}\))+\)")
+
+
 def bits(x: float) -> str:
     """An f64 as # and 16 digits."""
     return "#" + struct.pack(">d", x).hex().upper()
@@ -39,8 +42,11 @@ def read(text: str, width: float, height: float) -> Drawing:
     """The drawing of a text that `yard` printed."""
     lines = text.splitlines()
     head = re.fullmatch(r"\(drawing (\d+)\)", lines[0]) if lines else None
-    if not head or int(head[1]) != len(lines) - 1:
+    if not head or int(head[1]) != len(lines) - 1 or not text.endswith("\n"):
         raise ValueError(f"no drawing: {text[:40].strip()}")
+    cut = next((k for k, line in enumerate(lines[1:], 2) if not PATH.fullmatch(line)), None)
+    if cut:
+        raise ValueError(f"line {cut} of the drawing is no path")
 
     def point(words: str) -> Vector:
         x, y, z = (struct.unpack(">d", bytes.fromhex(word[1:]))[0] for word in words.split())

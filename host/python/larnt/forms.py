@@ -96,9 +96,9 @@ class Line:
     def count_of(self, what: str) -> int:
         column = self.column()
         word = self.word(what)
-        if not re.fullmatch("[0-9]+", word) or int(word) > 1_000_000:
+        if not re.fullmatch("0*[0-9]{1,7}", word) or float(word) > 1_000_000:
             raise self.refused(f"{what} is {word!r}, and must be a whole decimal up to 1,000,000 without sign", column)
-        return int(word)
+        return int(float(word))
 
     def numbers(self, what: Sequence[str]) -> List[float]:
         return [self.number_of(name) for name in what]
@@ -107,8 +107,8 @@ class Line:
 def number_in(word: str) -> Optional[float]:
     if re.fullmatch("#[0-9A-Fa-f]{16}", word):
         return struct.unpack(">d", bytes.fromhex(word[1:]))[0]
-    if re.fullmatch("-?[0-9]+", word) and abs(int(word)) <= 1_000_000:
-        return float(int(word))
+    if re.fullmatch("-?0*[0-9]{1,7}", word) and abs(float(word)) <= 1_000_000:  # int() gives up at 4,300 digits
+        return float(word) + 0.0
     return None
 
 

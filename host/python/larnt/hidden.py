@@ -12,10 +12,10 @@ from typing import Dict, Iterator, List, Optional, Sequence, Tuple
 
 from . import library, matrices
 from .camera import View
-from .matrices import Vector
+from .matrices import Matrix, Vector
 from .refusals import Refused
 from .scene import Part, Scene, Slices, rows_of, slots
-from .solids import Cone, Cube, Cut, Cylinder, Round, Solid, Triangle, detail, parts, true_distance
+from .solids import Cone, Cube, Cut, Cylinder, Placed, Round, Solid, Triangle, detail, parts, true_distance
 
 Spot = Tuple[float, float]
 OUTLINE = 4096  # more points than an outline of the core has: two rings of 1,025, and two lines
@@ -68,26 +68,39 @@ def cube_lines(cube: Cube) -> Iterator[List[Vector]]:
             yield [(x, y, z), (x, v, z)]
 
 
-def core_outline(made: Slices, entry: int, view: View) -> List[List[Vector]]:
-    """The outline that a draw makes of a round solid with neither lines nor stripes."""
+def placings(made: Slices) -> List[List[Matrix]]:
+    """Of each entry the matrices of the placings around it, innermost first."""
+    around: List[List[Matrix]] = [[] for _ in made.entries]
+    for entry, solid in reversed(list(enumerate(made.entries))):  # parts are earlier
+        inner = [solid.matrix, *around[entry]] if isinstance(solid, Placed) else around[entry]
+        for k, _ in enumerate(parts(solid)):
+            around[made.marks[4 * entry + 2 + k]] = inner
+    return around
+
+
+def core_outline(made: Slices, entry: int, around: List[Matrix], view: View) -> List[List[Vector]]:
+    """The outline that a draw makes of a round solid with neither lines nor stripes, within these placings."""
+    eye = view.eye
     try:
-        eye = matrices.placed(matrices.inverse(made.worlds[entry]), view.eye)
+        for matrix in reversed(around):
+            eye = matrices.placed(matrices.inverse(matrix), eye)
     except ValueError:  # a placing that Python finds no inverse of
         return []
     out, begins, points, paths = slots(c_double, 3 * OUTLINE), slots(c_size_t, OUTLINE), c_size_t(), c_size_t()
-    asked = [made.numbers[16 * entry : 16 * entry + 16], eye, matrices.flat(made.worlds[entry]), view.numbers()]
-    library.host().larnt_outline(made.marks[4 * entry], *map(library.numbers, asked), *out, *begins, byref(points), byref(paths))
+    solid, flat = made.numbers[16 * entry : 16 * entry + 16], [x for matrix in around for x in matrices.flat(matrix)]
+    asked = [*map(library.numbers, (solid, eye, flat)), len(flat), library.numbers(view.numbers())]
+    library.host().larnt_outline(made.marks[4 * entry], *asked, *out, *begins, byref(points), byref(paths))
     return rows_of(out[0][: 3 * points.value], begins[0][: paths.value])
 
 
 def every_line(made: Slices, view: View) -> Iterator[Tuple[int, List[Vector]]]:
     """Each line, hidden or not, with its entry, in the entry's coordinates."""
     yield from zip(made.owners, rows_of(made.points, made.starts))
-    lined = set(made.owners)
+    lined, around = set(made.owners), placings(made)
     for entry, solid in enumerate(made.entries):
         yield from ((entry, line) for line in own_lines(solid))
         if isinstance(solid, Round) and entry not in lined and not detail(solid):
-            yield from ((entry, line) for line in core_outline(made, entry, view))
+            yield from ((entry, line) for line in core_outline(made, entry, around[entry], view))
 
 
 def passing(made: Slices, view: View, at: Spot, within: float) -> Iterator[Near]:

@@ -7,11 +7,13 @@ from __future__ import annotations
 
 import ctypes
 import functools
+import operator
 import os
 import pathlib
 import subprocess
+import threading
 from array import array
-from ctypes import POINTER, c_bool, c_double, c_size_t, c_uint8, c_uint16, c_uint32
+from ctypes import POINTER, c_bool, c_double, c_int64, c_size_t, c_uint8, c_uint16, c_uint32
 from typing import Callable, Sequence
 
 ENTRIES = 1024  # the most entries of a scene
@@ -21,18 +23,22 @@ NOBODY = 0xFFFFFFFF  # the entry that is named where none is
 NUMBERS, MARKS, PLACES, BYTES = ([POINTER(kind), c_size_t] for kind in (c_double, c_uint32, c_size_t, c_uint8))
 SCENE = NUMBERS + MARKS + NUMBERS + PLACES + MARKS
 TREE = NUMBERS + MARKS + MARKS
-COUNT, FLAG, ROW = POINTER(c_size_t), POINTER(c_bool), POINTER(c_double)
+COUNT, FLAG, ROW, REST = POINTER(c_size_t), POINTER(c_bool), POINTER(c_double), POINTER(c_int64)
 WORK = NUMBERS + PLACES + NUMBERS + PLACES + NUMBERS + MARKS + MARKS + [COUNT, COUNT]
 
 HOST = {
+    "larnt_sqrt": [c_double, REST],
+    "larnt_length": [ROW, REST],
+    "larnt_distance": [ROW, ROW, REST],
     "larnt_check": SCENE + [ROW, ROW, POINTER(c_uint32), COUNT],
     "larnt_own_contains": SCENE + [c_size_t, ROW, c_double, FLAG],
     "larnt_build": SCENE + TREE + [COUNT],
     "larnt_intersect": SCENE + TREE + [ROW, ROW, FLAG, POINTER(c_uint32)],
     "larnt_visible": SCENE + TREE + [ROW, ROW, FLAG],
     "larnt_occluder": SCENE + TREE + [ROW, ROW, POINTER(c_uint32)],
+    "larnt_covered": SCENE + TREE + [ROW, ROW, FLAG],
     "larnt_covered_all": SCENE + TREE + [ROW] + NUMBERS + BYTES,
-    "larnt_outline": [c_uint32, ROW, ROW, ROW, ROW] + NUMBERS + PLACES + [COUNT, COUNT],
+    "larnt_outline": [c_uint32, ROW, ROW] + NUMBERS + [ROW] + NUMBERS + PLACES + [COUNT, COUNT],
     "larnt_draw_with": SCENE + [ROW, c_double] + NUMBERS + PLACES + WORK,
 }
 
@@ -54,6 +60,9 @@ PLOTTER = {
 }
 
 
+ANSWERS = {"larnt_sqrt": c_double, "larnt_length": c_double, "larnt_distance": c_double, "larnt_plotter_step": None}  # all others a number
+
+
 class Missing(Exception):
     """The library is not there, or could not be made; the message says what to do."""
 
@@ -72,7 +81,7 @@ def shared(name: str) -> pathlib.Path:
     time = archive.stat().st_mtime_ns
     if made.exists() and made.stat().st_mtime_ns == time:
         return made
-    fresh = made.with_suffix(f".{os.getpid()}.so")
+    fresh = made.with_suffix(f".{os.getpid()}.{threading.get_ident()}.so")
     command = [os.environ.get("CC", "cc"), "-shared", "-o", str(fresh), "-Wl,--whole-archive", str(archive), "-Wl,--no-whole-archive", "-Wl,-z,defs"]
     try:
         subprocess.run(command, check=True, capture_output=True, text=True)
@@ -91,13 +100,13 @@ def loaded(name: str, calls: dict) -> ctypes.CDLL:
         if not hasattr(opened, call):
             raise Missing(f"{folder() / f'lib{name}.a'} has no call {call}: run `rt staticlib {name}` anew")
         function = getattr(opened, call)
-        function.argtypes, function.restype = types, c_uint32
+        function.argtypes, function.restype = types, ANSWERS.get(call, c_uint32)
     return opened
 
 
 @functools.lru_cache(maxsize=None)
 def host() -> ctypes.CDLL:
-    """The calls on scenes, trees and draws."""
+    """The calls on roots, scenes, trees and draws."""
     return loaded("host", HOST)
 
 
@@ -122,9 +131,7 @@ def text() -> ctypes.CDLL:
 @functools.lru_cache(maxsize=None)
 def plotter() -> ctypes.CDLL:
     """The pen's way and the plotter's registers."""
-    opened = loaded("host_plotter", PLOTTER)
-    opened.larnt_plotter_step.restype = None
-    return opened
+    return loaded("host_plotter", PLOTTER)
 
 
 def there(archive: Callable[[], ctypes.CDLL]) -> bool:
@@ -141,9 +148,20 @@ def numbers(values: Sequence[float]) -> "ctypes.Array[c_double]":
     return (c_double * max(1, len(values))).from_buffer(array("d", values or [0.0]))
 
 
+def fitting(value: int, bits: int) -> int:
+    """A whole number for a place of so many bits without sign. ctypes keeps the low bits of one that does not fit, without a
+    word: here it becomes the greatest that fits, which the library turns away by its own number, as it does each that is
+    too large."""
+    greatest = (1 << bits) - 1
+    value = operator.index(value)
+    return value if 0 <= value <= greatest else greatest
+
+
 def marks(values: Sequence[int]) -> "ctypes.Array[c_uint32]":
-    return (c_uint32 * max(1, len(values)))(*values)
+    """Kinds, details, parts and owners."""
+    return (c_uint32 * max(1, len(values)))(*(fitting(value, 32) for value in values))
 
 
 def places(values: Sequence[int]) -> "ctypes.Array[c_size_t]":
-    return (c_size_t * max(1, len(values)))(*values)
+    """Starts of paths."""
+    return (c_size_t * max(1, len(values)))(*(fitting(value, 64) for value in values))

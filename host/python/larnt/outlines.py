@@ -1,4 +1,4 @@
-"""The outlines of round solids, made by the host, since angles are no business of the core.
+"""The outlines of round solids that the host makes: off the surface, where the core's own lie in it.
 
 An outline stands off its surface a little. The core tests points: a point of an outline that lies on the surface, or
 under it where a chord of a ring cuts the corner, is hidden by the very solid whose outline it is, wherever rounding

@@ -2,6 +2,7 @@
 (libhost_plotter.a, `rt staticlib host_plotter`)."""
 from __future__ import annotations
 
+import operator
 from ctypes import byref, c_bool, c_size_t, c_uint8
 from typing import Iterator, List, Sequence, Tuple
 
@@ -11,6 +12,7 @@ from .matrices import Vector
 from .refusals import Refused
 
 Path = Sequence[Sequence[float]]
+WHOLE = range(2, 7)  # the registers that take every byte: the target and the mask
 
 
 def rows(paths: Sequence[Path]) -> list:
@@ -67,8 +69,14 @@ class Plotter:
         self.registers = library.Registers()
 
     def write(self, at: int, value: int) -> None:
-        """Writes one byte; a `Refused` with 16 or 17 where that is not accepted, and then nothing changes."""
-        answer = library.plotter().larnt_plotter_write(byref(self.registers), at, value)
+        """Writes one byte; a `Refused` with 16 or 17 where that is not accepted, and then nothing changes. What is no byte is
+        judged as one that is not accepted: 16 where there is no register to write, 17 where it is a command; the other
+        registers take every byte, so there it is a ValueError."""
+        at, value = library.fitting(at, 64), operator.index(value)
+        fits = 0 <= value <= 255
+        if at in WHOLE and not fits:
+            raise ValueError(f"a byte is 0 to 255, not {value}")
+        answer = library.plotter().larnt_plotter_write(byref(self.registers), at, value if fits else 0)  # 0 is no command
         if answer:
             raise Refused(answer)
 

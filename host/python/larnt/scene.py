@@ -1,6 +1,7 @@
 """A scene: solids as one thinks of them, handed to the proved library, which draws them and answers for them."""
 from __future__ import annotations
 
+import operator
 from array import array
 from ctypes import byref, c_bool, c_double, c_size_t, c_uint8, c_uint32
 from dataclasses import dataclass
@@ -15,7 +16,7 @@ from .outlines import Outliner
 from .refusals import Refused
 from .solids import POINTS, Cone, Cube, Cut, Cylinder, Placed, Solid, Sphere, Triangle
 
-FINE, COARSE = 1e-6, 1e-4  # thresholds of simplification: of a sheet in fine detail, and of `larnt_draw`
+FINE, COARSE = 1e-6, 1e-4  # thresholds of simplification: of a sheet in fine detail, and of a draw by default
 FIRST_POINTS, MOST_POINTS = 4096, 1 << 21  # the room that a draw is lent at first, and at most
 
 Seen = Union[View, Camera]
@@ -186,7 +187,7 @@ class Scene:
 
     def cut(self, operation: int, first: Union[Part, Solid], second: Union[Part, Solid], *, name: Optional[str] = None) -> Part:
         """What an operation leaves of two parts; parts of this scene are then drawn as the cut alone."""
-        return self.add(Cut(int(operation), self.taken(first), self.taken(second)), name)
+        return self.add(Cut(int(operator.index(operation)), self.taken(first), self.taken(second)), name)
 
     def merge(self, other: "Scene") -> "Scene":
         """One scene of two, the parts of this one first; judged by the library's merge (`libhost_merge.a`)."""
@@ -229,6 +230,12 @@ class Scene:
         self.tree().ask("larnt_occluder", library.numbers(matrices.vector(eye)), library.numbers(matrices.vector(point)), byref(entry))
         return None if entry.value == library.NOBODY else self.tree().slices.drawn[entry.value]
 
+    def is_covered(self, eye: Sequence[float], point: Sequence[float]) -> bool:
+        """Whether a solid covers a point, by a walk that stops at the first: not `visible`, wherever that answers."""
+        seen = c_bool()
+        self.tree().ask("larnt_covered", library.numbers(matrices.vector(eye)), library.numbers(matrices.vector(point)), byref(seen))
+        return not seen.value
+
     def told(self, eye: Sequence[float], points: Sequence[Sequence[float]]) -> bytes:
         """Of many points at once a byte each: 1 seen, 2 not, or the number of the point's own refusal, 9, 11 or 12."""
         tested = [float(x) for p in points for x in matrices.vector(p)]
@@ -268,13 +275,14 @@ class Scene:
 
     # ---- drawing
 
-    def draw(self, seen: Seen, *, threshold: float = FINE, most_points: int = MOST_POINTS) -> Drawing:
-        """The lines that the view sees. What the core works in grows until it suffices, up to `most_points`."""
+    def draw(self, seen: Seen, *, threshold: float = COARSE, most_points: int = MOST_POINTS) -> Drawing:
+        """The lines that the view sees, simplified with a threshold: `FINE` for a sheet in fine detail, as `yard` draws it.
+        What the core works in grows until it suffices, up to `most_points`."""
         view = as_view(seen)
         made = self.lined(view)
         return drawn(made, view, threshold, most_points).drawing(view)
 
-    def preview(self, seen: Seen, *, threshold: float = FINE, most_points: int = MOST_POINTS) -> Tuple[int, int]:
+    def preview(self, seen: Seen, *, threshold: float = COARSE, most_points: int = MOST_POINTS) -> Tuple[int, int]:
         """How many points and paths `draw` would answer, without the drawing; where `libhost_preview.a` is there."""
         view = as_view(seen)
         return fitted(Room.preview, self.lined(view), view, threshold, most_points).counts()
@@ -294,12 +302,13 @@ def fitted(ask: Callable[["Room", Slices, View, float], int], made: Slices, view
 
 def drawn(made: Slices, view: View, threshold: float, most_points: int) -> "Room":
     """The room with the drawing in it. Where the preview is there it finds the room, and the drawing is lent the places
-    that it counts; else the draw itself finds it, with as many places for the drawing as for the chop, which are enough:
+    that it counts and one start more; else the draw itself finds it, with as many places for the drawing as for the chop:
     no stage after the chop adds a point."""
     if not library.there(library.preview):
         return fitted(Room.draw, made, view, threshold, most_points)
     room = fitted(Room.preview, made, view, threshold, most_points)
-    room.lend(*room.counts())
+    points, paths = room.counts()
+    room.lend(points, paths + 1)  # at step 0 a path that vanishes has a start until it does
     answer = room.draw(made, view, threshold)
     if answer:
         raise diagnosis.refused(answer, made, view, threshold, most_points)

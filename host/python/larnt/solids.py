@@ -9,6 +9,7 @@ from __future__ import annotations
 
 import functools
 import math
+import operator
 from dataclasses import dataclass, field, replace
 from enum import IntEnum
 from typing import Callable, Optional, Sequence, Tuple, Union
@@ -160,8 +161,8 @@ def kind(solid: Solid) -> int:
 
 
 def detail(solid: Solid) -> int:
-    """The stripe count, or the cut's operation."""
-    return int(solid.operation if isinstance(solid, Cut) else getattr(solid, "stripes", 0))
+    """The stripe count, or the cut's operation: a whole number, not what int() would make one of."""
+    return int(operator.index(solid.operation if isinstance(solid, Cut) else getattr(solid, "stripes", 0)))
 
 
 def measures(solid: Solid) -> list[float]:

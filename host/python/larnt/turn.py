@@ -22,7 +22,7 @@ from . import diagnosis, hidden, matrices, sheets, solids
 from .camera import Camera, View
 from .progress import STACK
 from .refusals import Refused
-from .scene import FINE, MOST_POINTS, Part, Room, Scene, rooms
+from .scene import COARSE, MOST_POINTS, Part, Room, Scene, rooms
 
 PAGE = pathlib.Path(__file__).with_name("turn.html")
 LARGEST = 4096  # bytes of a question
@@ -49,15 +49,15 @@ class Frames:
     def draw(self, view: View) -> Room:
         """The room with the drawing in it; the caller holds the lock."""
         self.made.outline(view, self.rounds)
-        answer = self.room.draw(self.made, view, FINE) if self.room else 13
+        answer = self.room.draw(self.made, view, COARSE) if self.room else 13
         for points in rooms(self.made, MOST_POINTS) if answer == 13 else ():
             if not self.room or points > self.room.points:
                 self.room = Room(self.made, points)
-                answer = self.room.draw(self.made, view, FINE)
+                answer = self.room.draw(self.made, view, COARSE)
             if answer != 13:
                 break
         if answer:
-            raise diagnosis.refused(answer, self.made, view, FINE, MOST_POINTS)
+            raise diagnosis.refused(answer, self.made, view, COARSE, MOST_POINTS)
         assert self.room
         return self.room
 
@@ -170,7 +170,7 @@ class Handler(http.server.BaseHTTPRequestHandler):
             self.turned_away(404, "no such question")
         elif self.headers.get("Content-Type") != "application/json":
             self.turned_away(415, "a question is JSON")
-        elif not length.isdecimal() or int(length) > LARGEST:
+        elif not length.isdecimal() or len(length) > 9 or int(length) > LARGEST:
             self.turned_away(413, f"a question has {LARGEST:,} bytes at most")
         else:
             self.asked(answer, self.rfile.read(int(length)))
@@ -180,7 +180,7 @@ class Handler(http.server.BaseHTTPRequestHandler):
             kind, said = answer(json.loads(body))
         except Refused as refusal:
             self.turned_away(409, str(refusal))
-        except (ArithmeticError, KeyError, IndexError, TypeError, ValueError) as error:
+        except (ArithmeticError, KeyError, IndexError, RecursionError, TypeError, ValueError) as error:
             self.turned_away(400, f"no question: {error}")
         else:
             self.reply(200, kind, said)

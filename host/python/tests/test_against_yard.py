@@ -1,14 +1,18 @@
-"""The package against the program `yard` on texts with mistakes: the same drawing, or the same refusal."""
+"""The package against the program `yard` on texts with mistakes, and all three hosts on random yards: the same drawing, or
+the same refusal."""
+import pathlib
 import random
 import re
 import subprocess
+import tempfile
 import unittest
 
-from larnt import Refused, forms
+from larnt import library
 
-from . import ROOT, wrong
+from . import wrong
+from .hosts import CARGO, COMPILER, SMALLEST, YARD, compared, hosts, package, printed, yards
 
-YARD = ROOT / "target/bin/yard"
+ARCHIVES = all((library.folder() / f"lib{name}.a").exists() for name in ("host", "host_preview", "host_merge", "host_text", "host_plotter"))
 FORMS = [
     wrong.CUBE,
     "(sphere 0 0 0 1 (line 0 0 1 1 0 0) (line))",
@@ -34,15 +38,6 @@ def changed(rng, text):
     return "".join(tokens)
 
 
-def answered(text):
-    """As `yard` answers; it wants a view."""
-    try:
-        yard = forms.read(text)
-        return yard.scene.draw(yard.view).text() if yard.view else "(refused 1)\n"
-    except Refused as refused:
-        return f"(refused {refused.number})\n"
-
-
 @unittest.skipUnless(YARD.exists(), "the program `yard` is not built (rt check yard)")
 class AgainstYard(unittest.TestCase):
     def test_texts_with_mistakes(self):
@@ -54,8 +49,34 @@ class AgainstYard(unittest.TestCase):
             said = subprocess.run([YARD], input=text.encode(), capture_output=True).stdout.decode()
             met.add(said.split("\n")[0].split(" ")[0] + (said[9:11] if said.startswith("(refused") else ""))
             if said != "(refused 13)\n":  # the package has more room
-                self.assertEqual(answered(text), said, text)
+                self.assertEqual(package(text), said, text)
         self.assertGreater(len(met), 4)
+
+
+@unittest.skipUnless(YARD.exists() and COMPILER and CARGO and ARCHIVES, "the program `yard` is not built, or there is no C compiler, no cargo, or not all five archives")
+class ThreeHosts(unittest.TestCase):
+    """C, Rust and Python draw what `yard` draws, line for line. At step 0 a draw may need a start more than a preview counts."""
+
+    @classmethod
+    def setUpClass(cls):
+        folder = tempfile.TemporaryDirectory()
+        cls.addClassCleanup(folder.cleanup)
+        cls.hosts = hosts(pathlib.Path(folder.name))
+
+    def test_the_smallest_yards_whose_last_path_vanishes_at_step_0(self):
+        for (name, text), said in zip(SMALLEST.items(), ("(drawing 0)", "(drawing 9)")):
+            drawing = printed(YARD)(text)
+            self.assertEqual(drawing.split("\n")[0], said)
+            for host, answer in self.hosts.items():
+                with self.subTest(name, host=host):
+                    self.assertEqual(answer(text), drawing)
+
+    def test_random_yards_at_step_0_and_above(self):
+        met, differing = compared(yards(31), 120, self.hosts)
+        self.assertEqual(differing, [])
+        self.assertEqual((met["yards"], met["at step 0"]), (120, 60))
+        self.assertGreater(met["with a path"], 60)
+        self.assertGreater(met["refused"], 5)
 
 
 if __name__ == "__main__":

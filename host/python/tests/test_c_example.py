@@ -1,5 +1,4 @@
 """host/c: example.c, built and run on the example yards, and structs.c, which compares the header's two layers."""
-import os
 import pathlib
 import re
 import shutil
@@ -12,16 +11,11 @@ from larnt import drawing, forms, library
 from larnt.__main__ import arguments, laid_out, seen_by, with_outlines
 
 from . import EXAMPLES, ROOT, wrong
+from .hosts import COMPILER, built
 from .test_examples import lines_of, picture_options
 from .test_header import declared
 
-COMPILER, CPP = shutil.which(os.environ.get("CC", "cc")), shutil.which("c++")
-
-
-def built(source, program):
-    """Builds by the command that stands in the source, with warnings as errors."""
-    (command,) = re.findall(r"^ +cc (.*) -o target/\w+(?: && \S+)?(?: \*/)?$", (ROOT / source).read_text(), re.M)
-    subprocess.run([COMPILER, *command.split(), "-Werror", "-o", program], cwd=ROOT, check=True)
+CPP = shutil.which("c++")
 
 
 @unittest.skipUnless(COMPILER and library.there(library.preview), "there is no C compiler, or libhost_preview.a is not there")
@@ -58,6 +52,16 @@ class Example(unittest.TestCase):
             if not options:
                 self.assertEqual(self.answer("\n".join(forms).encode()), b"(refused %d)\n" % number)
 
+    def test_zeros_before_a_number(self):
+        """As many as one likes, as in `yard`."""
+        long = [wrong.VIEW, "(cube " + "0" * 30 + "1 -" + "0" * 99 + "1 0 -0 " + "0" * 5000 + "7 1 1)"]
+        short = [wrong.VIEW, "(cube 1 -1 0 0 7 1 1)"]
+        said = self.answer("\n".join(short).encode())
+        self.assertTrue(said.startswith(b"(drawing "))
+        self.assertEqual(self.answer("\n".join(long).encode()), said)
+        for number in ("1" + "0" * 30, "#" + "0" * 30, "00x", "0-1"):
+            self.assertEqual(self.answer(f"{wrong.VIEW}\n(cone 1 {number})".encode()), b"(refused 1)\n")
+
     def test_what_is_no_text(self):
         for text in (b"", b"(view 1 1)", (wrong.VIEW + "\n\0(cube 1 0 0 0 1 1 1)").encode(), (wrong.VIEW + "\n(cube 1 0 0 0 1 1 1").encode()):
             self.assertEqual(self.answer(text), b"(refused 1)\n")
@@ -68,7 +72,7 @@ class Structs(unittest.TestCase):
     @unittest.skipUnless(all(map(library.there, (library.plotter, library.preview, library.merging, library.text))), "one of the five archives is not there")
     def test_each_call_on_structs_is_the_call_under_it(self):
         with tempfile.TemporaryDirectory() as folder:
-            built("host/c/structs.c", folder + "/structs")
+            built("host/c/structs.c", pathlib.Path(folder) / "structs")
             done = subprocess.run([folder + "/structs"], capture_output=True, text=True)
         self.assertEqual((done.returncode, done.stdout), (0, "51 compared\n"))
 

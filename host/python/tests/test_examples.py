@@ -3,11 +3,13 @@ import contextlib
 import io
 import pathlib
 import re
+import subprocess
+import sys
 import tempfile
 import unittest
 from xml.etree import ElementTree
 
-from larnt import drawing, forms, hidden, sheets
+from larnt import FINE, drawing, forms, hidden, sheets
 from larnt.__main__ import main
 
 from . import EXAMPLES, ROOT
@@ -46,11 +48,11 @@ class Examples(unittest.TestCase):
     def test_there_are_examples(self):
         self.assertGreaterEqual(len(EXAMPLES), 10)
 
-    def test_each_drawing_is_the_stored_one(self):
+    def test_each_drawing_in_fine_detail_is_the_stored_one(self):
         for path in EXAMPLES:
             with self.subTest(path.name):
                 yard = yard_of(path)
-                self.assertEqual(yard.scene.draw(yard.view).text(), path.with_suffix(".drawing").read_text())
+                self.assertEqual(yard.scene.draw(yard.view, threshold=FINE).text(), path.with_suffix(".drawing").read_text())
 
     def test_each_text_is_written_as_it_was_read(self):
         for path in EXAMPLES:
@@ -59,13 +61,37 @@ class Examples(unittest.TestCase):
                 self.assertEqual(forms.write(yard.scene, yard.view), path.read_text())
 
 
+class CutShort(unittest.TestCase):
+    """A drawing that was not written to its end is none, wherever it ends."""
+
+    def test_it_is_not_taken_for_whole(self):
+        text = (ROOT / "examples/post.drawing").read_text()
+        self.assertEqual(drawing.read(text, 1, 1).text(), text)
+        for end in range(len(text)):
+            with self.assertRaises(ValueError):
+                drawing.read(text[:end], 1, 1)
+
+    def test_tools_sheet_makes_no_picture_of_it(self):
+        text = (ROOT / "examples/post.drawing").read_bytes()
+        with tempfile.TemporaryDirectory() as folder:
+            made, picture = pathlib.Path(folder) / "a.drawing", pathlib.Path(folder) / "a.svg"
+            command = [sys.executable, ROOT / "tools/sheet", ROOT / "examples/post.yard", made, picture]
+            for end in (0, 12, text.index(b"\n") + 1, len(text) - 60, len(text) - 3, len(text) - 1):
+                made.write_bytes(text[:end])
+                done = subprocess.run(command, capture_output=True, text=True)
+                self.assertEqual((done.returncode, done.stderr[:18], picture.exists()), (1, "sheet: no drawing:", False))
+            made.write_bytes(text)
+            subprocess.run(command, check=True)
+            self.assertTrue(picture.read_text().startswith("<svg"))
+
+
 class Sheets(unittest.TestCase):
     """Each sheet has the lines of the core's drawing and no others."""
 
     def laid(self, path):
         yard = yard_of(path)
         core = stored(path, yard.view)
-        return sheets.Sheet().laid(yard.scene.draw(yard.view)), core
+        return sheets.Sheet().laid(yard.scene.draw(yard.view, threshold=FINE)), core
 
     def test_svg_has_the_numbers_of_the_drawing(self):
         for path in EXAMPLES:
@@ -106,8 +132,8 @@ class Sheets(unittest.TestCase):
 
 
 class Pictures(unittest.TestCase):
-    """The pictures in examples/: sheets at a fine step, by tools/pictures. That their lines are the core's is shown by way of
-    the C host too (test_c_example.py)."""
+    """The pictures in examples/: sheets at a fine step and in fine detail, by tools/pictures. That their lines are the core's
+    is shown by way of the C host too (test_c_example.py)."""
 
     def test_each_is_what_the_sheet_command_writes(self):
         with tempfile.TemporaryDirectory() as folder:

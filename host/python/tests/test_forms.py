@@ -50,6 +50,17 @@ class Forms(unittest.TestCase):
         for x in (0.0, -0.0, 7.0, -1e6, 0.1, 1e6 + 1, float("inf")):
             self.assertEqual(str(forms.number_in(forms.number(x))), str(x))
 
+    def test_zeros_before_a_number(self):
+        """As many as one likes, as in `yard`; Python's int() takes 4,300."""
+        for zeros in ("0", "0" * 30, "0" * 9000):
+            self.assertEqual(str(forms.number_in(zeros + "1000000")), "1000000.0")
+            self.assertEqual(str(forms.number_in("-" + zeros + "12")), "-12.0")
+            self.assertEqual(str(forms.number_in("-" + zeros)), "0.0")
+            self.assertIsNone(forms.number_in(zeros + "1000001"))
+            self.assertIsNone(forms.number_in("1" + "0" * 9000))
+            yard = forms.read(f"{wrong.VIEW}\n(cube {zeros}12 0 0 0 1 1 1)")
+            self.assertEqual(yard.scene.parts[0].solid.stripes, 12)
+
     def test_spaces_and_empty_lines(self):
         yard = forms.read("\n  ( view 2 2 0 0 0 5 1 0 0 0 0 1 0 0 0 0 1 0 0 0 0 1 )  \n\n(sphere 0 0 0 1( line 0 0 1 ))\n")
         self.assertEqual((yard.view_at, len(yard.scene.parts)), ((2, 3), 1))

@@ -3,14 +3,14 @@ import re
 import shutil
 import subprocess
 import unittest
-from ctypes import POINTER, c_bool, c_double, c_size_t, c_uint8, c_uint16, c_uint32
+from ctypes import POINTER, c_bool, c_double, c_int64, c_size_t, c_uint8, c_uint16, c_uint32
 
 from larnt import library
 
 from . import ROOT
 
 ARCHIVES = ("host", "host_preview", "host_text", "host_merge", "host_plotter")
-TYPES = {"double": c_double, "size_t": c_size_t, "uint32_t": c_uint32, "uint8_t": c_uint8, "uint16_t": c_uint16, "bool": c_bool, "larnt_registers": library.Registers}
+TYPES = {"void": None, "double": c_double, "int64_t": c_int64, "size_t": c_size_t, "uint32_t": c_uint32, "uint8_t": c_uint8, "uint16_t": c_uint16, "bool": c_bool, "larnt_registers": library.Registers}
 
 
 def typed(parameter):
@@ -37,7 +37,7 @@ class Header(unittest.TestCase):
             with self.subTest(name):
                 result, parameters = header[name]
                 self.assertEqual(types, [typed(p) for p in parameters])
-                self.assertEqual(result, "void" if name == "larnt_plotter_step" else "uint32_t")
+                self.assertEqual(library.ANSWERS.get(name, c_uint32), TYPES[result])
 
     @unittest.skipUnless(shutil.which("nm") and all((library.folder() / f"lib{name}.a").exists() for name in ARCHIVES), "there is no nm, or an archive is not there")
     def test_the_archives_have_each_call_and_no_other(self):

@@ -59,6 +59,38 @@ class Registers(unittest.TestCase):
             self.assertEqual(caught.exception.number, number)
         self.assertEqual(bytes(made.registers.bytes), bytes(8))
 
+    def test_what_is_no_byte_is_turned_away_before_the_call(self):
+        """Of its low bits 260 would be a go, 257 and -255 a pen down."""
+        made, changed = Plotter(), Plotter()
+        for at, value, number in (
+            (0, 260, 17), (0, 257, 17), (0, -252, 17), (0, -1, 17), (0, 2**64 + 4, 17), (1, 260, 16), (7, -1, 16), (8, 260, 16),
+            (2**64, 1, 16), (2**64 + 2, 1, 16), (-1, 1, 16), (-(2**64), 4, 16), (2**32 + 1, 0, 16), (1, 2**70, 16),
+        ):
+            with self.subTest(at=at, value=value):
+                with self.assertRaises(Refused) as caught:
+                    made.write(at, value)
+                self.assertEqual(caught.exception.number, number)
+        for at in range(2, 7):
+            for value in (256, 260, -1, 2**64):
+                with self.assertRaisesRegex(ValueError, f"a byte is 0 to 255, not {value}"):
+                    made.write(at, value)
+            changed.write(at, 255)
+        for at, value in ((0, 4.0), (0, "4"), (2.0, 4), (0, None)):
+            with self.assertRaises(TypeError):
+                made.write(at, value)
+        self.assertEqual(bytes(made.registers), bytes(16))
+        self.assertEqual(bytes(changed.registers.bytes), bytes([0, 0, 255, 255, 255, 255, 255, 0]))
+
+    def test_a_busy_plotter_takes_no_command(self):
+        made = Plotter()
+        for at, value in ((2, 9), (0, 4)):
+            made.write(at, value)
+        for value in (1, 4, 260, 0):
+            with self.assertRaises(Refused) as caught:
+                made.write(0, value)
+            self.assertEqual(caught.exception.number, 17)
+        self.assertEqual(made.registers.bytes[0], 4)
+
 
 if __name__ == "__main__":
     unittest.main()

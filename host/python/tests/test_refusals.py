@@ -1,4 +1,6 @@
 """Refusals: each number that a scene can meet, once."""
+import concurrent.futures
+import ctypes
 import dataclasses
 import math
 import os
@@ -16,6 +18,7 @@ from . import ROOT, wrong
 
 VIEW = forms.read(wrong.VIEW).view
 CUBE = Cube((0.0, 0.0, 0.0), (1.0, 1.0, 1.0))
+ARCHIVE = library.folder() / "libhost.a"
 
 
 def refusal(test, scene, view=VIEW, **more):
@@ -45,6 +48,23 @@ class Numbers(unittest.TestCase):
         for stripes in (0, 1001):
             got = refusal(self, Scene([CUBE, Cube((0.0,) * 3, (1.0,) * 3, stripes)]))
             self.assertEqual((got.number, got.part), (3, "part 2"))
+
+    def test_3_and_14_of_counts_that_32_bits_do_not_hold(self):
+        """Of their low bits each would be accepted."""
+        for odd in (2**32 + 1, 2**32 + 3, 2**64 + 2, 1 - 2**32, -1):
+            for solid, number in ((Cube((0.0,) * 3, (1.0,) * 3, odd), 3), (Cut(odd, CUBE, CUBE), 3), (Cylinder(1.0, 0.0, 1.0, odd), 14), (Cone(1.0, 1.0, odd, True), 14)):
+                with self.subTest(odd=odd, solid=type(solid).__name__):
+                    for call in (Scene.boxes, Scene.tree, lambda scene: scene.draw(VIEW)):
+                        with self.assertRaises(Refused) as caught:
+                            call(Scene([CUBE, solid]))
+                        got = caught.exception
+                        self.assertEqual((got.number, got.part), (number, "part 2"))
+                        self.assertIn(f" {odd:,} " if type(solid) is Cube else str(odd) if type(solid) is Cut else f"{odd:,}", got.wrong)
+        for odd in (2.0, "2", None):
+            with self.assertRaises(TypeError):
+                Scene([Cylinder(1.0, 0.0, 1.0, odd)]).boxes()
+            with self.assertRaises(TypeError):
+                Scene().cut(odd, CUBE, CUBE)
 
     def test_4_nested_too_deep(self):
         solid = CUBE
@@ -146,13 +166,22 @@ class Linked(unittest.TestCase):
     def test_another_archive_is_linked_anew(self):
         with tempfile.TemporaryDirectory() as folder, mock.patch.dict(os.environ, LARNT_STATICLIB=folder):
             archive = pathlib.Path(folder) / "libhost.a"
-            archive.write_bytes((ROOT / "target/staticlib/libhost.a").read_bytes())
+            archive.write_bytes(ARCHIVE.read_bytes())
             first = library.shared("host").stat()
             self.assertEqual(library.shared("host").stat().st_ino, first.st_ino)
             os.utime(archive, ns=(first.st_mtime_ns - 10**9,) * 2)
             again = library.shared("host").stat()
             self.assertNotEqual(again.st_ino, first.st_ino)
             self.assertEqual(again.st_mtime_ns, first.st_mtime_ns - 10**9)
+
+
+    def test_several_threads_link_it_at_once(self):
+        with tempfile.TemporaryDirectory() as folder, mock.patch.dict(os.environ, LARNT_STATICLIB=folder):
+            (pathlib.Path(folder) / "libhost.a").write_bytes(ARCHIVE.read_bytes())
+            with concurrent.futures.ThreadPoolExecutor(8) as threads:
+                loaded = list(threads.map(lambda _: library.loaded("host", library.HOST), range(8)))
+            self.assertEqual([type(one.larnt_sqrt(4.0, ctypes.byref(ctypes.c_int64()))) for one in loaded], [float] * 8)
+            self.assertEqual(sorted(os.listdir(folder)), ["libhost.a", "libhost.so"])
 
 
 class NoLibrary(unittest.TestCase):

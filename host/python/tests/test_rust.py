@@ -1,15 +1,14 @@
 """host/rust: its own tests, and its example on the example yards and on wrong ones."""
 import os
 import re
-import shutil
 import subprocess
 import unittest
 
 from larnt import library
 
 from . import EXAMPLES, ROOT, wrong
+from .hosts import CARGO
 
-CARGO = shutil.which("cargo")
 ARCHIVES = all((library.folder() / f"lib{name}.a").exists() for name in ("host", "host_preview", "host_merge", "host_text", "host_plotter"))
 
 

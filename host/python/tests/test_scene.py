@@ -1,11 +1,13 @@
 """Scenes that are built, asked and drawn."""
 import math
 import random
+import sys
 import unittest
+from fractions import Fraction
 from unittest import mock
 
 import larnt
-from larnt import COARSE, DIFFERENCE, Camera, Cone, Cube, Cylinder, Refused, Scene, Sphere, forms, matrices, outlines, scene
+from larnt import COARSE, DIFFERENCE, FINE, Camera, Cone, Cube, Cylinder, Refused, Scene, Sphere, forms, matrices, outlines, scene
 
 from . import ROOT
 
@@ -103,15 +105,17 @@ class Asking(unittest.TestCase):
         self.assertGreater(covered.count(False), 100)
         for point, hidden in zip(points, covered):
             self.assertEqual(made.visible(CAMERA.eye, point), not hidden)
+            self.assertEqual(made.is_covered(CAMERA.eye, point), hidden)
             self.assertEqual(made.why_hidden(CAMERA.eye, point) is not None, hidden)
 
     def test_a_point_that_is_refused_refuses_itself_alone(self):
         made = Scene([Sphere((0.0, 0.0, 0.0), 1.0)])
         points = [(0, 0, -3), (2e6, 0, 0), (0, 0, 3)]
         self.assertEqual(made.told((0, 0, 9), points), bytes([2, 9, 1]))
-        with self.assertRaises(Refused) as caught:
-            made.covered((0, 0, 9), points)
-        self.assertEqual(caught.exception.number, 9)
+        for asked in (lambda: made.covered((0, 0, 9), points), lambda: made.is_covered((0, 0, 9), points[1])):
+            with self.assertRaises(Refused) as caught:
+                asked()
+            self.assertEqual(caught.exception.number, 9)
         self.assertEqual(made.covered((0, 0, 9), []), [])
 
     def test_what_a_look_meets(self):
@@ -129,6 +133,33 @@ class Asking(unittest.TestCase):
         self.assertFalse(made.visible((0, 0, 5), (0, 0, -5)))
         made.place(matrices.moved(9, 0, 0), cube)
         self.assertTrue(made.visible((0, 0, 5), (0, 0, -5)))
+
+
+class Lengths(unittest.TestCase):
+    """Roots with their remainders."""
+
+    def test_the_worked_roots(self):
+        for x, root, rest in ((0.0, 0.0, 0), (9.0, 3.0, 0), (4.0, 2.0, 0), (2.0**-1074, 2.0**-537, 0), (math.inf, math.inf, 0)):
+            self.assertEqual(larnt.sqrt(x), (root, rest))
+        self.assertEqual(str(larnt.sqrt(-0.0)), "(-0.0, 0)")
+        for x in (-1.0, -math.inf, math.nan):
+            root, rest = larnt.sqrt(x)
+            self.assertTrue(math.isnan(root) and rest == 0)
+
+    def test_the_remainder_is_the_exact_one(self):
+        rng = random.Random(1)
+        for x in (2.0, 3.0, sys.float_info.max, sys.float_info.min, 5e-324, *(math.ldexp(1 + rng.random(), rng.randrange(-1074, 1024)) for _ in range(999))):
+            root, rest = larnt.sqrt(x)
+            self.assertEqual(root, math.sqrt(x))
+            fraction, k = math.frexp(root)
+            whole, k = int(math.ldexp(fraction, 53)), k - 53
+            self.assertEqual(rest, Fraction(x) / Fraction(4) ** k - whole**2)
+
+    def test_lengths_and_distances(self):
+        self.assertEqual(larnt.length((3, 4, 0)), (5.0, 0))
+        self.assertEqual(larnt.length((1, 1, 1)), larnt.sqrt(3.0))
+        self.assertEqual(larnt.distance((1, 2, 3), (2, 3, 4)), larnt.sqrt(3.0))
+        self.assertEqual(larnt.distance((1, 2, 3), (3, 5, 9)), (7.0, 0))
 
 
 class Drawing(unittest.TestCase):
@@ -155,11 +186,13 @@ class Drawing(unittest.TestCase):
         self.assertEqual(caught.exception.number, 13)
         self.assertIn("100 points", str(caught.exception))
 
-    def test_a_coarser_threshold_has_fewer_vertices(self):
+    def test_a_draw_is_coarse_by_default_and_fine_where_that_is_asked_for(self):
+        self.assertEqual((COARSE, FINE), (1e-4, 1e-6))
         made = Scene([Sphere((0.0, 0.0, 0.0), 1000.0, points=720)])
         camera = Camera((5000, 0, 0), (0, 0, 0), step=4)
-        fine, coarse = (sum(map(len, made.draw(camera, threshold=t).paths)) for t in (1e-6, COARSE))
-        self.assertLess(coarse, fine / 2)
+        fine, coarse = (made.draw(camera, threshold=t) for t in (FINE, COARSE))
+        self.assertEqual(made.draw(camera), coarse)
+        self.assertLess(sum(map(len, coarse.paths)), sum(map(len, fine.paths)) / 2)
 
     def test_nothing_draws_nothing(self):
         self.assertEqual(Scene().draw(CAMERA).paths, [])

@@ -49,12 +49,29 @@ class Command(Typed):
     def lines(self, root):
         return [line.get("points") for line in group_of(root).iter(SVG + "polyline")]
 
-    def test_each_example_s_sheet_is_the_core_s_drawing_line_for_line(self):
+    def test_each_example_s_sheet_in_fine_detail_is_the_core_s_drawing_line_for_line(self):
         for path in EXAMPLES:
             with self.subTest(path.name):
                 core = drawing.read(path.with_suffix(".drawing").read_text(), 0, 0)
                 wanted = [[(x, y) for x, y, _ in line] for line in core.paths]
+                self.assertEqual(lines_of(self.svg(path, "--fine")), wanted)
+
+    def test_a_sheet_is_coarse_by_default(self):
+        fewer = 0
+        for path in EXAMPLES:
+            with self.subTest(path.name):
+                yard = forms.read(path.read_text())
+                wanted = [[(x, y) for x, y, _ in line] for line in yard.scene.draw(yard.view, threshold=1e-4).paths]
                 self.assertEqual(lines_of(self.svg(path)), wanted)
+                self.assertEqual(lines_of(self.svg(path, "--threshold", "1e-4")), wanted)
+                fine = lines_of(self.svg(path, "--threshold", "1e-6"))
+                self.assertEqual(lines_of(self.svg(path, "--fine")), fine)
+                self.assertEqual(len(fine), len(wanted))
+                fewer += sum(map(len, wanted)) < sum(map(len, fine))
+        self.assertGreater(fewer, 0)
+        with self.assertRaises(SystemExit), contextlib.redirect_stderr(io.StringIO()) as said:
+            main(["sheet", SILOS, "a.svg", "--fine", "--threshold", "1"])
+        self.assertIn("not allowed with argument --fine", said.getvalue())
 
     def test_three_sheets_at_once(self):
         out, err = self.run_sheet(SILOS, *(self.folder / f"silos.{ending}" for ending in ("svg", "hpgl", "dxf")))
@@ -125,6 +142,11 @@ class Command(Typed):
 
         self.assertNotEqual(vertices("--step", "0.2"), vertices())
         self.assertLess(vertices("--threshold", "0.001"), vertices())
+
+    def test_a_threshold_that_is_none(self):
+        for word, said in (("nan", "nan"), ("-1", "-1"), ("inf", "inf")):
+            _, err = self.run_sheet(SILOS, self.folder / "a.svg", "--threshold", word, code=1)
+            self.assertEqual(err, f"sheet: {SILOS}: the threshold is {said}, and must be finite and not negative\nrefusal 8: the view, a ray or a threshold is outside its values\n")
 
     def test_the_step_is_in_millimetres(self):
         """The scale of a drawing of 1,200 on paper of 277 between margins: a step of 10 is 10 * 277 / 1200 mm."""

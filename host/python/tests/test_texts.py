@@ -5,7 +5,7 @@ import pathlib
 import tempfile
 import unittest
 
-from larnt import Cube, Refused, Scene, forms, library, texts
+from larnt import FINE, Cube, Refused, Scene, forms, library, texts
 from larnt.__main__ import main
 
 from . import EXAMPLES, ROOT, wrong
@@ -33,6 +33,15 @@ class Canonical(unittest.TestCase):
                 self.assertEqual(texts.canonical(again), text)
                 self.assertEqual(again.scene.draw(again.view).text(), yard.scene.draw(yard.view).text())
 
+    def test_a_text_in_that_form_is_printed_as_it_came_but_for_other_NaNs(self):
+        """There is one NaN, and only a point of a line may be it; at step 0 such a yard may be drawn."""
+        view = texts.canonical(forms.read("(view 2 2 0 0 0 5 1 0 0 0 0 1 0 0 0 0 1 0 0 0 0 1)"))
+        form = "(sphere #0000000000000000 #8000000000000000 #0000000000000000 #3FF0000000000000 (line {} #0000000000000000 #3FF0000000000000))\n"
+        for word in ("#3FF0000000000000", "#8000000000000000", "#7FF0000000000000", "#7FF8000000000000"):
+            self.assertEqual(texts.canonical(forms.read(view + form.format(word))), view + form.format(word))
+        for word in ("#7FF0000000000001", "#FFF8000000000000", "#7FF8000000000001"):
+            self.assertEqual(texts.canonical(forms.read(view + form.format(word))), view + form.format("#7FF8000000000000"))
+
     def test_the_command_prints_it(self):
         code, out, err = run("canonical", PLANT)
         self.assertEqual((code, out, err), (0, texts.canonical(forms.read(PLANT.read_text())), ""))
@@ -54,7 +63,7 @@ class Merged(unittest.TestCase):
         self.assertEqual((code, err), (0, ""))
         self.assertEqual(out, texts.canonical(forms.read(whole.read_text())))
         yard = forms.read(out)
-        self.assertEqual(yard.scene.draw(yard.view).text().encode(), whole.with_suffix(".drawing").read_bytes())
+        self.assertEqual(yard.scene.draw(yard.view, threshold=FINE).text().encode(), whole.with_suffix(".drawing").read_bytes())
 
     def test_a_scene_of_both_is_what_the_library_makes_of_them(self):
         building, plant = (forms.read(path.read_text()) for path in (BUILDING, PLANT))

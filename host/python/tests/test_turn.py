@@ -41,7 +41,7 @@ def core(scene, camera, asked, level):
     seen = Camera(asked["eye"], asked["target"], field_of_view=asked["fov"], width=camera.width, height=camera.height, step=more * camera.step)
     made = Scene(solids).slices()
     made.outline(seen.view(), level == 0)
-    drawing = laid.drawn(made, seen.view(), laid.FINE, laid.MOST_POINTS).drawing(seen.view())
+    drawing = laid.drawn(made, seen.view(), laid.COARSE, laid.MOST_POINTS).drawing(seen.view())
     return [[x for p in path for x in p] for path in drawing.paths]
 
 
@@ -112,7 +112,9 @@ class Served(unittest.TestCase):
         self.assertEqual(self.ask("POST", "/frame", json.dumps(good).encode(), Content_Type=None)[0], 415)
         self.assertEqual(self.ask("POST", "/frame", b" " * 5000)[0], 413)
         self.assertEqual(self.ask("POST", "/frame", b"{}", Content_Length="-1")[0], 413)
-        for body in (b"", b"{", b"[]", b"7", b"{}", b'{"eye": 1}', b"\xff"):
+        for length in ("9" * 5000, "1" * 400, "0" * 5000):
+            self.assertEqual(self.ask("POST", "/frame", b"{}", Content_Length=length)[0], 413)
+        for body in (b"", b"{", b"[]", b"7", b"{}", b'{"eye": 1}', b"\xff", b"[" * 4000):
             with self.subTest(body):
                 self.assertEqual(self.ask("POST", "/frame", body)[0], 400)
         for change in ({"eye": [1, 2]}, {"eye": [1, 2, "x"]}, {"eye": [math.nan] * 3}, {"eye": [math.inf, 0, 0]}, {"fov": 0}, {"fov": 180}, {"fov": math.nan},

@@ -19,8 +19,9 @@
 //! ```
 //!
 //! The calls themselves, on slices that the caller lends, are in [`calls`]. What a draw works in grows here until it
-//! suffices, and the drawing has the places that a preview counts. Angles are no business of the core: cameras are made by the host, and outlines that
-//! stand off the surface; a round solid that is handed no lines has the core's own, which lie in it.
+//! suffices, and the drawing has the places that a preview counts. Angles are no business of the core: cameras are made by
+//! the host, and outlines that stand off the surface; a round solid that is handed no lines has the core's own, which lie
+//! in it.
 
 #![deny(unsafe_code)]
 
@@ -32,7 +33,9 @@ pub mod forms;
 
 use std::fmt;
 
-/// The threshold of simplification of a sheet in fine detail.
+/// The threshold of simplification of a draw by default,
+pub const COARSE: f64 = 1e-4;
+/// and of a sheet in fine detail, as `yard` draws it.
 pub const FINE: f64 = 1e-6;
 /// Room for so many points is lent to a draw at first,
 pub const FIRST_POINTS: usize = 4096;
@@ -210,16 +213,17 @@ impl Scene {
         }
     }
 
-    /// The lines that a view sees, in fine detail.
+    /// The lines that a view sees, simplified with [`COARSE`].
     pub fn draw(&self, view: &View) -> Result<Drawing, Refused> {
-        self.draw_with(view, FINE, MOST_POINTS)
+        self.draw_with(view, COARSE, MOST_POINTS)
     }
 
-    /// The same simplified with a threshold, with room for `most` points to work in at most: 13 where they do not suffice.
-    /// The drawing is lent the places that a preview counts.
+    /// The same simplified with a threshold, [`FINE`] for a sheet in fine detail, with room for `most` points to work in
+    /// at most: 13 where they do not suffice. The drawing is lent the places that a preview counts, and one start more.
     pub fn draw_with(&self, view: &View, threshold: f64, most: usize) -> Result<Drawing, Refused> {
         let (mut room, (points, paths)) = self.counted(view, threshold, most)?;
-        let (mut out, mut starts) = (vec![[0.0; 3]; points], vec![0; paths]);
+        // at step 0 a path that vanishes has a start until it does
+        let (mut out, mut starts) = (vec![[0.0; 3]; points], vec![0; paths + 1]);
         let (view, flat) = (view.numbers(), out.as_flattened_mut());
         calls::draw_with(
             self.lent(),
@@ -230,6 +234,7 @@ impl Scene {
             room.lent(),
         )
         .map_err(Refused)?;
+        starts.truncate(paths);
         Ok(Drawing {
             points: out,
             starts,
@@ -238,7 +243,7 @@ impl Scene {
 
     /// How many points and paths `draw` would answer, without the drawing. It takes about as long.
     pub fn preview(&self, view: &View) -> Result<(usize, usize), Refused> {
-        self.preview_with(view, FINE, MOST_POINTS)
+        self.preview_with(view, COARSE, MOST_POINTS)
     }
 
     /// The same of `draw_with`.

@@ -1,6 +1,8 @@
 //! The example yards against their stored drawings, and what the wrapper adds: room that grows, owned scenes, questions.
 use std::{fs, path::Path};
-use yard_core::{DIFFERENCE, Entry, MOST_POINTS, Refused, Scene, View, forms, moved};
+use yard_core::{
+    COARSE, DIFFERENCE, Drawing, Entry, FINE, MOST_POINTS, Refused, Scene, View, forms, moved,
+};
 
 /// Looks along Y from far away.
 const VIEW: View = View {
@@ -30,6 +32,15 @@ fn examples() -> Vec<(String, String, String)> {
     all
 }
 
+/// As `yard` draws it.
+fn fine(scene: &Scene, view: &View) -> Result<Drawing, Refused> {
+    scene.draw_with(view, FINE, MOST_POINTS)
+}
+
+fn points(drawing: &Drawing) -> usize {
+    drawing.paths().map(<[_]>::len).sum()
+}
+
 #[test]
 fn each_example_is_drawn_as_stored() {
     let all = examples();
@@ -37,9 +48,38 @@ fn each_example_is_drawn_as_stored() {
     for (name, yard, drawing) in all {
         let (view, scene) = forms::read(&yard).unwrap();
         assert!(
-            forms::write(&scene.draw(&view).unwrap()) == drawing,
+            forms::write(&fine(&scene, &view).unwrap()) == drawing,
             "{name}"
         );
+    }
+}
+
+#[test]
+fn a_draw_is_coarse_by_default() {
+    let mut fewer = 0;
+    for (name, yard, _) in examples() {
+        let (view, scene) = forms::read(&yard).unwrap();
+        let (drawing, detailed) = (scene.draw(&view).unwrap(), fine(&scene, &view).unwrap());
+        let coarse = scene.draw_with(&view, COARSE, MOST_POINTS).unwrap();
+        assert!(drawing == coarse, "{name}");
+        assert_eq!(drawing.paths().count(), detailed.paths().count(), "{name}");
+        fewer += usize::from(points(&drawing) < points(&detailed));
+    }
+    assert!(fewer > 0);
+}
+
+/// At step 0 a path that vanishes takes a start, which no preview counts.
+#[test]
+fn a_last_path_that_vanishes_at_step_0_is_no_refusal() {
+    let view = "(view 2 2 0 0 0 5 1 0 0 0 0 1 0 0 0 0 1 0 0 0 0 1)\n";
+    let clipped = "(triangle 10 0 0 11 0 0 10 1 0)\n";
+    let hidden = "(cube 1 #BFC0000000000000 #BFC0000000000000 #3FC0000000000000 #3FC0000000000000 #3FC0000000000000 #3FD0000000000000)
+(triangle 0 0 0 #3FE0000000000000 0 0 0 #3FE0000000000000 0)\n";
+    for (forms, count) in [(clipped, 0), (hidden, 9)] {
+        let (view, scene) = forms::read(&(view.to_owned() + forms)).unwrap();
+        let drawing = scene.draw(&view).unwrap();
+        assert_eq!(drawing.paths().count(), count);
+        assert_eq!(scene.preview(&view), Ok((points(&drawing), count)));
     }
 }
 
@@ -60,10 +100,9 @@ fn a_preview_has_the_counts_of_the_drawing() {
     for (name, yard, _) in examples() {
         let (view, scene) = forms::read(&yard).unwrap();
         let drawing = scene.draw(&view).unwrap();
-        let points = drawing.paths().map(<[_]>::len).sum();
         assert_eq!(
             scene.preview(&view),
-            Ok((points, drawing.paths().count())),
+            Ok((points(&drawing), drawing.paths().count())),
             "{name}"
         );
     }
@@ -85,7 +124,7 @@ fn two_scenes_are_one() {
     let (_, plant) = forms::read(&read("merge/plant.yard")).unwrap();
     let both = building.merge(&plant).unwrap();
     assert_eq!(both.entries(), building.entries() + plant.entries());
-    let drawn = |scene: &Scene| forms::write(&scene.draw(&view).unwrap());
+    let drawn = |scene: &Scene| forms::write(&fine(scene, &view).unwrap());
     assert!(drawn(&both) == read("blower.drawing"));
     let empty = Scene::new();
     assert!(drawn(&empty.merge(&plant).unwrap()) == drawn(&plant));
