@@ -31,10 +31,21 @@ impl Hit {
         self.t < Hit::INF
     }
 
+    // By its fields: copied whole, a flag would be read as a word where a byte was written, which waits.
     pub fn min(self, other: Hit) -> Hit
         ensures { λ r. ⌜ r ≡ Hits.minHit self other ⌝ }
     {
-        if self.t <= other.t { self } else { other }
+        if self.t <= other.t {
+            Hit {
+                t: self.t,
+                ok: self.ok,
+            }
+        } else {
+            Hit {
+                t: other.t,
+                ok: other.ok,
+            }
+        }
     }
 
     pub fn max(self, other: Hit) -> Hit

@@ -15,6 +15,16 @@ impl Ray {
         Ray { origin, direction }
     }
 
+    // The same ray, made of its two vectors. A ray that goes on to another function is handed over so: it is then read
+    // back from memory in the pieces that were written.
+    pub fn again(self) -> Ray
+        ensures { λ r. ⌜ r ≡ self ⌝ }
+    {
+        let origin = self.origin;
+        let direction = self.direction;
+        Ray { origin, direction }
+    }
+
     pub fn position(self, t: f64) -> Vector
         ensures { λ r. ⌜ r ≡ Rays.position self t ⌝ }
     {

@@ -1,7 +1,6 @@
 // A cone about the Z axis, by its radius at z = 0 and the height of its tip. It has no base and
 // contains nothing.
 ghost use mathlib.Core.Path.{_≡_};
-ghost use Rattle.geometry.specs.Rays.{rayOf};
 ghost use Rattle.solids.specs.Cones.{coneBox, coneHit, onCone};
 use crate::roots::first;
 use crate::roots::roots;
@@ -20,11 +19,11 @@ pub fn bounding_box(radius: f64, height: f64) -> BBox
 }
 
 // Whether the root t is ahead, and the ray there strictly between base and tip.
-fn on_cone(height: f64, o: Vector, d: Vector, t: f64) -> bool
-    ensures { λ r. ⌜ r ≡ onCone height (rayOf o d) t ⌝ }
+fn on_cone(height: f64, ray: Ray, t: f64) -> bool
+    ensures { λ r. ⌜ r ≡ onCone height ray t ⌝ }
 {
     if t > 1e-6 {
-        let p = o.add(d.mul_scalar(t));
+        let p = ray.position(t);
         return p.z > 0.0 && p.z < height;
     }
     false
@@ -33,13 +32,8 @@ fn on_cone(height: f64, o: Vector, d: Vector, t: f64) -> bool
 pub fn intersect(radius: f64, height: f64, ray: Ray) -> Hit
     ensures { λ h. ⌜ h ≡ coneHit radius height ray ⌝ }
 {
-    hit(radius, height, ray.origin, ray.direction)
-}
-
-// By origin and direction: as one struct they would be read back from memory in other pieces than were written.
-pub fn hit(radius: f64, height: f64, o: Vector, d: Vector) -> Hit
-    ensures { λ h. ⌜ h ≡ coneHit radius height (rayOf o d) ⌝ }
-{
+    let o = ray.origin;
+    let d = ray.direction;
     let slope = radius / height;
     let k = slope * slope;
     let a = d.x * d.x + d.y * d.y - k * d.z * d.z;
@@ -50,7 +44,7 @@ pub fn hit(radius: f64, height: f64, o: Vector, d: Vector) -> Hit
         return Hit::no_hit();
     }
     let t = roots(a, b, q);
-    let near = on_cone(height, o, d, t.tmin);
-    let far = on_cone(height, o, d, t.tmax);
+    let near = on_cone(height, ray, t.tmin);
+    let far = on_cone(height, ray, t.tmax);
     first(t, near, far)
 }

@@ -3,7 +3,6 @@ ghost use mathlib.Core.Path.{_≡_};
 ghost use mathlib.Core.Bool.{_&&_};
 ghost use lib.Ieee.{lt, le};
 ghost use Rattle.floats.specs.Arith.{thousandth};
-ghost use Rattle.geometry.specs.Rays.{rayOf};
 ghost use Rattle.solids.specs.Cubes.{cubeContains, cubeHit, outside};
 use geometry::hit::Hit;
 use geometry::ray::Ray;
@@ -48,13 +47,8 @@ fn enters(t0: f64, t1: f64) -> bool
 pub fn intersect(min: Vector, max: Vector, r: Ray) -> Hit
     ensures { λ h. ⌜ h ≡ cubeHit min max r ⌝ }
 {
-    hit(min, max, r.origin, r.direction)
-}
-
-// By origin and direction: as one struct they would be read back from memory in other pieces than were written.
-pub fn hit(min: Vector, max: Vector, o: Vector, d: Vector) -> Hit
-    ensures { λ h. ⌜ h ≡ cubeHit min max (rayOf o d) ⌝ }
-{
+    let o = r.origin;
+    let d = r.direction;
     let n = min.sub(o).div(d);
     let f = max.sub(o).div(d);
     let t0 = n.min(f).max_component();

@@ -1,6 +1,5 @@
 // A cylinder about the Z axis, by its radius and the z of its ends. It is a tube: its ends are open.
 ghost use mathlib.Core.Path.{_≡_};
-ghost use Rattle.geometry.specs.Rays.{rayOf};
 ghost use Rattle.solids.specs.Cylinders.{cylinderBox, cylinderContains, cylinderHit, onTube};
 use crate::roots::first;
 use crate::roots::roots;
@@ -41,13 +40,8 @@ fn on_tube(z0: f64, z1: f64, t: f64, z: f64) -> bool
 pub fn intersect(radius: f64, z0: f64, z1: f64, ray: Ray) -> Hit
     ensures { λ h. ⌜ h ≡ cylinderHit radius z0 z1 ray ⌝ }
 {
-    hit(radius, z0, z1, ray.origin, ray.direction)
-}
-
-// By origin and direction: as one struct they would be read back from memory in other pieces than were written.
-pub fn hit(radius: f64, z0: f64, z1: f64, o: Vector, d: Vector) -> Hit
-    ensures { λ h. ⌜ h ≡ cylinderHit radius z0 z1 (rayOf o d) ⌝ }
-{
+    let o = ray.origin;
+    let d = ray.direction;
     let a = d.x * d.x + d.y * d.y;
     let b = 2.0 * o.x * d.x + 2.0 * o.y * d.y;
     let c = o.x * o.x + o.y * o.y - radius * radius;

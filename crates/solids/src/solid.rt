@@ -63,22 +63,26 @@ impl Solid {
         ensures { λ h. ⌜ h ≡ hitOf self r ⌝ }
     {
         match self {
-            Solid::Sphere { center, radius } => sphere::intersect(center, radius, r),
-            Solid::Cylinder { radius, z0, z1 } => cylinder::intersect(radius, z0, z1, r),
-            Solid::Cone { radius, height } => cone::intersect(radius, height, r),
-            Solid::Cube { min, max } => cube::intersect(min, max, r),
-            Solid::Triangle { v1, v2, v3 } => triangle::intersect_vertices(v1, v2, v3, r),
+            Solid::Sphere { center, radius } => sphere::intersect(center, radius, r.again()),
+            Solid::Cylinder { radius, z0, z1 } => cylinder::intersect(radius, z0, z1, r.again()),
+            Solid::Cone { radius, height } => cone::intersect(radius, height, r.again()),
+            Solid::Cube { min, max } => cube::intersect(min, max, r.again()),
+            Solid::Triangle { v1, v2, v3 } => triangle::intersect_vertices(v1, v2, v3, r.again()),
             Solid::ClosedCylinder { radius, z0, z1 } => {
                 closed_cylinder::intersect(
-                    cylinder::intersect(radius, z0, z1, r),
+                    cylinder::intersect(radius, z0, z1, r.again()),
                     radius,
                     z0,
                     z1,
-                    r,
+                    r.again(),
                 )
             }
             Solid::ClosedCone { radius, height } => {
-                closed_cone::intersect(cone::intersect(radius, height, r), radius, r)
+                closed_cone::intersect(
+                    cone::intersect(radius, height, r.again()),
+                    radius,
+                    r.again(),
+                )
             }
         }
     }

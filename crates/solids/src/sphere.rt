@@ -1,6 +1,5 @@
 // A sphere, by its centre and radius.
 ghost use mathlib.Core.Path.{_≡_};
-ghost use Rattle.geometry.specs.Rays.{rayOf};
 ghost use Rattle.solids.specs.Spheres.{sphereBox, sphereContains, sphereHit};
 use geometry::bounding_box::BBox;
 use geometry::hit::Hit;
@@ -22,13 +21,8 @@ pub fn contains(center: Vector, radius: f64, v: Vector, f: f64) -> bool
 pub fn intersect(center: Vector, radius: f64, r: Ray) -> Hit
     ensures { λ h. ⌜ h ≡ sphereHit center radius r ⌝ }
 {
-    hit(center, radius, r.origin, r.direction)
-}
-
-// By origin and direction: as one struct they would be read back from memory in other pieces than were written.
-pub fn hit(center: Vector, radius: f64, o: Vector, d: Vector) -> Hit
-    ensures { λ h. ⌜ h ≡ sphereHit center radius (rayOf o d) ⌝ }
-{
+    let o = r.origin;
+    let d = r.direction;
     let to = o.sub(center);
     let b = to.dot(d);
     let c = to.dot(to) - radius * radius;

@@ -3,7 +3,6 @@ ghost use mathlib.Core.Path.{_≡_};
 ghost use mathlib.Core.Bool.{_&&_, _||_};
 ghost use lib.Ieee.{lt, le, neg};
 ghost use Rattle.floats.specs.Arith.{_⊕_, zeroF, oneF, EPS};
-ghost use Rattle.geometry.specs.Rays.{rayOf};
 ghost use Rattle.solids.specs.Triangles.{triangleBox, triangleHit};
 use geometry::bounding_box::BBox;
 use geometry::hit::Hit;
@@ -37,16 +36,12 @@ fn is_beyond(u: f64, v: f64) -> bool
     v < 0.0 || u + v > 1.0
 }
 
+// Möller and Trumbore's test. The point at distance d along the ray is v1 + u e1 + v e2.
 pub fn intersect_vertices(v1: Vector, v2: Vector, v3: Vector, r: Ray) -> Hit
     ensures { λ h. ⌜ h ≡ triangleHit v1 v2 v3 r ⌝ }
 {
-    hit(v1, v2, v3, r.origin, r.direction)
-}
-
-// Möller and Trumbore's test, by origin and direction w. The point at distance d along the ray is v1 + u e1 + v e2.
-pub fn hit(v1: Vector, v2: Vector, v3: Vector, o: Vector, w: Vector) -> Hit
-    ensures { λ h. ⌜ h ≡ triangleHit v1 v2 v3 (rayOf o w) ⌝ }
-{
+    let o = r.origin;
+    let w = r.direction;
     let e1 = v2.sub(v1);
     let e2 = v3.sub(v1);
     let p = w.cross(e2);
