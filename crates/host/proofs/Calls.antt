@@ -21,6 +21,7 @@ use Rattle.scene.specs.declared.entry.Simple.the-variants.{Is, Other}
 use Rattle.check_scene.specs.Checks.{ifAccepted}
 use Rattle.scene.specs.Scenes.{Scene}
 use Rattle.check_scene.specs.declared.Verdict.{Verdict}
+use Rattle.query_solid.specs.Simples.{simpleHit, simpleContains}
 use Rattle.query_solid.specs.Own.{ownContains}
 use Rattle.query_solid.specs.declared.Contained.{Contained}
 use Rattle.host.specs.Calls.{matrixRow, simpleNumber, distanceTo, strikes, boxNumbers, insideSimple}
@@ -32,10 +33,10 @@ inverted-is m m' i e h =
 
 -- the kind is one of 1 to 5, 8 and 9
 module _ (x y : Simple) (s : Solid) (read : y ≡ x) (is : y ≡ Is s) where
-  pub hit-is : (r r' : Ray) (h : Hit) → r ≡ r' → h ≡ hitOf s r → (0 ≡ simpleNumber x) × ((h .t ≡ distanceTo x r') × (h .ok ≡ strikes x r'))
-  unfolding simpleNumber distanceTo strikes
+  pub hit-is : (r r' : Ray) (h : Hit) → r ≡ r' → h ≡ simpleHit x r → (0 ≡ simpleNumber x) × ((h .t ≡ distanceTo x r') × (h .ok ≡ strikes x r'))
+  unfolding simpleNumber distanceTo strikes simpleHit
   hit-is r r' h e k =
-      let g : h ≡ hitOf s r' = k ∙ ap (hitOf s) e in
+      let g : h ≡ hitOf s r' = k ∙ ap (λ (z : Simple). simpleHit z r) (sym read ∙ is) ∙ ap (hitOf s) e in
       subst (λ (z : Simple). (0 ≡ simpleNumber z) × ((h .t ≡ distanceTo z r') × (h .ok ≡ strikes z r'))) (sym is ∙ read)
       (refl, (ap (λ (i : Hit). i .t) g, ap (λ (i : Hit). i .ok) g))
 
@@ -43,10 +44,10 @@ module _ (x y : Simple) (s : Solid) (read : y ≡ x) (is : y ≡ Is s) where
   unfolding simpleNumber boxNumbers
   box-is b k = subst (λ (z : Simple). (0 ≡ simpleNumber z) × (boxRow b ≡ boxNumbers z)) (sym is ∙ read) (refl, ap boxRow k)
 
-  pub inside-is : (p p' : Vector) (f : Float) (a : Bool) → p ≡ p' → a ≡ containsOf s p f → (0 ≡ simpleNumber x) × (a ≡ insideSimple x p' f)
-  unfolding simpleNumber insideSimple
+  pub inside-is : (p p' : Vector) (f : Float) (a : Bool) → p ≡ p' → a ≡ simpleContains x p f → (0 ≡ simpleNumber x) × (a ≡ insideSimple x p' f)
+  unfolding simpleNumber insideSimple simpleContains
   inside-is p p' f a e k =
-      subst (λ (z : Simple). (0 ≡ simpleNumber z) × (a ≡ insideSimple z p' f)) (sym is ∙ read) (refl, k ∙ ap (λ (q : Vector). containsOf s q f) e)
+      subst (λ (z : Simple). (0 ≡ simpleNumber z) × (a ≡ insideSimple z p' f)) (sym is ∙ read) (refl, k ∙ ap (λ (z : Simple). simpleContains z p f) (sym read ∙ is) ∙ ap (λ (q : Vector). containsOf s q f) e)
 
 -- and none of them
 module _ (x y : Simple) (read : y ≡ x) (is : y ≡ Other) where

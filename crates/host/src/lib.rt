@@ -187,8 +187,8 @@ pub extern "C" fn larnt_solid_hit(
     ensures struck { λ _. ⌜ now (ok .exit) ≡ strikes (simpleOf kind (numbersOf (now (n .entry)))) (rayOfRow (now (ray .entry))) ⌝ }
 {
     match scene::entry::simple_of(kind, sixteen(n)) {
-        Simple::Is(s) => {
-            let h = s.intersect(ray_from(ray));
+        Simple::Is(_) => {
+            let h = query_solid::simple::hit(kind, n, ray_from(ray));
             *t = h.t;
             *ok = h.ok;
             0
@@ -233,8 +233,8 @@ pub extern "C" fn larnt_solid_contains(
     ensures lent { λ _. ⌜ now (inside .exit) ≡ insideSimple (simpleOf kind (numbersOf (now (n .entry)))) (pointOf (now (p .entry))) f ⌝ }
 {
     match scene::entry::simple_of(kind, sixteen(n)) {
-        Simple::Is(s) => {
-            *inside = s.contains(point(p), f);
+        Simple::Is(_) => {
+            *inside = query_solid::simple::contains(kind, n, point(p), f);
             0
         }
         Simple::Other => {

@@ -1,5 +1,6 @@
 // What the solid at an entry of a scene answers by itself: its hit, and what it contains.
 pub mod answers;
+pub mod simple;
 
 ghost use mathlib.Core.Path.{_≡_};
 ghost use Rattle.scene.specs.Scenes.{sceneOf};

@@ -18,6 +18,8 @@ use Rattle.scene.specs.declared.entry.Simple.{Simple}
 use Rattle.scene.specs.declared.entry.Simple.the-variants.{Is, Other}
 use Rattle.scene.specs.declared.entry.Op.{Op}
 use Rattle.scene.specs.declared.entry.Op.the-variants.{Intersection, Difference, TrueIntersection, TrueDifference}
+use Rattle.scene.specs.declared.entry.Parts.{Parts}
+use Rattle.scene.specs.declared.entry.Parts.the-variants.{Placed as PlacedPart, Cut as CutParts, None as NoParts}
 use Rattle.scene.specs.declared.entry.Entry.{Entry}
 use Rattle.scene.specs.declared.entry.Entry.the-variants.{Simple as SimpleEntry, Placed, Cut, None}
 
@@ -57,6 +59,12 @@ matrixOf n =
 -- a cut's operation: 0 is the intersection and 1 the difference (document 01), 2 and 3 are the same with the true distance (document 02, vi)
 unfoldable pub opOf : ℕ → Op
 opOf detail = cond (eqb detail 0) Intersection (cond (eqb detail 1) Difference (cond (eqb detail 2) TrueIntersection TrueDifference))
+
+-- the parts that an entry names: that of a placing, or the two of a cut by operations 0 to 3
+unfoldable pub partsOf : Marks → Parts
+partsOf m =
+    cond (eqb (m .kind) 6) (PlacedPart (m .first))
+    (cond (eqb (m .kind) 7) (cond (leb (m .detail) 3) (CutParts (opOf (m .detail)) (m .first) (m .second)) NoParts) NoParts)
 
 -- kind 7, a cut, by operations 0 to 3
 unfoldable pub cutOf : Marks → Entry
@@ -101,6 +109,10 @@ marksAt marks i = marksOf (row 4 i marks)
 
 abbrev pub numbersAt : List Float → ℕ → Numbers
 numbersAt numbers i = numbersOf (row 16 i numbers)
+
+-- whether each of the three lists has entry i
+unfoldable pub isThere : List Float → List Float → List ℕ → ℕ → Bool
+isThere numbers inverses marks i = ltb i (length numbers / 16) && (ltb i (length inverses / 16) && ltb i (length marks / 4))
 
 -- entry i of a scene with its inverses; `None` where a list does not have it
 unfoldable pub entryAt : List Float → List Float → List ℕ → ℕ → Entry

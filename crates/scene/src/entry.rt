@@ -1,6 +1,8 @@
 // An entry of a scene: its 16 numbers and 4 marks, read as what they stand for.
 ghost use mathlib.Core.Path.{_≡_};
-ghost use Rattle.scene.specs.Entries.{closedOf, simpleOf, matrixOf, matrixNumbers, striped, stripeCount, opOf, cutOf, compositeOf, entryOf, entryAt};
+ghost use Prim.Native.Nat.{_+_, _*_, _≤_};
+ghost use lib.ListN.{length};
+ghost use Rattle.scene.specs.Entries.{simpleOf, matrixOf, matrixNumbers, striped, stripeCount, opOf, partsOf, compositeOf, entryOf, marksAt, numbersAt, isThere, entryAt};
 use geometry::vector::Vector;
 use matrix::Matrix;
 use rows::Marks;
@@ -13,63 +15,53 @@ pub enum Simple {
     Other,
 }
 
-// Kind 8 is a closed cylinder (radius, z0, z1) and 9 a closed cone (radius, height).
-fn closed_of(kind: u32, n: Numbers) -> Simple
-    ensures { λ r. ⌜ r ≡ closedOf kind n ⌝ }
-{
-    if kind == 8 {
-        return Simple::Is(Solid::ClosedCylinder {
-            radius: n.x00,
-            z0: n.x01,
-            z1: n.x02,
-        });
-    }
-    if kind == 9 {
-        return Simple::Is(Solid::ClosedCone {
-            radius: n.x00,
-            height: n.x01,
-        });
-    }
-    Simple::Other
-}
-
-// Kind 1 is a sphere (centre, radius), 2 a cylinder (radius, z0, z1), 3 a cone (radius, height),
-// 4 a cube (min, max) and 5 a triangle (three corners).
+// Kind 1 is a sphere (centre, radius), 2 a cylinder (radius, z0, z1), 3 a cone (radius, height), 4 a cube (min, max),
+// 5 a triangle (three corners), 8 a closed cylinder and 9 a closed cone. One expression: where the solid is then
+// matched on, the compiler makes one choice of the two. Returned from each case, it would go through memory.
 pub fn simple_of(kind: u32, n: Numbers) -> Simple
     ensures { λ r. ⌜ r ≡ simpleOf kind n ⌝ }
 {
     let a = Vector::new(n.x00, n.x01, n.x02);
+    let b = Vector::new(n.x03, n.x10, n.x11);
+    let c = Vector::new(n.x12, n.x13, n.x20);
     if kind == 1 {
-        return Simple::Is(Solid::Sphere {
+        Simple::Is(Solid::Sphere {
             center: a,
             radius: n.x03,
-        });
-    }
-    if kind == 2 {
-        return Simple::Is(Solid::Cylinder {
+        })
+    } else if kind == 2 {
+        Simple::Is(Solid::Cylinder {
             radius: n.x00,
             z0: n.x01,
             z1: n.x02,
-        });
-    }
-    if kind == 3 {
-        return Simple::Is(Solid::Cone {
+        })
+    } else if kind == 3 {
+        Simple::Is(Solid::Cone {
             radius: n.x00,
             height: n.x01,
-        });
-    }
-    let b = Vector::new(n.x03, n.x10, n.x11);
-    if kind == 4 {
-        return Simple::Is(Solid::Cube { min: a, max: b });
-    }
-    if kind == 5 {
-        return Simple::Is(Solid::Triangle {
+        })
+    } else if kind == 4 {
+        Simple::Is(Solid::Cube { min: a, max: b })
+    } else if kind == 5 {
+        Simple::Is(Solid::Triangle {
             v1: a,
             v2: b,
-            v3: Vector::new(n.x12, n.x13, n.x20),
-        });
+            v3: c,
+        })
+    } else if kind == 8 {
+        Simple::Is(Solid::ClosedCylinder {
+            radius: n.x00,
+            z0: n.x01,
+            z1: n.x02,
+        })
+    } else if kind == 9 {
+        Simple::Is(Solid::ClosedCone {
+            radius: n.x00,
+            height: n.x01,
+        })
+    } else {
+        Simple::Other
     }
-    closed_of(kind, n)
 }
 
 // Whether the detail of a kind is a stripe count: cylinder and cone, open or closed.
@@ -180,26 +172,37 @@ pub fn op_of(detail: u32) -> Op
     Op::TrueDifference
 }
 
-fn cut_of(m: Marks) -> Entry
-    ensures { λ e. ⌜ e ≡ cutOf m ⌝ }
+// The parts that an entry names: that of a placing, kind 6, or the two of a cut, kind 7, by operations 0 to 3.
+pub enum Parts {
+    Placed(usize),
+    Cut(Op, usize, usize),
+    None,
+}
+
+pub fn parts_of(m: Marks) -> Parts
+    ensures { λ r. ⌜ r ≡ partsOf m ⌝ }
 {
-    if m.detail <= 3 {
-        return Entry::Cut(op_of(m.detail), m.first as usize, m.second as usize);
+    if m.kind == 6 {
+        return Parts::Placed(m.first as usize);
     }
-    Entry::None
+    if m.kind == 7 {
+        if m.detail <= 3 {
+            return Parts::Cut(op_of(m.detail), m.first as usize, m.second as usize);
+        }
+    }
+    Parts::None
 }
 
 // Kinds 6 and 7, by the marks, the numbers and the numbers of the inverse.
 fn composite_of(m: Marks, n: Numbers, inverse: Numbers) -> Entry
     ensures { λ e. ⌜ e ≡ compositeOf m n inverse ⌝ }
 {
-    if m.kind == 6 {
-        return Entry::Placed(matrix_of(n), matrix_of(inverse), m.first as usize);
+    let p = parts_of(m);
+    match p {
+        Parts::Placed(k) => Entry::Placed(matrix_of(n), matrix_of(inverse), k),
+        Parts::Cut(op, a, b) => Entry::Cut(op, a, b),
+        Parts::None => Entry::None,
     }
-    if m.kind == 7 {
-        return cut_of(m);
-    }
-    Entry::None
 }
 
 pub fn entry_of(m: Marks, n: Numbers, inverse: Numbers) -> Entry
@@ -228,4 +231,43 @@ pub fn entry_at(numbers: &[f64], inverses: &[f64], marks: &[u32], i: usize) -> E
         }
     }
     Entry::None
+}
+
+// Whether each of the three slices has entry i.
+pub fn is_there(numbers: &[f64], inverses: &[f64], marks: &[u32], i: usize) -> bool
+    ensures { λ r. ⌜ r ≡ isThere (now (numbers .entry)) (now (inverses .entry)) (now (marks .entry)) i ⌝ }
+{
+    if i < numbers.len() / 16 {
+        if i < inverses.len() / 16 {
+            return i < marks.len() / 4;
+        }
+    }
+    false
+}
+
+// The simple solid in row i, if it is one.
+pub fn simple_at(numbers: &[f64], marks: &[u32], i: usize) -> Simple
+    requires { ⌜ (i * 16 + 16 ≤ length (now numbers)) × (i * 4 + 4 ≤ length (now marks)) ⌝ }
+    ensures { λ r. ⌜ r ≡ simpleOf (marksAt (now (marks .entry)) i .kind) (numbersAt (now (numbers .entry)) i) ⌝ }
+{
+    simple_of(
+        rows::read_marks(marks, i).kind,
+        rows::read_numbers(numbers, i),
+    )
+}
+
+// The parts that row i names.
+pub fn parts_at(marks: &[u32], i: usize) -> Parts
+    requires { ⌜ i * 4 + 4 ≤ length (now marks) ⌝ }
+    ensures { λ r. ⌜ r ≡ partsOf (marksAt (now (marks .entry)) i) ⌝ }
+{
+    parts_of(rows::read_marks(marks, i))
+}
+
+// The matrix in row i: that of a placing, or its inverse.
+pub fn matrix_at(xs: &[f64], i: usize) -> Matrix
+    requires { ⌜ i * 16 + 16 ≤ length (now xs) ⌝ }
+    ensures { λ v. ⌜ v ≡ matrixOf (numbersAt (now (xs .entry)) i) ⌝ }
+{
+    matrix_of(rows::read_numbers(xs, i))
 }

@@ -1,8 +1,10 @@
 -- Laws on the reading of a solid and on the steps of a cut, for the proofs of the recursion. Assumes nothing.
-use Prim.Native.Nat.{ℕ, zero, suc, _-_}
+use Prim.Native.Nat.{ℕ, zero, suc, _-_, _≤_, _<_}
+use native.Mathlib.Omega.{arith}
+use mathlib.Core.Logic.{_⊎_, inl, inr}
 use mathlib.Core.Path.{_≡_, refl, sym, ap, _∙_}
 use mathlib.Core.List.{List}
-use mathlib.Core.Bool.{Bool, true, false, not, _&&_, _||_}
+use mathlib.Core.Bool.{Bool, true, false, true≢false, not, _&&_, _||_}
 use native.Mathlib.Numerals.{sub-one}
 use lib.Ieee.{Float}
 use Rattle.floats.specs.Arith.{_⊕_, hundredth}
@@ -11,16 +13,18 @@ use Rattle.geometry.specs.Hits.{isOk}
 use Rattle.geometry.specs.declared.vector.Vector.{Vector}
 use Rattle.geometry.specs.declared.ray.Ray.{Ray}
 use Rattle.geometry.specs.declared.hit.Hit.{Hit}
-use Rattle.scene.specs.Entries.{entryAt, simpleOr}
-use Rattle.scene.specs.declared.entry.Simple.{Simple}
-use Rattle.scene.specs.declared.entry.Simple.the-variants.{Is, Other}
+use Rattle.matrix.specs.declared.Matrix.{Matrix}
+use Rattle.scene.specs.Entries.{entryAt, isThere, marksAt, numbersAt, matrixOf, partsOf}
+use Rattle.scene.specs.declared.entry.Parts.{Parts}
+use Rattle.scene.specs.declared.entry.Parts.the-variants.{Placed, Cut, None}
+use Rattle.scene.proofs.Parts.{entry-placed}
 use Rattle.scene.specs.declared.entry.Entry.{Entry}
-use Rattle.scene.specs.declared.entry.Entry.the-variants.{None}
-use Rattle.scene_simple.specs.Simples.{simpleHit, simpleContains}
 use Rattle.refusals.specs.declared.Refusal.{Refusal}
 use Rattle.refusals.specs.declared.Refusal.the-variants.{Restarts}
 use Rattle.scene_shape.specs.Shapes.{Shape, read, decode, shapeOf, shapeHit, shapeContains, cutFrom}
-use Rattle.scene_shape.specs.Cuts.{both, step, acceptedOr, restarted}
+use Rattle.scene_shape.specs.Cuts.{rescaled, both, step, acceptedOr, restarted}
+use Rattle.scene_shape.specs.Meetings.{placing, meetingOf, toldBy}
+use Rattle.scene_shape.specs.declared.Meeting.{Meeting}
 use Rattle.scene_shape.specs.declared.Struck.{Struck}
 use Rattle.scene_shape.specs.declared.Struck.the-variants.{At, Refused}
 
@@ -30,23 +34,11 @@ unfolding read
 decode-is zero ns vs ms i f p = absurd (f refl)
 decode-is (suc d) ns vs ms i f p = rw (sub-one, p)
 
--- a simple solid, or none, has its own hit and insides
-hit-simply : (g : ℕ → Shape) (s : Simple) (r : Ray) → At (simpleHit s r) ≡ shapeHit (shapeOf g (simpleOr s None)) r
-unfolding shapeOf shapeHit simpleOr simpleHit
-hit-simply g (Is s) r = refl
-hit-simply g Other r = refl
-
-contains-simply : (g : ℕ → Shape) (s : Simple) (p : Vector) (f : Float) → simpleContains s p f ≡ shapeContains (shapeOf g (simpleOr s None)) p f
-unfolding shapeOf shapeContains simpleOr simpleContains
-contains-simply g (Is s) p f = refl
-contains-simply g Other p f = refl
-
-module _ (d : ℕ) (ns vs : List Float) (ms : List ℕ) (i : ℕ) (s : Simple) (f : d ≡ 0 → ⊥) (e : entryAt ns vs ms i ≡ simpleOr s None) where
-  pub simple-hit : (r : Ray) {h : Hit} → h ≡ simpleHit s r → At h ≡ shapeHit (decode d ns vs ms i) r
-  simple-hit r eh = rw (decode-is d ns vs ms i f e) (ap At eh ∙ hit-simply (decode (d - 1) ns vs ms) s r)
-
-  pub simple-contains : (p : Vector) (w : Float) {b : Bool} → b ≡ simpleContains s p w → b ≡ shapeContains (decode d ns vs ms i) p w
-  simple-contains p w eb = rw (decode-is d ns vs ms i f e) (eb ∙ contains-simply (decode (d - 1) ns vs ms) s p w)
+-- a refusal stays one, whatever the scale
+pub told-refused : (placed : Bool) (scale : Float) {a : Struck} {k : Refusal} → a ≡ Refused k → Refused k ≡ toldBy placed scale a
+unfolding toldBy rescaled
+told-refused true scale e = rw e
+told-refused false scale e = rw e
 
 pub and-then : {r a s b : Bool} → r ≡ a → r ≡ true → s ≡ b → s ≡ (a && b)
 and-then p h q = rw (← p, h, q)
@@ -61,6 +53,36 @@ not-true false e = refl
 pub not-false : (b : Bool) → not b ≡ false → b ≡ true
 not-false true e = refl
 not-false false e = sym e
+
+-- an entry that is met where it stands is no placing, so a placing is met a level down
+pub falls-below : {d u k : ℕ} {p : Parts} → (d < u) ⊎ ((d ≡ u) × (placing p ≡ false)) → p ≡ Placed k → d < u
+unfolding placing
+falls-below (inl l) e = l
+falls-below (inr h) e = absurd (true≢false (ap placing (sym e) ∙ h .1))
+
+pub at-most : {d u : ℕ} {A : Type 0} → (d < u) ⊎ ((d ≡ u) × A) → d ≤ u
+at-most (inl l) = omega (arith, l)
+at-most (inr h) = omega (arith, h .0)
+
+pub met-below : (v : Matrix) (ms : List ℕ) (i : ℕ) (r : Ray) (d : ℕ) {q : Meeting} → q ≡ meetingOf v (partsOf (marksAt ms i)) i r d → (d ≡ 0 → ⊥) → (q .depth < d) ⊎ ((q .depth ≡ d) × (placing (partsOf (marksAt ms (q .i))) ≡ false))
+unfolding meetingOf placing
+met-below v ms i r d {q} e z = go (partsOf (marksAt ms i)) refl e
+  where
+    go : (p : Parts) → partsOf (marksAt ms i) ≡ p → q ≡ meetingOf v p i r d → (q .depth < d) ⊎ ((q .depth ≡ d) × (placing (partsOf (marksAt ms (q .i))) ≡ false))
+    go (Placed k) h m = inl (rw m (omega (arith, z)))
+    go (Cut o a b) h m = inr (rw m, rw (m, h))
+    go None h m = inr (rw m, rw (m, h))
+
+-- the answer of where a ray meets an entry is the entry's own
+module _ (ns vs : List Float) (ms : List ℕ) (i : ℕ) {t : Bool} (e : t ≡ isThere ns vs ms i) (h : t ≡ true) (d : ℕ) (z : d ≡ 0 → ⊥) (r : Ray) where
+  pub met-hit : {q : Meeting} → q ≡ meetingOf (matrixOf (numbersAt vs i)) (partsOf (marksAt ms i)) i r d → {a : Struck} → a ≡ shapeHit (decode (q .depth) ns vs ms (q .i)) (q .ray) → toldBy (q .placed) (q .scale) a ≡ shapeHit (decode d ns vs ms i) r
+  unfolding meetingOf toldBy shapeOf shapeHit
+  met-hit {q} eq {a} ea = go (partsOf (marksAt ms i)) refl eq
+    where
+      go : (p : Parts) → p ≡ partsOf (marksAt ms i) → q ≡ meetingOf (matrixOf (numbersAt vs i)) p i r d → toldBy (q .placed) (q .scale) a ≡ shapeHit (decode d ns vs ms i) r
+      go (Placed k) ep m = rw (ea, m, decode-is d ns vs ms i z (entry-placed ns vs ms i e h ep refl))
+      go (Cut o a b) ep m = rw (ea, m)
+      go None ep m = rw (ea, m)
 
 -- A cut's answer, by what a turn finds: x and y are what the parts answer, and z the first refusal or the nearer hit.
 module _ (tell : Float → Hit → Hit) (n : ℕ) (a b : Ray → Struck) (inside : Vector → Bool) (sum : Float) (r : Ray) {x y z : Struck} (ex : x ≡ a r) (ey : y ≡ b r) (ez : z ≡ both x y) where

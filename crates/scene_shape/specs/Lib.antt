@@ -1,2 +1,3 @@
 pub mod Shapes
 pub mod Cuts
+pub mod Meetings

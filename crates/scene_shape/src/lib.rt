@@ -2,29 +2,25 @@
 // be such themselves.
 ghost use mathlib.Core.Path.{_≡_};
 ghost use Rattle.scene_shape.specs.Cuts as Cuts;
+ghost use mathlib.Core.Logic.{_⊎_};
+ghost use mathlib.Core.Bool.{false};
+ghost use Prim.Native.Nat.{_+_, _*_, _≤_, _<_};
+ghost use lib.ListN.{length};
+ghost use Rattle.scene.specs.Entries.{matrixOf, partsOf, marksAt, numbersAt};
+ghost use Rattle.scene_shape.specs.Meetings.{meetingOf, toldBy, placing};
 ghost use Rattle.scene_shape.specs.Shapes.{decode, shapeContains, shapeHit, cutHit};
 use geometry::hit::Hit;
 use geometry::ray::Ray;
 use geometry::vector::Vector;
 use refusals::Refusal;
 use scene::entry::Op;
+use scene::entry::Parts;
+use scene::entry::Simple;
 
 // The hit of a ray, or why there is none.
 pub enum Struck {
     At(Hit),
     Refused(Refusal),
-}
-
-fn rescaled(scale: f64, a: Struck) -> Struck
-    ensures { λ r. ⌜ r ≡ Cuts.rescaled scale a ⌝ }
-{
-    match a {
-        Struck::At(h) => Struck::At(Hit {
-            t: h.t / scale,
-            ok: h.ok,
-        }),
-        Struck::Refused(n) => Struck::Refused(n),
-    }
 }
 
 // An answer as it is, by its fields: copied whole, its hit's flag would be read as a word where a byte was written,
@@ -72,7 +68,7 @@ fn from_first(sum: f64, h: Hit) -> Hit
 }
 
 // What a cut answers for a hit that it accepts.
-pub fn tell_of(op: Op, sum: f64, h: Hit) -> Hit
+fn tell_of(op: Op, sum: f64, h: Hit) -> Hit
     ensures { λ r. ⌜ r ≡ Cuts.tellOf op sum h ⌝ }
 {
     match op {
@@ -84,7 +80,7 @@ pub fn tell_of(op: Op, sum: f64, h: Hit) -> Hit
 }
 
 // Whether an operation takes the second part away from the first.
-pub fn takes_away(op: Op) -> bool
+fn takes_away(op: Op) -> bool
     ensures { λ r. ⌜ r ≡ Cuts.takesAway op ⌝ }
 {
     match op {
@@ -110,25 +106,33 @@ pub fn entry_contains(
     if depth == 0 {
         return false;
     }
-    if !scene_simple::is_there(numbers, inverses, marks, i) {
+    if !scene::entry::is_there(numbers, inverses, marks, i) {
         return false;
     }
-    let m = rows::read_marks(marks, i);
-    if m.kind == 6 {
-        let v = scene_simple::inverse_at(inverses, i);
-        let k = rows::index(m.first);
-        return entry_contains(numbers, inverses, marks, k, v.mul_position(p), f, depth - 1);
-    }
-    if m.kind == 7 {
-        if m.detail > 3 {
-            return false;
+    let s = scene::entry::simple_at(numbers, marks, i);
+    match s {
+        Simple::Is(solid) => solid.contains(p, f),
+        Simple::Other => {
+            let e = scene::entry::parts_at(marks, i);
+            match e {
+                Parts::Placed(k) => {
+                    let v = scene::entry::matrix_at(inverses, i);
+                    entry_contains(numbers, inverses, marks, k, v.mul_position(p), f, depth - 1)
+                }
+                Parts::Cut(op, a, b) => cut_contains(
+                    numbers,
+                    inverses,
+                    marks,
+                    op,
+                    a,
+                    b,
+                    p,
+                    depth - 1,
+                ),
+                Parts::None => false,
+            }
         }
-        let op = scene::entry::op_of(m.detail);
-        let a = rows::index(m.first);
-        let b = rows::index(m.second);
-        return cut_contains(numbers, inverses, marks, op, a, b, p, depth - 1);
     }
-    scene_simple::contains(numbers, i, m.kind, p, f)
 }
 
 fn cut_contains(
@@ -152,6 +156,111 @@ fn cut_contains(
     entry_contains(numbers, inverses, marks, b, p, 1e-3, depth)
 }
 
+// Where a ray meets entry i, of which `depth` levels are left: at the part of a placing, turned, with its scale; at any
+// other entry itself. So a solid, placed or not, is hit at one and the same place of the code, and a turned ray need not
+// go through memory.
+pub struct Meeting {
+    pub i: usize,
+    pub ray: Ray,
+    pub placed: bool,
+    pub scale: f64,
+    pub depth: usize,
+}
+
+fn met_at(inverses: &[f64], marks: &[u32], i: usize, r: Ray, depth: usize) -> Meeting
+    requires { ⌜ (i * 16 + 16 ≤ length (now inverses)) × (i * 4 + 4 ≤ length (now marks)) × (depth ≡ 0 → ⊥) ⌝ }
+    ensures { λ q. ⌜ q ≡ meetingOf (matrixOf (numbersAt (now (inverses .entry)) i)) (partsOf (marksAt (now (marks .entry)) i)) i r depth ⌝ }
+{
+    let e = scene::entry::parts_at(marks, i);
+    match e {
+        Parts::Placed(k) => {
+            let q = scene::entry::matrix_at(inverses, i).mul_ray(r);
+            let ray = q.ray;
+            Meeting {
+                i: k,
+                ray,
+                placed: true,
+                scale: q.scale,
+                depth: depth - 1,
+            }
+        }
+        Parts::Cut(_, _, _) => Meeting {
+            i,
+            ray: r,
+            placed: false,
+            scale: 1.0,
+            depth,
+        },
+        Parts::None => Meeting {
+            i,
+            ray: r,
+            placed: false,
+            scale: 1.0,
+            depth,
+        },
+    }
+}
+
+// The part's answer as the entry's: over the scale, where the entry is a placing. By its fields.
+fn told(placed: bool, scale: f64, a: Struck) -> Struck
+    ensures { λ r. ⌜ r ≡ toldBy placed scale a ⌝ }
+{
+    match a {
+        Struck::Refused(n) => Struck::Refused(n),
+        Struck::At(h) => {
+            let mut t = h.t;
+            if placed {
+                t = t / scale;
+            }
+            Struck::At(Hit { t, ok: h.ok })
+        }
+    }
+}
+
+// The hit of entry i, of which `depth` levels are left, `above` where it was met: a placing is met a level down.
+fn part_hit(
+    numbers: &[f64],
+    inverses: &[f64],
+    marks: &[u32],
+    i: usize,
+    r: Ray,
+    depth: usize,
+    above: usize,
+) -> Struck
+    requires { ⌜ (depth < above) ⊎ ((depth ≡ above) × (placing (partsOf (marksAt (now marks) i)) ≡ false)) ⌝ }
+    ensures { λ h. ⌜ h ≡ shapeHit (decode depth (now (numbers .entry)) (now (inverses .entry)) (now (marks .entry)) i) r ⌝ }
+{
+    if depth == 0 {
+        return Struck::At(Hit::no_hit());
+    }
+    if !scene::entry::is_there(numbers, inverses, marks, i) {
+        return Struck::At(Hit::no_hit());
+    }
+    let s = scene::entry::simple_at(numbers, marks, i);
+    match s {
+        Simple::Is(solid) => Struck::At(solid.intersect(r.again())),
+        Simple::Other => {
+            let e = scene::entry::parts_at(marks, i);
+            match e {
+                Parts::Placed(_) => entry_hit(numbers, inverses, marks, i, r.again(), depth),
+                Parts::Cut(op, a, b) => cut_hit(
+                    numbers,
+                    inverses,
+                    marks,
+                    op,
+                    a,
+                    b,
+                    r.again(),
+                    depth - 1,
+                    64,
+                    0.0,
+                ),
+                Parts::None => Struck::At(Hit::no_hit()),
+            }
+        }
+    }
+}
+
 // The hit that the solid at entry i, nested at most `depth` deep, gives a ray.
 pub fn entry_hit(
     numbers: &[f64],
@@ -166,30 +275,16 @@ pub fn entry_hit(
     if depth == 0 {
         return Struck::At(Hit::no_hit());
     }
-    if !scene_simple::is_there(numbers, inverses, marks, i) {
+    if !scene::entry::is_there(numbers, inverses, marks, i) {
         return Struck::At(Hit::no_hit());
     }
-    let m = rows::read_marks(marks, i);
-    if m.kind == 6 {
-        let q = scene_simple::inverse_at(inverses, i).mul_ray(r);
-        let k = rows::index(m.first);
-        return rescaled(
-            q.scale,
-            entry_hit(numbers, inverses, marks, k, q.ray, depth - 1),
-        );
-    }
-    if m.kind == 7 {
-        if m.detail > 3 {
-            return Struck::At(Hit::no_hit());
-        }
-        let op = scene::entry::op_of(m.detail);
-        let a = rows::index(m.first);
-        let b = rows::index(m.second);
-        let c = cut_hit(numbers, inverses, marks, op, a, b, r, depth - 1, 64, 0.0);
-        return by_fields(c);
-    }
-    let h = scene_simple::hit(numbers, i, m.kind, r.origin, r.direction);
-    by_fields(Struck::At(h))
+    let q = met_at(inverses, marks, i, r, depth);
+    let ray = q.ray;
+    told(
+        q.placed,
+        q.scale,
+        part_hit(numbers, inverses, marks, q.i, ray, q.depth, depth),
+    )
 }
 
 // The hit of a cut, with so many restarts left, for a ray that starts `sum` beyond the first origin.
@@ -207,22 +302,22 @@ fn cut_hit(
 ) -> Struck
     ensures { λ h. ⌜ h ≡ cutHit op restarts (decode depth (now (numbers .entry)) (now (inverses .entry)) (now (marks .entry))) a b sum r ⌝ }
 {
-    let ha = entry_hit(numbers, inverses, marks, a, r, depth);
-    let hb = entry_hit(numbers, inverses, marks, b, r, depth);
+    let ha = entry_hit(numbers, inverses, marks, a, r.again(), depth);
+    let hb = entry_hit(numbers, inverses, marks, b, r.again(), depth);
     let n = both(ha, hb);
     match n {
         Struck::Refused(k) => Struck::Refused(k),
         Struck::At(h) => {
             if !h.is_ok() {
-                return Struck::At(tell_of(op, sum, h));
+                return by_fields(Struck::At(tell_of(op, sum, h)));
             }
             if cut_contains(numbers, inverses, marks, op, a, b, r.position(h.t), depth) {
-                return Struck::At(tell_of(op, sum, h));
+                return by_fields(Struck::At(tell_of(op, sum, h)));
             }
             if restarts == 0 {
                 return Struck::Refused(Refusal::Restarts);
             }
-            cut_hit(
+            by_fields(cut_hit(
                 numbers,
                 inverses,
                 marks,
@@ -233,7 +328,7 @@ fn cut_hit(
                 depth,
                 restarts - 1,
                 sum + (h.t + 0.01),
-            )
+            ))
         }
     }
 }

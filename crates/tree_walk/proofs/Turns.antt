@@ -1,13 +1,12 @@
 -- The turns of a leaf's loop, the rounds of the full walk, and the branches of `skip`. Assumes nothing.
 use mathlib.Core.Path.{_≡_, refl, sym, ap, _∙_, subst}
 use mathlib.Core.List.{List, []}
-use mathlib.Core.Bool.{Bool, true, false, _||_}
+use mathlib.Core.Bool.{Bool, true, false}
 use Prim.Native.Nat.{ℕ, zero, suc, _+_, _-_, _≤_, _<_}
 use native.Mathlib.Omega.{arith}
 use native.Mathlib.Nat.{add-zero}
 use lib.ListN.{length, take, drop, getD, drop-of-length-le}
 use lib.Seq.{drop-cons, take-nil}
-use lib.Dec.{T}
 use lib.Ieee.{Float, lt, le}
 use Rattle.floats.specs.Arith.{zeroF}
 use Rattle.geometry.specs.Boxes.{boxTest, skips}
@@ -115,13 +114,5 @@ skips-behind s g best e h k = rw (← e) (rw (h, k))
 pub skips-late : (s g : Span) (best : Float) → s ≡ g → lt (s .tmax) (s .tmin) ≡ false → le (s .tmax) zeroF ≡ false → le best (s .tmin) ≡ skips g best
 skips-late s g best e h k = rw (← e) (rw (h, k))
 
-or-middle : (a b c : Bool) → T b → true ≡ (a || b || c)
-or-middle true b c h = refl
-or-middle false true c h = refl
-or-middle false false c h = absurd h
-
 pub skip-read : (b c : BBox) (r : Ray) (best : Float) (s : Bool) → b ≡ c → s ≡ skips (boxTest b r) best → s ≡ skips (boxTest c r) best
 skip-read b c r best s e h = subst (λ (x : BBox). s ≡ skips (boxTest x r) best) e h
-
-pub behind-skipped : (s : Span) (best : Float) → T (le (s .tmax) zeroF) → true ≡ skips s best
-behind-skipped s best h = or-middle (lt (s .tmax) (s .tmin)) (le (s .tmax) zeroF) (le best (s .tmin)) h

@@ -5,16 +5,13 @@ ghost use Prim.Native.Nat.{_+_, _*_, _≤_, _<_};
 ghost use lib.ListN.{length, take, drop};
 ghost use lib.Dec.{eqb, ltb};
 ghost use Rattle.geometry.specs.Boxes.{boxTest, skips};
-ghost use Rattle.geometry.specs.Rays.{rayOf};
 ghost use Rattle.rows.specs.Rows.{row};
 ghost use Rattle.rows.specs.Points.{boxOfRow};
 ghost use Rattle.tree_walk.specs.Walks as Walks;
 use geometry::bounding_box::BBox;
 use geometry::hit::Hit;
 use geometry::ray::Ray;
-use geometry::vector::Vector;
 use refusals::Refusal;
-use scene_plain::Plain;
 use scene_shape::Struck;
 
 // The best hit and the entry whose t last became the best: 0xffffffff, which no entry is, where none did.
@@ -48,30 +45,11 @@ pub fn nothing() -> Nearest
     }
 }
 
-// The hit that the solid at entry i gives the ray from o along d by itself: a plain one, as most are, without an entry
-// made of its row. The ray goes as two vectors: as one value it would go through memory.
-pub fn hit_from(
-    numbers: &[f64],
-    inverses: &[f64],
-    marks: &[u32],
-    o: Vector,
-    d: Vector,
-    i: usize,
-) -> Struck
-    ensures { λ h. ⌜ h ≡ Walks.entryHit (now (numbers .entry)) (now (inverses .entry)) (now (marks .entry)) (rayOf o d) i ⌝ }
-{
-    let a = scene_plain::plain_hit(numbers, inverses, marks, i, o, d);
-    match a {
-        // by its fields: copied whole, its flag is waited for
-        Plain::At(h) => Struck::At(Hit { t: h.t, ok: h.ok }),
-        Plain::Other => scene_open::entry_hit(numbers, inverses, marks, i, o, d),
-    }
-}
-
+// The hit that the solid at entry i gives the ray by itself.
 pub fn entry_hit(numbers: &[f64], inverses: &[f64], marks: &[u32], r: Ray, i: usize) -> Struck
     ensures { λ h. ⌜ h ≡ Walks.entryHit (now (numbers .entry)) (now (inverses .entry)) (now (marks .entry)) r i ⌝ }
 {
-    hit_from(numbers, inverses, marks, r.origin, r.direction, i)
+    scene_shape::entry_hit(numbers, inverses, marks, i, r, 8)
 }
 
 pub fn nearer(i: u32, h: Hit, best: Nearest) -> Nearest
@@ -148,9 +126,6 @@ fn skip_row(xs: &[f64], i: usize, r: Ray, best: f64) -> bool
     requires { ⌜ i * 6 + 6 ≤ length (now xs) ⌝ }
     ensures { λ s. ⌜ s ≡ skips (boxTest (boxOfRow (row 6 i (now (xs .entry)))) r) best ⌝ }
 {
-    if tree_behind::behind_row(xs, i, r.origin, r.direction) {
-        return true;
-    }
     let b = rows::read_box(xs, i);
     skip(b, r, best)
 }

@@ -7,16 +7,13 @@ use Rattle.host.proofs.larnt_solid_hit.Tie as tie
 
 returns : tie.Need-returns
 returns c =
-    let at1 = c .before in let ray-from = at1 .ray-from in
-    let at2 = at1 .before in let before = at2 .before in
-    let s = before in
-    let e = s .before .before in
-    hit-is _ _ _ (e .simple-of .ensures ∙ ap (simpleOf _) (e .before .sixteen .ensures)) (s .s .given .1) _ _ _ (ray-from .ensures) (c .intersect .ensures)
+    let e = c .before .before .before .before in
+    hit-is _ _ _ (e .simple-of .ensures ∙ ap (simpleOf _) (e .before .sixteen .ensures)) (c .before .before .enum-told .given .1) _ _ _ (c .before .ray-from .ensures) (c .hit .ensures)
 
 returns-2 : tie.Need-returns-2
 returns-2 c =
     let e = c .before .before in
-    no-hit _ _ (e .simple-of .ensures ∙ ap (simpleOf _) (e .before .sixteen .ensures)) (c .enum-told .given .1) _
+    no-hit _ _ (e .simple-of .ensures ∙ ap (simpleOf _) (e .before .sixteen .ensures)) (c .enum-told2 .given .1) _
 
 pub larnt-solid-hit-spec : {M : Type 1} → statement M
 larnt-solid-hit-spec = tie.close (tie.spec (λ c κs. tt) (λ c κs. tt) (λ c. search needs) (λ c κs. tt) (λ c κs. tt) (λ c. search needs) returns returns-2)
