@@ -1,4 +1,2 @@
-pub mod Aiming
-pub mod Products
-pub mod Axes
+pub mod Planes
 pub mod Missing

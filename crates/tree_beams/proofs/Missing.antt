@@ -1,72 +1,102 @@
--- A box fails the test where one of its slabs is left at or before the origin, or before another is entered, by the products. Assumes nothing.
+-- A box fails the test where products show that it is left at or before the origin, or before it is entered. Assumes nothing.
 use mathlib.Core.Path.{_≡_, refl, sym, subst, _∙_}
-use mathlib.Core.List.{List}
 use mathlib.Core.Logic.{_⊎_, inl, inr}
-use mathlib.Core.Bool.{Bool, true, false, cond, not, _&&_, _||_}
-use Prim.Native.Nat.{ℕ, _+_, _-_, _*_, _≤_}
-use native.Mathlib.Omega.{arith}
-use lib.ListN.{length, getD}
+use mathlib.Core.Bool.{Bool, true, false, cond, not, _&&_, _||_, and-eq-true-iff}
 use lib.Dec.{T}
-use lib.Ieee.{Float, nan, ofBits, lt, le}
-use Rattle.floats.specs.Arith.{_⊖_, _⊘_, zeroF}
-use Rattle.floats.specs.Numbers.{within, minOf, maxOf}
-use Rattle.floats.proofs.Order.{le-trans, le-lt-trans, lt-le-trans, lt-trans, le-number-l, le-number-r, lt-number-l, lt-number-r, le-or-gt, le-not-gt}
+use lib.Ieee.{Float, ofBits, lt, le}
+use lib.Ieee.Fits.{sub-fits}
+use Rattle.floats.specs.Arith.{_⊖_, _⊗_, zeroF}
+use Rattle.floats.specs.Numbers.{number, within, minOf, maxOf}
+use Rattle.floats.proofs.Order.{le-refl, le-trans, le-lt-trans, lt-le-trans, lt-trans, lt→le, le-number-l, le-number-r, not-gt→le}
 use Rattle.floats.proofs.Extremes.{orTop, orBot, orTop-id, orBot-id, minOf-left, minOf-right, maxOf-left, maxOf-right}
-use Rattle.geometry.specs.declared.bounding_box.Span.{Span}
-use Rattle.geometry.specs.declared.ray.Ray.{Ray}
-use Rattle.geometry.specs.Boxes.{slab, overlap, boxTest, passes}
-use Rattle.geometry.specs.Limits.{Sound}
-use Rattle.geometry.proofs.Nested.{orTop-lt, lt-orBot}
-use Rattle.rows.specs.Rows.{row}
-use Rattle.rows.specs.Points.{boxOfRow}
-use Rattle.rows.proofs.Rows.{cells, row-cells}
-use Rattle.tree_behind.proofs.Rejects.{overlap-first, overlap-second, overlap-third}
-use Rattle.tree_beams.specs.Beams.{Bounded, Aimed, enterAt, leaveAt, greaterF, lesserF, latestOf, soonestOf, missesRow}
-use Rattle.tree_beams.specs.declared.Bounds.{Bounds}
-use Rattle.tree_beams.specs.declared.Beam.{Beam}
+use Rattle.floats.proofs.Bounds.{within-sub}
 use Rattle.floats.proofs.Tests.{clash}
-use Rattle.tree_beams.proofs.Products.{told}
-use Rattle.tree_beams.proofs.Axes.{Bracketed, Told, told-ordered, slab-forward, slab-backward}
+use Rattle.geometry.specs.declared.bounding_box.BBox.{BBox}
+use Rattle.geometry.specs.declared.bounding_box.Span.{Span}
+use Rattle.geometry.specs.Vectors.{subV, mulV}
+use Rattle.geometry.specs.Boxes.{spanOf, ordered, slab, overlap, boxTest, passes}
+use Rattle.geometry.specs.Limits.{Sound}
+use Rattle.geometry.proofs.Nested.{orTop-lt, lt-orBot, orTop-le-finite}
+use Rattle.tree_beams.specs.Beams.{isShown, isSure, Aimed, greaterF, lesserF, reached, latestOf, soonestOf, longer, nextToZero, missesBox}
+use Rattle.tree_beams.specs.declared.Beam.{Beam}
+use Rattle.tree_beams.proofs.Planes.{Left, Entered, Met, Shown, shown, met, longer-mono}
 
--- ---- the greater and the lesser of two numbers
-module _ (a b : Float) where
-  pub greater-first : lt b a ≡ true → a ≡ greaterF a b
-  unfolding greaterF
-  greater-first h = rw h
+-- ---- one of two numbers
+picked : (Q : Float → Type 0) (t : Bool) (a b : Float) → Q a → Q b → Q (cond t a b)
+picked Q true a b x y = x
+picked Q false a b x y = y
 
-  pub greater-second : lt b a ≡ false → b ≡ greaterF a b
-  unfolding greaterF
-  greater-second h = rw h
-
-  pub lesser-first : lt a b ≡ true → a ≡ lesserF a b
-  unfolding lesserF
-  lesser-first h = rw h
-
-  pub lesser-second : lt a b ≡ false → b ≡ lesserF a b
-  unfolding lesserF
-  lesser-second h = rw h
-
--- ---- one of three numbers
-abbrev pub OneOf : Float → Float → Float → Float → Type 0
-OneOf x a b c = (x ≡ a) ⊎ ((x ≡ b) ⊎ (x ≡ c))
-
-greatest-of : (a b c : Float) → OneOf (greaterF (greaterF a b) c) a b c
+pub greater-of : (Q : Float → Type 0) (a b : Float) → Q a → Q b → Q (greaterF a b)
 unfolding greaterF
-greatest-of a b c = by (lt b a) (lt c (cond (lt b a) a b))
-  where
-    by : (s t : Bool) → OneOf (cond t (cond s a b) c) a b c
-    by true true = inl refl
-    by false true = inr (inl refl)
-    by s false = inr (inr refl)
+greater-of Q a b = picked Q (lt b a) a b
 
-least-of : (a b c : Float) → OneOf (lesserF (lesserF a b) c) a b c
+pub lesser-of : (Q : Float → Type 0) (a b : Float) → Q a → Q b → Q (lesserF a b)
 unfolding lesserF
-least-of a b c = by (lt a b) (lt (cond (lt a b) a b) c)
+lesser-of Q a b = picked Q (lt a b) a b
+
+module _ (a b : Float) (A : T (number a)) (B : T (number b)) where
+  greater-least : T (le a (greaterF a b)) × T (le b (greaterF a b))
+  unfolding greaterF
+  greater-least = go (lt b a) (lt→le b a) (not-gt→le a b A B)
+    where
+      go : (t : Bool) → (T t → T (le b a)) → (T (not t) → T (le a b)) → T (le a (cond t a b)) × T (le b (cond t a b))
+      go true h k = (le-refl a A, h tt)
+      go false h k = (k tt, le-refl b B)
+
+  lesser-most : T (le (lesserF a b) a) × T (le (lesserF a b) b)
+  unfolding lesserF
+  lesser-most = go (lt a b) (lt→le a b) (not-gt→le b a B A)
+    where
+      go : (t : Bool) → (T t → T (le a b)) → (T (not t) → T (le b a)) → T (le (cond t a b) a) × T (le (cond t a b) b)
+      go true h k = (le-refl a A, h tt)
+      go false h k = (k tt, le-refl b B)
+
+-- ---- a slab: its two planes' products n and f
+entered-less : (e p t : Float) → T (le e p) → Entered p t → Entered e t
+entered-less e p t h k i = le-trans e p t h (k (lt-le-trans zeroF e p i h))
+
+left-more : (p l t : Float) → T (le p l) → Left p t → Left l t
+left-more p l t h k = record {
+  by = elim (k .by) [ inl i ↦ inl (le-trans t (p ⊗ longer) (l ⊗ longer) i (longer-mono p l h)) | inr i ↦ inr i ];
+  behind = λ i. k .behind (le-trans p l zeroF h i);
+}
+
+pub record Told (s : Span) (e l : Float) : Type 0 where
+  pub enters : Entered e (s .tmin)
+  pub leaves : Left l (s .tmax)
+
+told : (a b n f : Float) → Met n a → Met f b → Told (ordered a b) (lesserF n f) (greaterF n f)
+unfolding ordered
+told a b n f A B = go (lt b a)
   where
-    by : (s t : Bool) → OneOf (cond t (cond s a b) c) a b c
-    by true true = inl refl
-    by false true = inr (inl refl)
-    by s false = inr (inr refl)
+    e : T (le (lesserF n f) n) × T (le (lesserF n f) f)
+    e = lesser-most n f (A .is) (B .is)
+
+    l : T (le n (greaterF n f)) × T (le f (greaterF n f))
+    l = greater-least n f (A .is) (B .is)
+
+    go : (t : Bool) → Told (cond t (spanOf b a) (spanOf a b)) (lesserF n f) (greaterF n f)
+    go true = record { enters = entered-less (lesserF n f) f b (e .1) (B .enters); leaves = left-more n (greaterF n f) a (l .0) (A .leaves) }
+    go false = record { enters = entered-less (lesserF n f) n a (e .0) (A .enters); leaves = left-more f (greaterF n f) b (l .1) (B .leaves) }
+
+told-slab : (lo hi o d low : Float) → T (within lo) → T (within hi) → T (within o) → Shown d low
+    → Told (slab lo hi o d) (lesserF ((lo ⊖ o) ⊗ low) ((hi ⊖ o) ⊗ low)) (greaterF ((lo ⊖ o) ⊗ low) ((hi ⊖ o) ⊗ low))
+unfolding slab
+told-slab lo hi o d low L H O s =
+    told _ _ _ _ (met (lo ⊖ o) d low (within-sub lo o L O) (sub-fits _ lo o) s) (met (hi ⊖ o) d low (within-sub hi o H O) (sub-fits _ hi o) s)
+
+-- ---- three slabs: one that is entered late enough, and one that is left soon enough. The placed ends: a NaN counts for nothing
+entered-over : (e t u : Float) → T (le (orBot t) (orBot u)) → Entered e t → Entered e (orBot u)
+entered-over e t u h k i = le-trans e t (orBot u) (k i) (rw (orBot-id t (le-number-r e t (k i))) at h)
+
+left-under : (l t u : Float) → T (le (orTop u) (orTop t)) → Left l t → Left l (orTop u)
+left-under l t u h k = record {
+  by = elim (k .by) [
+    | inl i ↦ inl (le-trans (orTop u) t (l ⊗ longer) (rw (orTop-id t (le-number-l t (l ⊗ longer) i)) at h) i)
+    | inr i ↦ inr (le-trans (orTop u) t nextToZero (rw (orTop-id t (le-number-l t nextToZero i)) at h) i)
+  ];
+  behind = λ i. let j = k .behind i in le-trans (orTop u) t zeroF (rw (orTop-id t (le-number-l t zeroF j)) at h) j;
+}
 
 fails-behind : (s : Span) → T (le (s .tmax) zeroF) → T (not (passes s))
 fails-behind s h = go (not (lt (s .tmax) (s .tmin))) (le (s .tmax) zeroF) h
@@ -83,176 +113,68 @@ fails-apart s h = go (lt (s .tmax) (s .tmin)) (le (s .tmax) zeroF) h
     go true b h = tt
     go false b h = absurd h
 
+-- beyond both m and what is next to 0
+beyond : (t m e : Float) → T (le t m) ⊎ T (le t nextToZero) → T (lt (greaterF m nextToZero) e) → T (lt nextToZero e) × T (lt t e)
+unfolding greaterF ofBits
+beyond t m e k h = go (lt nextToZero m) (λ i. i) (λ i j. not-gt→le m nextToZero j tt i) h
+  where
+    go : (r : Bool) → (T r → T (lt nextToZero m)) → (T (not r) → T (number m) → T (le m nextToZero)) → T (lt (cond r m nextToZero) e)
+        → T (lt nextToZero e) × T (lt t e)
+    go true i j h = let g = lt-trans nextToZero m e (i tt) h in (g, elim k [ inl l ↦ le-lt-trans t m e l h | inr l ↦ le-lt-trans t nextToZero e l g ])
+    go false i j h =
+        (h, elim k [ inl l ↦ le-lt-trans t m e l (le-lt-trans m nextToZero e (j tt (le-number-r t m l)) h) | inr l ↦ le-lt-trans t nextToZero e l h ])
+
 module _ (a b c : Span) (ea eb ec la lb lc : Float) (A : Told a ea la) (B : Told b eb lb) (C : Told c ec lc) where
-  pub left-behind : (l : Float) → OneOf l la lb lc → T (le l zeroF) → T (le (overlap a b c .tmax) zeroF)
-  left-behind l (inl p) h = overlap-first a b c (A .behind (subst (λ (x : Float). T (le x zeroF)) p h))
-  left-behind l (inr (inl p)) h = overlap-second a b c (B .behind (subst (λ (x : Float). T (le x zeroF)) p h))
-  left-behind l (inr (inr p)) h = overlap-third a b c (C .behind (subst (λ (x : Float). T (le x zeroF)) p h))
+  abbrev In : Float → Type 0
+  In e = Entered e (orBot (overlap a b c .tmin))
 
-  abbrev two : Float
-  two = minOf (a .tmax) (b .tmax)
+  abbrev Out : Float → Type 0
+  Out l = Left l (orTop (overlap a b c .tmax))
 
-  abbrev last : Float
-  last = maxOf (a .tmin) (b .tmin)
-
-  -- the placed ends: a NaN counts for nothing
-  left-by : (l : Float) → OneOf l la lb lc → T (lt zeroF l) → T (le (orTop (overlap a b c .tmax)) l)
+  entered : In (greaterF (greaterF ea eb) ec)
   unfolding overlap
-  left-by l (inl p) h =
-      let k = A .leaves (subst (λ (x : Float). T (lt zeroF x)) p h) in
-      subst (λ (x : Float). T (le (orTop (minOf two (c .tmax))) x)) (sym p)
-      (le-trans (orTop (minOf two (c .tmax))) (orTop two) la (minOf-left two (c .tmax)) (le-trans (orTop two) (orTop (a .tmax)) la (minOf-left (a .tmax) (b .tmax)) (rw (orTop-id (a .tmax) (le-number-l (a .tmax) la k)) k)))
-  left-by l (inr (inl p)) h =
-      let k = B .leaves (subst (λ (x : Float). T (lt zeroF x)) p h) in
-      subst (λ (x : Float). T (le (orTop (minOf two (c .tmax))) x)) (sym p)
-      (le-trans (orTop (minOf two (c .tmax))) (orTop two) lb (minOf-left two (c .tmax)) (le-trans (orTop two) (orTop (b .tmax)) lb (minOf-right (a .tmax) (b .tmax)) (rw (orTop-id (b .tmax) (le-number-l (b .tmax) lb k)) k)))
-  left-by l (inr (inr p)) h =
-      let k = C .leaves (subst (λ (x : Float). T (lt zeroF x)) p h) in
-      subst (λ (x : Float). T (le (orTop (minOf two (c .tmax))) x)) (sym p)
-      (le-trans (orTop (minOf two (c .tmax))) (orTop (c .tmax)) lc (minOf-right two (c .tmax)) (rw (orTop-id (c .tmax) (le-number-l (c .tmax) lc k)) k))
+  entered =
+      let last = maxOf (a .tmin) (b .tmin) in
+      let u = maxOf last (c .tmin) in
+      let f = maxOf-left last (c .tmin) in
+      greater-of In (greaterF ea eb) ec
+      (greater-of In ea eb
+      (entered-over ea (a .tmin) u (le-trans (orBot (a .tmin)) (orBot last) (orBot u) (maxOf-left (a .tmin) (b .tmin)) f) (A .enters))
+      (entered-over eb (b .tmin) u (le-trans (orBot (b .tmin)) (orBot last) (orBot u) (maxOf-right (a .tmin) (b .tmin)) f) (B .enters)))
+      (entered-over ec (c .tmin) u (maxOf-right last (c .tmin)) (C .enters))
 
-  entered-by : (e : Float) → OneOf e ea eb ec → T (lt zeroF e) → T (le e (orBot (overlap a b c .tmin)))
+  left : Out (lesserF (lesserF la lb) lc)
   unfolding overlap
-  entered-by e (inl p) h =
-      let k = A .enters (subst (λ (x : Float). T (lt zeroF x)) p h) in
-      subst (λ (x : Float). T (le x (orBot (maxOf last (c .tmin))))) (sym p)
-      (le-trans ea (orBot last) (orBot (maxOf last (c .tmin))) (le-trans ea (orBot (a .tmin)) (orBot last) (rw (orBot-id (a .tmin) (le-number-r ea (a .tmin) k)) k) (maxOf-left (a .tmin) (b .tmin))) (maxOf-left last (c .tmin)))
-  entered-by e (inr (inl p)) h =
-      let k = B .enters (subst (λ (x : Float). T (lt zeroF x)) p h) in
-      subst (λ (x : Float). T (le x (orBot (maxOf last (c .tmin))))) (sym p)
-      (le-trans eb (orBot last) (orBot (maxOf last (c .tmin))) (le-trans eb (orBot (b .tmin)) (orBot last) (rw (orBot-id (b .tmin) (le-number-r eb (b .tmin) k)) k) (maxOf-right (a .tmin) (b .tmin))) (maxOf-left last (c .tmin)))
-  entered-by e (inr (inr p)) h =
-      let k = C .enters (subst (λ (x : Float). T (lt zeroF x)) p h) in
-      subst (λ (x : Float). T (le x (orBot (maxOf last (c .tmin))))) (sym p)
-      (le-trans ec (orBot (c .tmin)) (orBot (maxOf last (c .tmin))) (rw (orBot-id (c .tmin) (le-number-r ec (c .tmin) k)) k) (maxOf-right last (c .tmin)))
+  left =
+      let first = minOf (a .tmax) (b .tmax) in
+      let u = minOf first (c .tmax) in
+      let f = minOf-left first (c .tmax) in
+      lesser-of Out (lesserF la lb) lc
+      (lesser-of Out la lb
+      (left-under la (a .tmax) u (le-trans (orTop u) (orTop first) (orTop (a .tmax)) f (minOf-left (a .tmax) (b .tmax))) (A .leaves))
+      (left-under lb (b .tmax) u (le-trans (orTop u) (orTop first) (orTop (b .tmax)) f (minOf-right (a .tmax) (b .tmax))) (B .leaves)))
+      (left-under lc (c .tmax) u (minOf-right first (c .tmax)) (C .leaves))
 
-  -- not left after u, where l is not
-  pub left-until : (u l : Float) → T (le zeroF u) → OneOf l la lb lc → T (le l u) → T (lt u (overlap a b c .tmax)) → ⊥
-  unfolding ofBits
-  left-until u l n o h k =
-      let end = overlap a b c .tmax in
-      elim (le-or-gt l zeroF (le-number-l l u h) tt) [
-        | inl p ↦ le-not-gt end u (le-trans end zeroF u (left-behind l o p) n) k
-        | inr p ↦ le-not-gt end u (le-trans end l u (rw (orTop-id end (lt-number-r u end k)) at (left-by l o p)) h) k
-      ]
+fails : (s : Span) (e l : Float) → Entered e (orBot (s .tmin)) → Left l (orTop (s .tmax)) → (p q : Bool) → le l zeroF ≡ p
+    → lt (greaterF (l ⊗ longer) nextToZero) e ≡ q → (p || q) ≡ true → T (not (passes s))
+unfolding ofBits lt
+fails s e l i o true q h k r = fails-behind s (orTop-le-finite (s .tmax) zeroF tt (o .behind (subst T (sym h) tt)))
+fails s e l i o false true h k r =
+    let t = orTop (s .tmax) in
+    let u = orBot (s .tmin) in
+    let g = beyond t (l ⊗ longer) e (o .by) (subst T (sym k) tt) in
+    fails-apart s (orTop-lt (s .tmax) (s .tmin) (lt-orBot t (s .tmin) (lt-le-trans t e u (g .1) (i (lt-trans zeroF nextToZero e tt (g .0))))))
+fails s e l i o false false h k r = clash r
 
-  -- left by l before it is entered at e
-  pub left-first : (e l : Float) → OneOf e ea eb ec → OneOf l la lb lc → T (lt zeroF l) → T (lt l e) → T (lt (overlap a b c .tmax) (overlap a b c .tmin))
-  left-first e l oe ol p h =
-      orTop-lt (overlap a b c .tmax) (overlap a b c .tmin) (lt-orBot (orTop (overlap a b c .tmax)) (overlap a b c .tmin)
-      (le-lt-trans (orTop (overlap a b c .tmax)) l (orBot (overlap a b c .tmin)) (left-by l ol p) (lt-le-trans l e (orBot (overlap a b c .tmin)) h (entered-by e oe (lt-trans zeroF l e p h)))))
-
-  pub behind-fails : (l : Float) → OneOf l la lb lc → T (le l zeroF) → T (not (passes (overlap a b c)))
-  behind-fails l o h = fails-behind (overlap a b c) (left-behind l o h)
-
-  pub apart-fails : (e l : Float) → OneOf e ea eb ec → OneOf l la lb lc → T (lt l e) → T (not (passes (overlap a b c)))
-  unfolding ofBits
-  apart-fails e l oe ol h = elim (le-or-gt l zeroF (lt-number-l l e h) tt) [
-    | inl p ↦ behind-fails l ol p
-    | inr p ↦ fails-apart (overlap a b c) (left-first e l oe ol p h)
-  ]
-
--- ---- a slab of a box in a row: its planes stand at k and three places on, at h
-bracketed-axis : (xs : List Float) (k h : ℕ) → h ≡ k + 3 → (o d : Float) (b : Bounds) → Bounded d b → T (within (getD xs k nan)) → T (within (getD xs h nan)) → T (within o) → T (le (getD xs k nan) (getD xs h nan))
-    → Bracketed ((getD xs k nan ⊖ o) ⊘ d) ((getD xs h nan ⊖ o) ⊘ d) (enterAt xs k b o) (leaveAt xs k b o)
-bracketed-axis xs k h eh o d b (inl (s, e)) lo-in hi-in o-in fair =
-    let p : k + b .near ≡ k = omega (arith, e) in
-    let q : k + 3 - b .near ≡ h = omega (arith, e, eh) in
-    rw (p, q) (slab-forward (getD xs k nan) (getD xs h nan) o d b lo-in hi-in o-in fair s)
-bracketed-axis xs k h eh o d b (inr (s, e)) lo-in hi-in o-in fair =
-    let p : k + b .near ≡ h = omega (arith, e, eh) in
-    let q : k + 3 - b .near ≡ k = omega (arith, e) in
-    rw (p, q) (slab-backward (getD xs k nan) (getD xs h nan) o d b lo-in hi-in o-in fair s)
-
-pub bounded-near : (d : Float) (b : Bounds) → Bounded d b → b .near ≤ 3
-bounded-near d b (inl (s, e)) = omega (arith, e)
-bounded-near d b (inr (s, e)) = omega (arith, e)
-
--- ---- the box whose numbers stand from `at` on
-module _ (xs : List Float) (at : ℕ) (b : Beam) where
-  abbrev pub OneEntered : Float → Type 0
-  OneEntered e = OneOf e (enterAt xs at (b .x) (b .ray .origin .x)) (enterAt xs (at + 1) (b .y) (b .ray .origin .y)) (enterAt xs (at + 2) (b .z) (b .ray .origin .z))
-
-  abbrev pub OneLeft : Float → Type 0
-  OneLeft l = OneOf l (leaveAt xs at (b .x) (b .ray .origin .x)) (leaveAt xs (at + 1) (b .y) (b .ray .origin .y)) (leaveAt xs (at + 2) (b .z) (b .ray .origin .z))
-
-  pub one-entered : (e : Float) → e ≡ latestOf xs at b → OneEntered e
-  unfolding latestOf
-  one-entered e h = rw h (greatest-of _ _ _)
-
-  pub one-left : (l : Float) → l ≡ soonestOf xs at b → OneLeft l
-  unfolding soonestOf
-  one-left l h = rw h (least-of _ _ _)
-
-  module _ (A : Aimed b) (sound : Sound (boxOfRow (cells nan xs at 6))) where
-    abbrev ray : Ray
-    ray = b .ray
-
-    pub bracketed-x : Bracketed ((getD xs at nan ⊖ ray .origin .x) ⊘ ray .direction .x) ((getD xs (at + 3) nan ⊖ ray .origin .x) ⊘ ray .direction .x) (enterAt xs at (b .x) (ray .origin .x)) (leaveAt xs at (b .x) (ray .origin .x))
-    bracketed-x = bracketed-axis xs at (at + 3) refl (ray .origin .x) (ray .direction .x) (b .x) (A .x) (sound .min .x) (sound .max .x) (A .from .x) (sound .fair .x)
-
-    pub bracketed-y : Bracketed ((getD xs (at + 1) nan ⊖ ray .origin .y) ⊘ ray .direction .y) ((getD xs (at + 4) nan ⊖ ray .origin .y) ⊘ ray .direction .y) (enterAt xs (at + 1) (b .y) (ray .origin .y)) (leaveAt xs (at + 1) (b .y) (ray .origin .y))
-    bracketed-y = bracketed-axis xs (at + 1) (at + 4) (omega arith) (ray .origin .y) (ray .direction .y) (b .y) (A .y) (sound .min .y) (sound .max .y) (A .from .y) (sound .fair .y)
-
-    pub bracketed-z : Bracketed ((getD xs (at + 2) nan ⊖ ray .origin .z) ⊘ ray .direction .z) ((getD xs (at + 5) nan ⊖ ray .origin .z) ⊘ ray .direction .z) (enterAt xs (at + 2) (b .z) (ray .origin .z)) (leaveAt xs (at + 2) (b .z) (ray .origin .z))
-    bracketed-z = bracketed-axis xs (at + 2) (at + 5) (omega arith) (ray .origin .z) (ray .direction .z) (b .z) (A .z) (sound .min .z) (sound .max .z) (A .from .z) (sound .fair .z)
-
-    told-x : Told (slab (getD xs at nan) (getD xs (at + 3) nan) (ray .origin .x) (ray .direction .x)) (enterAt xs at (b .x) (ray .origin .x)) (leaveAt xs at (b .x) (ray .origin .x))
-    unfolding slab
-    told-x = told-ordered _ _ _ _ bracketed-x
-
-    told-y : Told (slab (getD xs (at + 1) nan) (getD xs (at + 4) nan) (ray .origin .y) (ray .direction .y)) (enterAt xs (at + 1) (b .y) (ray .origin .y)) (leaveAt xs (at + 1) (b .y) (ray .origin .y))
-    unfolding slab
-    told-y = told-ordered _ _ _ _ bracketed-y
-
-    told-z : Told (slab (getD xs (at + 2) nan) (getD xs (at + 5) nan) (ray .origin .z) (ray .direction .z)) (enterAt xs (at + 2) (b .z) (ray .origin .z)) (leaveAt xs (at + 2) (b .z) (ray .origin .z))
-    unfolding slab
-    told-z = told-ordered _ _ _ _ bracketed-z
-
-    box-behind : (l : Float) → OneLeft l → T (le l zeroF) → T (not (passes (boxTest (boxOfRow (cells nan xs at 6)) ray)))
-    unfolding boxTest
-    box-behind l o h = behind-fails _ _ _ _ _ _ _ _ _ told-x told-y told-z l o h
-
-    box-apart : (e l : Float) → OneEntered e → OneLeft l → T (lt l e) → T (not (passes (boxTest (boxOfRow (cells nan xs at 6)) ray)))
-    unfolding boxTest
-    box-apart e l oe ol h = apart-fails _ _ _ _ _ _ _ _ _ told-x told-y told-z e l oe ol h
-
--- ---- the box in a row
-module _ (xs : List Float) (i : ℕ) (b : Beam) (fits : i * 6 + 6 ≤ length xs) (A : Aimed b) (fine : Sound (boxOfRow (row 6 i xs))) where
-  sound : Sound (boxOfRow (cells nan xs (i * 6) 6))
-  sound = subst (λ (l : List Float). Sound (boxOfRow l)) (row-cells 6 i xs nan fits) fine
-
-  by-cells : T (not (passes (boxTest (boxOfRow (cells nan xs (i * 6) 6)) (b .ray)))) → T (not (passes (boxTest (boxOfRow (row 6 i xs)) (b .ray))))
-  by-cells = subst (λ (l : List Float). T (not (passes (boxTest (boxOfRow l) (b .ray))))) (sym (row-cells 6 i xs nan fits))
-
-  row-behind : (l : Float) → OneLeft xs (i * 6) b l → T (le l zeroF) → T (not (passes (boxTest (boxOfRow (row 6 i xs)) (b .ray))))
-  row-behind l o h = by-cells (box-behind xs (i * 6) b A sound l o h)
-
-  row-apart : (e l : Float) → OneEntered xs (i * 6) b e → OneLeft xs (i * 6) b l → T (lt l e) → T (not (passes (boxTest (boxOfRow (row 6 i xs)) (b .ray))))
-  row-apart e l oe ol h = by-cells (box-apart xs (i * 6) b A sound e l oe ol h)
-
--- what the code finds to be missed, and what it is
-module _ (xs : List Float) (i : ℕ) (b : Beam) (l : Float) (el : l ≡ soonestOf xs (i * 6) b) where
-  pub found-behind : le l zeroF ≡ true → true ≡ missesRow xs i b
-  unfolding missesRow
-  found-behind h = rw (← el, h)
-
-  pub found-apart : (e : Float) → e ≡ latestOf xs (i * 6) b → le l zeroF ≡ false → lt l e ≡ missesRow xs i b
-  unfolding missesRow
-  found-apart e ee h = rw (← el, h, ee)
-
-module _ (xs : List Float) (i : ℕ) (b : Beam) (asked : (i * 6 + 6 ≤ length xs) × Sound (boxOfRow (row 6 i xs))) (A : Aimed b) where
-  abbrev l : Float
-  l = soonestOf xs (i * 6) b
-
-  abbrev e : Float
-  e = latestOf xs (i * 6) b
-
-  by-tests : (p q : Bool) → le l zeroF ≡ p → lt l e ≡ q → (p || q) ≡ true → T (not (passes (boxTest (boxOfRow (row 6 i xs)) (b .ray))))
-  by-tests true q k n h = row-behind xs i b (asked .0) A (asked .1) l (one-left xs (i * 6) b l refl) (told k)
-  by-tests false true k n h = row-apart xs i b (asked .0) A (asked .1) e l (one-entered xs (i * 6) b e refl) (one-left xs (i * 6) b l refl) (told n)
-  by-tests false false k n h = clash h
-
-  pub row-missed : (m : Bool) → m ≡ missesRow xs i b → m ≡ true → T (not (passes (boxTest (boxOfRow (row 6 i xs)) (b .ray))))
-  unfolding missesRow
-  row-missed m k t = by-tests (le l zeroF) (lt l e) refl refl (sym k ∙ t)
+-- ---- the box
+pub box-missed : (bx : BBox) (b : Beam) → Sound bx → Aimed b → (m : Bool) → m ≡ missesBox bx b → m ≡ true → T (not (passes (boxTest bx (b .ray))))
+unfolding missesBox reached latestOf soonestOf subV mulV boxTest isSure
+box-missed bx b S A m e h =
+    let d = b .ray .direction in
+    let low = b .low in
+    let p = and-eq-true-iff (isShown (d .x) (low .x)) (isShown (d .y) (low .y) && isShown (d .z) (low .z)) .0 (A .sure) in
+    let q = and-eq-true-iff (isShown (d .y) (low .y)) (isShown (d .z) (low .z)) .0 (p .1) in
+    let x = told-slab _ _ _ _ _ (S .min .x) (S .max .x) (A .from .x) (shown (d .x) (low .x) (p .0)) in
+    let y = told-slab _ _ _ _ _ (S .min .y) (S .max .y) (A .from .y) (shown (d .y) (low .y) (q .0)) in
+    let z = told-slab _ _ _ _ _ (S .min .z) (S .max .z) (A .from .z) (shown (d .z) (low .z) (q .1)) in
+    fails _ _ _ (entered _ _ _ _ _ _ _ _ _ x y z) (left _ _ _ _ _ _ _ _ _ x y z) _ _ refl refl (sym e ∙ h)

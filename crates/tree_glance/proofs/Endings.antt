@@ -1,14 +1,14 @@
 -- What a glance that ends says of the full walk. Assumes nothing.
-use mathlib.Core.Path.{_≡_, refl, sym, ap, subst, _∙_}
-use mathlib.Core.Logic.{_⊎_, inl, inr}
-use mathlib.Core.List.{List, [], _∷_}
-use mathlib.Core.Bool.{Bool, true, false, not, cond}
-use Prim.Native.Nat.{ℕ, suc, _+_, _*_, _≤_, _<_}
+use mathlib.Core.Path.{_≡_, refl, sym, subst, _∙_}
+use mathlib.Core.Logic.{inr}
+use mathlib.Core.List.{List}
+use mathlib.Core.Bool.{Bool, true, false, _&&_, and-eq-true-iff}
+use Prim.Native.Nat.{ℕ, _+_, _*_, _≤_, _<_}
 use native.Mathlib.Omega.{arith}
 use lib.ListN.{length, getD}
-use lib.Dec.{T}
-use lib.Ieee.{Float, nan, inf, fin, neg, ofBits, lt, le}
-use lib.Ieee.Positive.{positive}
+use lib.IntN.{ℤ}
+use lib.Dec.{T, lt→ltb}
+use lib.Ieee.{Float, fin, ofBits, le}
 use Rattle.floats.specs.Arith.{INF}
 use Rattle.floats.specs.Numbers.{number}
 use Rattle.floats.proofs.Order.{le-number-l, le→not-gt, not-gt→le}
@@ -17,17 +17,15 @@ use Rattle.geometry.specs.declared.ray.Ray.{Ray}
 use Rattle.geometry.specs.declared.hit.Hit.{Hit}
 use Rattle.rows.specs.Rows.{row}
 use Rattle.rows.specs.Points.{boxOfRow}
-use Rattle.tree_nodes.specs.Trees.{Tree, leaf, split, belowRoot}
+use Rattle.tree_nodes.specs.Trees.{Tree, leaf, split}
 use Rattle.tree_nodes.specs.Nodes.{nodeAt, placesOf}
 use Rattle.tree_nodes.specs.declared.Node.{Node}
 use Rattle.scene_shape.specs.declared.Struck.{Struck}
 use Rattle.scene_shape.specs.declared.Struck.the-variants.{At}
-use Rattle.tree_beams.specs.Beams.{Shown, Bounded, Aimed}
-use Rattle.tree_beams.specs.declared.Bounds.{Bounds}
+use Rattle.tree_beams.specs.Beams.{isShown, isSure, Aimed}
 use Rattle.tree_beams.specs.declared.Beam.{Beam}
-use Rattle.tree_walk.specs.declared.Nearest.{Nearest}
+use Rattle.tree_beams.proofs.Planes.{shown}
 use Rattle.tree_walk.specs.declared.Found.{Found}
-use Rattle.tree_walk.specs.declared.Found.the-variants.{Best}
 use Rattle.tree_walk.specs.Walks.{nothing, visit, walkRows}
 use Rattle.tree_walk.proofs.Visits.{visit-le}
 use Rattle.tree_walk.proofs.Layouts.{walk-is-visit}
@@ -39,30 +37,20 @@ use Rattle.tree_glance.proofs.Leaves.{Found-best, Answering, Clear, vis
 use Rattle.tree_glance.proofs.Glancing.{Hides, Whole}
 
 -- ---- a beam's ray is one for which the laws of boxes hold
-straight-ahead : (d : Float) → T (positive d) → T (straight d)
-straight-ahead nan p = absurd p
-straight-ahead (inf s) p = absurd p
-straight-ahead (fin true m e) p = absurd p
-straight-ahead (fin false m e) p = tt
-
-straight-astern : (d : Float) → T (positive (neg d)) → T (straight d)
-unfolding neg
-straight-astern nan p = absurd p
-straight-astern (inf s) p = absurd p
-straight-astern (fin true m e) p = p
-straight-astern (fin false m e) p = absurd p
-
-bounded-straight : (d : Float) (b : Bounds) → Bounded d b → T (straight d)
-bounded-straight d b (inl z) = straight-ahead d (z .0 .ahead)
-bounded-straight d b (inr z) = straight-astern d (z .0 .ahead)
-
 pub aimed-usable : (b : Beam) → Aimed b → Usable (b .ray)
-aimed-usable b A = record {
-  origin = A .from;
-  x = bounded-straight (b .ray .direction .x) (b .x) (A .x);
-  y = bounded-straight (b .ray .direction .y) (b .y) (A .y);
-  z = bounded-straight (b .ray .direction .z) (b .z) (A .z);
-}
+unfolding isSure
+aimed-usable b A =
+    let d = b .ray .direction in
+    let p = and-eq-true-iff (isShown (d .x) (b .low .x)) (isShown (d .y) (b .low .y) && isShown (d .z) (b .low .z)) .0 (A .sure) in
+    let q = and-eq-true-iff (isShown (d .y) (b .low .y)) (isShown (d .z) (b .low .z)) .0 (p .1) in
+    record { origin = A .from; x = way (d .x) (b .low .x) (p .0); y = way (d .y) (b .low .y) (q .0); z = way (d .z) (b .low .z) (q .1) }
+  where
+    runs : (s : Bool) (m : ℕ) (e : ℤ) → 0 < m → T (straight (fin s m e))
+    runs true m e h = lt→ltb 0 m h
+    runs false m e h = tt
+
+    way : (d low : Float) → isShown d low ≡ true → T (straight d)
+    way d low h = let s = shown d low h in subst (λ (x : Float). T (straight x)) (sym (s .d-is)) (runs (s .sign) (s .m) (s .e) (s .some))
 
 inf-number : T (number INF)
 unfolding ofBits

@@ -10,7 +10,6 @@ use lib.Seq.{getD-set-same}
 use lib.Dec.{T}
 use lib.Ieee.{Float, eq, lt, le}
 use Rattle.floats.specs.Arith.{zeroF, INF}
-use Rattle.floats.proofs.Tests.{clash}
 use Rattle.geometry.specs.Vectors.{subV, divScalar, distanceOf}
 use Rattle.geometry.specs.Rays.{rayOf}
 use Rattle.geometry.specs.Limits.{Within, Usable}
@@ -22,9 +21,8 @@ use Rattle.rows.specs.Rows.{row}
 use Rattle.rows.specs.Points.{boxOfRow}
 use Rattle.scene_shape.specs.declared.Struck.{Struck}
 use Rattle.scene_shape.specs.declared.Struck.the-variants.{At}
-use Rattle.tree_beams.specs.Beams.{Bounded, Aimed}
+use Rattle.tree_beams.specs.Beams.{isSure, aimOf, Aimed}
 use Rattle.tree_beams.specs.declared.Beam.{Beam}
-use Rattle.tree_walk.specs.declared.Nearest.{Nearest}
 use Rattle.tree_walk.specs.declared.Found.{Found}
 use Rattle.tree_walk.specs.Walks.{walkRows}
 use Rattle.tree_sight.specs.Sights.{eyeRay, sees}
@@ -35,8 +33,7 @@ use Rattle.tree_trust.specs.Trust.{wholeTree, Trusted}
 use Rattle.tree_glance.specs.declared.Glance.{Glance}
 use Rattle.tree_glance.specs.declared.Glance.the-variants.{Hidden, Visible, Unsure}
 use Rattle.tree_glance.specs.Glances.{LastCover, EnteredBefore, Covering, Tells, SeenAs}
-use Rattle.tree_glance.proofs.Glancing.{Hides}
-use Rattle.tree_glance.proofs.Endings.{aimed-usable, all-answering, hides-tells}
+use Rattle.tree_glance.proofs.Endings.{all-answering, hides-tells}
 
 -- ---- a point at the eye is seen
 pub near-seen : (f : Ray → Found) (eye point : Vector) (d : Float) → d ≡ distanceOf eye point → eq d zeroF ≡ true → sees f eye point ≡ InSight
@@ -48,18 +45,20 @@ module _ (eye point v : Vector) (d : Float) (ev : v ≡ subV eye point) (length-
   pub length-reached : Within eye → Within point → T (le d INF)
   length-reached E P = subst (λ (x : Float). T (le x INF)) (sym length-is) (distance-le eye point E P)
 
-  module _ (q : Vector) (eq′ : q ≡ divScalar v d) (r : Ray) (er : r ≡ rayOf point q) (b : Beam) (eb : b .ray ≡ r) where
+  module _ (q : Vector) (eq′ : q ≡ divScalar v d) (r : Ray) (er : r ≡ rayOf point q) (b : Beam) (eb : b ≡ aimOf r v d) where
+    pub aimed-ray : b .ray ≡ r
+    unfolding aimOf
+    aimed-ray = ap (λ (k : Beam). k .ray) eb
+
     pub ray-is : b .ray ≡ eyeRay eye point
     unfolding eyeRay
-    ray-is = eb ∙ er ∙ rw (eq′, ev, length-is)
+    ray-is = aimed-ray ∙ er ∙ rw (eq′, ev, length-is)
 
-    pub aimed : Within point → (b .x .sure ≡ true → Bounded (r .direction .x) (b .x)) → (b .y .sure ≡ true → Bounded (r .direction .y) (b .y)) → (b .z .sure ≡ true → Bounded (r .direction .z) (b .z))
-        → (b .x .sure ≡ true) × (b .y .sure ≡ true) × (b .z .sure ≡ true) → Aimed b
-    aimed P x y z s = record {
-      from = subst (λ (w : Ray). Within (w .origin)) (sym (eb ∙ er)) P;
-      x = subst (λ (w : Ray). Bounded (w .direction .x) (b .x)) (sym eb) (x (s .0));
-      y = subst (λ (w : Ray). Bounded (w .direction .y) (b .y)) (sym eb) (y (s .1));
-      z = subst (λ (w : Ray). Bounded (w .direction .z) (b .z)) (sym eb) (z (s .2));
+    pub aimed : Within point → b .sure ≡ true → Aimed b
+    unfolding aimOf
+    aimed P s = record {
+      from = subst (λ (w : Ray). Within (w .origin)) (sym (aimed-ray ∙ er)) P;
+      sure = subst (λ (k : Beam). isSure (k .ray .direction) (k .low) ≡ k .sure) (sym eb) refl ∙ s;
     }
 
     module _ (far : eq d zeroF ≡ false) (f : Ray → Found) where

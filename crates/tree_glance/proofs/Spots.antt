@@ -1,6 +1,6 @@
 -- The entries of a leaf, one after the other, and what they say. Assumes nothing.
 use mathlib.Core.Path.{_≡_, refl, sym, ap, subst, _∙_}
-use mathlib.Core.Logic.{_⊎_, inl, inr}
+use mathlib.Core.Logic.{inl, inr}
 use mathlib.Core.List.{List, [], _∷_}
 use mathlib.Core.Bool.{Bool, true, false, not, cond, _&&_, and-eq-true-iff}
 use Prim.Native.Nat.{ℕ, suc, _+_, _-_, _≤_, _<_}
@@ -10,10 +10,7 @@ use lib.ListN.{length, take, drop, getD, set, length-set, drop-of-length-le}
 use lib.Seq.{drop-cons, take-nil, getD-set-same, getD-set-other}
 use lib.Dec.{T}
 use lib.Ieee.{Float, lt, le}
-use lib.Ieee.Bits.{is-false}
-use Rattle.floats.specs.Arith.{zeroF, INF}
-use Rattle.floats.proofs.Order.{le→not-gt}
-use Rattle.geometry.specs.Hits.{noHit}
+use Rattle.floats.specs.Arith.{zeroF}
 use Rattle.geometry.specs.Boxes.{boxTest, passes}
 use Rattle.geometry.specs.declared.ray.Ray.{Ray}
 use Rattle.geometry.specs.declared.hit.Hit.{Hit}
@@ -21,7 +18,6 @@ use Rattle.geometry.specs.declared.bounding_box.Span.{Span}
 use Rattle.rows.specs.Rows.{row}
 use Rattle.rows.specs.Points.{boxOfRow}
 use Rattle.lists.specs.Lists.{Member}
-use Rattle.refusals.specs.declared.Refusal.{Refusal}
 use Rattle.scene_shape.specs.declared.Struck.{Struck}
 use Rattle.scene_shape.specs.declared.Struck.the-variants.{At, Refused as NotStruck}
 use Rattle.floats.proofs.Tests.{clash}
@@ -39,14 +35,12 @@ module _ (distance : Float) (calm : Bool) (hit : ℕ → Struck) (order : List �
   pub record Spotting (found : Spotted) (k : ℕ) : Type 0 where
     pub upto : k ≤ count
     pub same : spottedOf distance calm hit (take (count - k) (drop (first + k) order)) found ≡ spottedOf distance calm hit (take count (drop first order)) clear
-    pub goes-on : (next : Spotted → Spotted) → spotOn calm found next ≡ next found
 
   pub spotting-start : Spotting clear 0
   unfolding spotOn
   spotting-start = record {
     upto = omega arith;
     same = ap (λ (n : ℕ). spottedOf distance calm hit (take n (drop (first + 0) order)) clear) (let e : count - 0 ≡ count = omega arith in e) ∙ rw add-zero;
-    goes-on = λ next. refl;
   }
 
   none-left : (k : ℕ) (l : List ℕ) (found : Spotted) → l ≡ [] → spottedOf distance calm hit (take k l) found ≡ found
@@ -84,25 +78,11 @@ module _ (distance : Float) (calm : Bool) (hit : ℕ → Struck) (order : List �
     spotting-on e q c = record {
       upto = omega arith;
       same = subst (λ (b : Bool). cond b (Short e) (spottedOf distance calm hit (take (count - (k + 1)) (drop (first + (k + 1)) order)) (Short e)) ≡ spottedOf distance calm hit (take count (drop first order)) clear) c (rw q at step);
-      goes-on = λ next. rw c;
     }
 
     pub spotting-clear : a ≡ Clear → Spotting Clear (k + 1)
     unfolding spotOn
-    spotting-clear q = record { upto = omega arith; same = rw q at step; goes-on = λ next. refl }
-
-  -- an entry that is missed says nothing
-  pub spotting-missed : T (le distance INF) → (found : Spotted) (k : ℕ) → Spotting found k → k < count → first + k < length order → (w : ℕ) → w ≡ getD order (first + k) 0 → hit w ≡ At noHit → Spotting found (k + 1)
-  unfolding spottedOf judgedOf
-  spotting-missed d found k s h l w ew eo =
-      let e : count - k ≡ suc (count - (k + 1)) = omega arith in
-      let f : suc (first + k) ≡ first + (k + 1) = omega arith in
-      let far : lt INF distance ≡ false = is-false (lt INF distance) (le→not-gt distance INF d) in
-      record {
-        upto = omega arith;
-        same = sym (s .goes-on (spottedOf distance calm hit (take (count - (k + 1)) (drop (first + (k + 1)) order)))) ∙ rw (far) at (rw (ap hit (sym ew) ∙ eo) at (rw (e, drop-cons order (first + k) 0 l, f) at (s .same)));
-        goes-on = s .goes-on;
-      }
+    spotting-clear q = record { upto = omega arith; same = rw q at step }
 
 -- ---- what it says
 pub short≢clear : {A : Type 0} (i : ℕ) → Short i ≡ Clear → A

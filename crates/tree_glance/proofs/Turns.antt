@@ -21,9 +21,9 @@ use Rattle.rows.specs.declared.Triple.{Triple}
 use Rattle.tree_nodes.specs.Nodes.{nodeAt, isLeaf}
 use Rattle.tree_nodes.specs.declared.Node.{Node}
 use Rattle.tree_trust.specs.Trust.{wholeTree, Trusted}
-use Rattle.tree_beams.specs.Beams.{Aimed, missesRow}
+use Rattle.tree_beams.specs.Beams.{Aimed, missesBox}
 use Rattle.tree_beams.specs.declared.Beam.{Beam}
-use Rattle.tree_beams.proofs.Missing.{row-missed}
+use Rattle.tree_beams.proofs.Missing.{box-missed}
 use Rattle.scene_shape.specs.declared.Struck.{Struck}
 use Rattle.scene_shape.specs.declared.Struck.the-variants.{At}
 use Rattle.tree_walk.specs.Walks.{childrenOf, backward, walkRows}
@@ -81,7 +81,7 @@ module _ (hit : ℕ → Struck) (b : Beam) (distance : Float) (calm : Bool) (box
   says = leafSays hit b distance calm boxes links order
 
   abbrev misses : ℕ → Bool
-  misses i = missesRow boxes i b
+  misses i = missesBox (boxOfRow (row 6 i boxes)) b
 
   abbrev N : ℕ → Node
   N = nodeAt boxes links
@@ -93,7 +93,7 @@ module _ (hit : ℕ → Struck) (b : Beam) (distance : Float) (calm : Bool) (box
   abbrev pub LeftFrom : ℕ → List ℕ → Bool → Type 0
   LeftFrom k w hid = lookOn says misses (b .ray) N calm k w hid ≡ all
 
-  module _ (m : Bool) (em : m ≡ missesRow boxes 0 b) where
+  module _ (m : Bool) (em : m ≡ missesBox (boxOfRow (row 6 0 boxes)) b) where
     all-missed : m ≡ true → Visible ≡ all
     unfolding lookRows
     all-missed h = rw (← em, h)
@@ -160,7 +160,7 @@ module _ (hit : ℕ → Struck) (b : Beam) (distance : Float) (calm : Bool) (box
 
       -- ---- a split
       module _ (l : lf ≡ false) (back : Bool) (ew : back ≡ backward (b .ray) (n .c)) (c : Children) (ec : c ≡ childrenOf first back)
-          (p : Bool) (ep : p ≡ missesRow boxes (c .near) b) (q : Bool) (eq : q ≡ missesRow boxes (c .far) b) where
+          (p : Bool) (ep : p ≡ missesBox (boxOfRow (row 6 (c .near) boxes)) b) (q : Bool) (eq : q ≡ missesBox (boxOfRow (row 6 (c .far) boxes)) b) where
         abbrev onto : List ℕ → Glance
         onto v = lookOn says misses (b .ray) N calm k v hid
 
@@ -197,10 +197,10 @@ module _ (hit : ℕ → Struck) (b : Beam) (distance : Float) (calm : Bool) (box
   abbrev pub Said : Glance → Type 0
   Said g = Tells g (walkRows hit (b .ray) boxes links order) distance × (g ≡ lookRows hit b distance calm boxes links order)
 
-  module _ (t : Trusted boxes links order) (m : Bool) (em : m ≡ missesRow boxes 0 b) where
+  module _ (t : Trusted boxes links order) (m : Bool) (em : m ≡ missesBox (boxOfRow (row 6 0 boxes)) b) where
     pub turn-missed : Aimed b → T (le distance INF) → m ≡ true → Said Visible
     turn-missed A d h = (
-      root-missed hit (b .ray) distance boxes links order t d (row-missed boxes 0 b (root-asked hit (b .ray) distance boxes links order t) A m em h),
+      root-missed hit (b .ray) distance boxes links order t d (box-missed _ b (root-asked hit (b .ray) distance boxes links order t .1) A m em h),
       all-missed hit b distance calm boxes links order m em h,
     )
 
@@ -293,12 +293,12 @@ module _ (hit : ℕ → Struck) (b : Beam) (distance : Float) (calm : Bool) (box
 
       -- ---- a split
       module _ (l : lf ≡ false) (back : Bool) (ew : back ≡ backward (b .ray) (n .c)) (c : Children) (ec : c ≡ childrenOf first back)
-          (A : Aimed b) (p : Bool) (ep : p ≡ missesRow boxes (c .near) b) (q : Bool) (eq : q ≡ missesRow boxes (c .far) b) where
+          (A : Aimed b) (p : Bool) (ep : p ≡ missesBox (boxOfRow (row 6 (c .near) boxes)) b) (q : Bool) (eq : q ≡ missesBox (boxOfRow (row 6 (c .far) boxes)) b) where
         near-failed : p ≡ true → T (not (passes (boxTest (boxOfRow (row 6 (c .near) boxes)) (b .ray))))
-        near-failed h = row-missed boxes (c .near) b (near-asked hit (b .ray) distance boxes links order i stack sp hid G n en first ef lf el l back c ec) A p ep h
+        near-failed h = box-missed _ b (near-asked hit (b .ray) distance boxes links order i stack sp hid G n en first ef lf el l back c ec .1) A p ep h
 
         far-failed : q ≡ true → T (not (passes (boxTest (boxOfRow (row 6 (c .far) boxes)) (b .ray))))
-        far-failed h = row-missed boxes (c .far) b (far-asked hit (b .ray) distance boxes links order i stack sp hid G n en first ef lf el l back c ec) A q eq h
+        far-failed h = box-missed _ b (far-asked hit (b .ray) distance boxes links order i stack sp hid G n en first ef lf el l back c ec .1) A q eq h
 
         module _ (h : p ≡ true) where
           module _ (j : q ≡ true) where

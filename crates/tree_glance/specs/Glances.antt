@@ -22,7 +22,7 @@ use Rattle.tree_nodes.specs.Nodes.{nodeAt, placesOf, isLeaf}
 use Rattle.tree_nodes.specs.declared.Node.{Node}
 use Rattle.scene_shape.specs.declared.Struck.{Struck}
 use Rattle.scene_shape.specs.declared.Struck.the-variants.{At, Refused as NotStruck}
-use Rattle.tree_beams.specs.Beams.{missesRow}
+use Rattle.tree_beams.specs.Beams.{missesBox}
 use Rattle.tree_beams.specs.declared.Beam.{Beam}
 use Rattle.tree_walk.specs.Walks.{leafEntries, entryHit, childrenOf, backward}
 use Rattle.tree_walk.specs.Standing.{Stands}
@@ -154,8 +154,8 @@ leafSays hit b distance calm boxes links order i =
 -- from the root, in at most 2,048 rounds
 unfoldable pub lookRows : (ℕ → Struck) → Beam → Float → Bool → List Float → List ℕ → List ℕ → Glance
 lookRows hit b distance calm boxes links order =
-    cond (missesRow boxes 0 b) Visible
-    (lookOn (leafSays hit b distance calm boxes links order) (λ i. missesRow boxes i b) (b .ray) (nodeAt boxes links) calm 2048 (0 ∷ []) false)
+    cond (missesBox (boxOfRow (row 6 0 boxes)) b) Visible
+    (lookOn (leafSays hit b distance calm boxes links order) (λ i. missesBox (boxOfRow (row 6 i boxes)) b) (b .ray) (nodeAt boxes links) calm 2048 (0 ∷ []) false)
 
 -- what a glance says of the eye test
 abbrev pub SeenAs : Glance → Sight → Type 0

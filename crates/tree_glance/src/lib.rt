@@ -1,5 +1,5 @@
-// The eye test by a glance: a walk that leaves out what cannot change its answer. It tells boxes and blocks
-// that the ray misses by products, stops at the first solid that falls short where no refusal can follow, and tries the solid
+// The eye test by a glance: a walk that leaves out what cannot change its answer. It tells boxes that the ray misses
+// by products, stops at the first solid that falls short where no refusal can follow, and tries the solid
 // that hid the last point first. Where it is not sure, the full walk answers.
 ghost use mathlib.Core.Path.{_≡_};
 ghost use mathlib.Core.Logic.{_⊎_};
@@ -12,11 +12,12 @@ ghost use lib.Ieee.{le};
 ghost use Rattle.floats.specs.Arith.{INF};
 ghost use Rattle.geometry.specs.Limits.{Within};
 ghost use Rattle.geometry.specs.declared.ray.Ray.{Ray};
-ghost use Rattle.tree_beams.specs.Beams.{Aimed};
+ghost use Rattle.rows.specs.Rows.{row};
+ghost use Rattle.rows.specs.Points.{boxOfRow};
+ghost use Rattle.tree_beams.specs.Beams.{Aimed, missesBox};
 ghost use Rattle.tree_walk.specs.Walks.{entryHit, walkRows};
 ghost use Rattle.tree_glance.specs.Glances as Glances;
 ghost use Rattle.tree_trust.specs.Trust.{Trusted, Uncut};
-ghost use Rattle.tree_blocks.specs.Blocks.{SoundBlocks};
 ghost use Rattle.geometry.specs.Vectors.{distanceOf};
 ghost use Rattle.tree_sight.specs.Sights.{sees};
 ghost use Rattle.tree_glance.specs.Glances.{noPlace, LastCover, Covering, LeafTold, Tells, SeenAs};
@@ -55,7 +56,7 @@ fn judged(i: u32, a: Struck, distance: f64, found: Spotted) -> Spotted
 }
 
 // The entries of a leaf in order, as many as are there: up to the first that falls short where every solid
-// answers, else all of them. A block, or a cut of two, that is shown to be missed is passed by.
+// answers, else all of them.
 fn spot(
     numbers: &[f64],
     inverses: &[f64],
@@ -67,7 +68,7 @@ fn spot(
     distance: f64,
     calm: bool,
 ) -> Spotted
-    requires { ⌜ (first + count ≤ 8589934592) × Aimed b × T (le distance INF) × SoundBlocks (now numbers) (now marks) ⌝ }
+    requires { ⌜ first + count ≤ 8589934592 ⌝ }
     ensures { λ a. ⌜ a ≡ Glances.spottedOf distance calm (entryHit (now (numbers .entry)) (now (inverses .entry)) (now (marks .entry)) (b .ray)) (take count (drop first (now (order .entry)))) Glances.clear ⌝ }
 {
     let n = order.len();
@@ -80,11 +81,7 @@ fn spot(
         }
         let i = order[at];
         let w = rows::index(i);
-        if tree_blocks::missed(numbers, inverses, marks, w, b) {
-            k += 1;
-            continue;
-        }
-        let a = tree_walk::hit_from(numbers, inverses, marks, b.ray.origin, b.ray.direction, w);
+        let a = tree_walk::entry_hit(numbers, inverses, marks, b.ray, w);
         let s = judged(i, a, distance, found);
         match s {
             Spotted::Unknown => return Spotted::Unknown,
@@ -136,7 +133,7 @@ fn at_leaf(
     calm: bool,
     cover: &mut [usize],
 ) -> Glance
-    requires { ⌜ (first + count ≤ 8589934592) × (i * 6 + 6 ≤ length (now boxes)) × (length (now cover) ≡ 2) × Aimed b × T (le distance INF) × SoundBlocks (now numbers) (now marks) ⌝ }
+    requires { ⌜ (first + count ≤ 8589934592) × (i * 6 + 6 ≤ length (now boxes)) × (length (now cover) ≡ 2) ⌝ }
     ensures { λ a. ⌜ a ≡ Glances.leafGlance (Glances.spottedOf distance calm (entryHit (now (numbers .entry)) (now (inverses .entry)) (now (marks .entry)) (b .ray)) (take count (drop first (now (order .entry)))) Glances.clear) (Glances.entersBefore (now (boxes .entry)) i (b .ray) distance) ⌝ }
     ensures { λ a. ⌜ LeafTold (entryHit (now (numbers .entry)) (now (inverses .entry)) (now (marks .entry)) (b .ray)) (b .ray) distance calm (now (boxes .entry)) i (take count (drop first (now (order .entry)))) (now (cover .entry)) (now (cover .exit)) a ⌝ }
 {
@@ -175,6 +172,14 @@ fn ended(hid: bool) -> Glance
     Glance::Visible
 }
 
+// Whether the box in row i is shown to be missed.
+fn missed(boxes: &[f64], i: usize, b: Beam) -> bool
+    requires { ⌜ i * 6 + 6 ≤ length (now boxes) ⌝ }
+    ensures { λ r. ⌜ r ≡ missesBox (boxOfRow (row 6 i (now (boxes .entry)))) b ⌝ }
+{
+    tree_beams::misses(rows::read_box(boxes, i), b)
+}
+
 // The walk: both children of a split are tested at once, the nearer one is gone to, the other waits. A solid that
 // falls short ends it where every solid answers (`calm`); else each leaf that the full walk may come to is looked
 // at, so that no refusal is passed over.
@@ -191,10 +196,10 @@ pub fn look(
     cover: &mut [usize],
     stack: &mut [usize],
 ) -> Glance
-    requires { ⌜ Trusted (now «node_boxes») (now «node_marks») (now order) × (calm ≡ true → Uncut (now numbers) (now inverses) (now marks)) × Aimed b × T (le distance INF) × LastCover (now «node_boxes») (now «node_marks») (now order) (now cover) (now stack) × SoundBlocks (now numbers) (now marks) ⌝ }
+    requires { ⌜ Trusted (now «node_boxes») (now «node_marks») (now order) × (calm ≡ true → Uncut (now numbers) (now inverses) (now marks)) × Aimed b × T (le distance INF) × LastCover (now «node_boxes») (now «node_marks») (now order) (now cover) (now stack) ⌝ }
     ensures { λ a. ⌜ Tells a (walkRows (entryHit (now (numbers .entry)) (now (inverses .entry)) (now (marks .entry)) (b .ray)) (b .ray) (now («node_boxes» .entry)) (now («node_marks» .entry)) (now (order .entry))) distance × LastCover (now («node_boxes» .entry)) (now («node_marks» .entry)) (now (order .entry)) (now (cover .exit)) (now (stack .exit)) × (a ≡ Glances.lookRows (entryHit (now (numbers .entry)) (now (inverses .entry)) (now (marks .entry)) (b .ray)) b distance calm (now («node_boxes» .entry)) (now («node_marks» .entry)) (now (order .entry))) ⌝ }
 {
-    if tree_beams::misses(node_boxes, 0, b) {
+    if missed(node_boxes, 0, b) {
         return Glance::Visible;
     }
     let r = b.ray;
@@ -246,8 +251,8 @@ pub fn look(
             }
         }
         let c = tree_walk::sided(first, tree_walk::backward(r, n.c));
-        let p = tree_beams::misses(node_boxes, c.near, b);
-        let q = tree_beams::misses(node_boxes, c.far, b);
+        let p = missed(node_boxes, c.near, b);
+        let q = missed(node_boxes, c.far, b);
         if p {
             if q {
                 if sp == 0 {
@@ -291,7 +296,7 @@ fn covered(
     if place == 0xffffffff {
         return false;
     }
-    let a = tree_walk::hit_from(numbers, inverses, marks, r.origin, r.direction, cover[1]);
+    let a = tree_walk::entry_hit(numbers, inverses, marks, r, cover[1]);
     match a {
         Struck::Refused(_) => false,
         Struck::At(h) => {
@@ -319,7 +324,7 @@ fn glimpse(
     cover: &mut [usize],
     stack: &mut [usize],
 ) -> Glance
-    requires { ⌜ Trusted (now «node_boxes») (now «node_marks») (now order) × (calm ≡ true → Uncut (now numbers) (now inverses) (now marks)) × Within eye × Within point × LastCover (now «node_boxes») (now «node_marks») (now order) (now cover) (now stack) × SoundBlocks (now numbers) (now marks) × (distance ≡ distanceOf eye point) ⌝ }
+    requires { ⌜ Trusted (now «node_boxes») (now «node_marks») (now order) × (calm ≡ true → Uncut (now numbers) (now inverses) (now marks)) × Within eye × Within point × LastCover (now «node_boxes») (now «node_marks») (now order) (now cover) (now stack) × (distance ≡ distanceOf eye point) ⌝ }
     ensures { λ a. ⌜ SeenAs a (sees (λ (r : Ray). walkRows (entryHit (now (numbers .entry)) (now (inverses .entry)) (now (marks .entry)) r) r (now («node_boxes» .entry)) (now («node_marks» .entry)) (now (order .entry))) eye point) × LastCover (now («node_boxes» .entry)) (now («node_marks» .entry)) (now (order .entry)) (now (cover .exit)) (now (stack .exit)) ⌝ }
 {
     if distance == 0.0 {
@@ -328,7 +333,7 @@ fn glimpse(
     let v = eye.sub(point);
     let r = Ray::new(point, v.div_scalar(distance));
     let b = tree_beams::aim(r, v, distance);
-    if !tree_beams::sure(b) {
+    if !b.sure {
         return Glance::Unsure;
     }
     if calm {
@@ -376,7 +381,7 @@ pub fn sight(
     cover: &mut [usize],
     stack: &mut [usize],
 ) -> Sight
-    requires { ⌜ (trusted ≡ true → Trusted (now «node_boxes») (now «node_marks») (now order) × Within eye × Within point × SoundBlocks (now numbers) (now marks)) × (calm ≡ true → Uncut (now numbers) (now inverses) (now marks)) × LastCover (now «node_boxes») (now «node_marks») (now order) (now cover) (now stack) × (distance ≡ distanceOf eye point) ⌝ }
+    requires { ⌜ (trusted ≡ true → Trusted (now «node_boxes») (now «node_marks») (now order) × Within eye × Within point) × (calm ≡ true → Uncut (now numbers) (now inverses) (now marks)) × LastCover (now «node_boxes») (now «node_marks») (now order) (now cover) (now stack) × (distance ≡ distanceOf eye point) ⌝ }
     ensures { λ s. ⌜ (s ≡ sees (λ (r : Ray). walkRows (entryHit (now (numbers .entry)) (now (inverses .entry)) (now (marks .entry)) r) r (now («node_boxes» .entry)) (now («node_marks» .entry)) (now (order .entry))) eye point) × LastCover (now («node_boxes» .entry)) (now («node_marks» .entry)) (now (order .entry)) (now (cover .exit)) (now (stack .exit)) ⌝ }
 {
     if trusted {

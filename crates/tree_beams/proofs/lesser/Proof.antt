@@ -1,6 +1,14 @@
-use Rattle.tree_beams.proofs.Missing.{lesser-first, lesser-second}
+use Rattle.tree_beams.specs.Beams.{lesserF}
 use Rattle.tree_beams.proofs.lesser.Statement.{statement}
 use Rattle.tree_beams.proofs.lesser.Tie as tie
 
+returns : tie.Need-returns
+unfolding lesserF
+returns c = rw (c .if1 .taken)
+
+returns-2 : tie.Need-returns-2
+unfolding lesserF
+returns-2 c = rw (c .if1 .left)
+
 pub lesser-spec : {M : Type 1} → statement M
-lesser-spec = tie.close (tie.spec (λ c. lesser-first _ _ (c .if1 .taken)) (λ c. lesser-second _ _ (c .if1 .left)))
+lesser-spec = tie.close (tie.spec returns returns-2)

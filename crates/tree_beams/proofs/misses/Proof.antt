@@ -1,19 +1,18 @@
-use borrow.Author.Needs.{needs}
-use Rattle.tree_beams.proofs.Missing.{found-behind, found-apart}
+use Rattle.tree_beams.specs.Beams.{missesBox, reached}
 use Rattle.tree_beams.proofs.misses.Statement.{statement}
 use Rattle.tree_beams.proofs.misses.Tie as tie
 
-latest-requires : tie.Need-latest-requires
-latest-requires c κs = (c .before .pre .0, c .before .pre .1)
-
-soonest-requires : tie.Need-soonest-requires
-soonest-requires c κs = (c .before .before .pre .0, c .before .before .pre .1)
-
 returns : tie.Need-returns
-returns c = found-behind _ _ _ _ (c .before .soonest .ensures) (c .if1 .taken)
+unfolding missesBox reached
+returns c =
+    let e = c .before .before in let f = e .before in let n = f .before .before in
+    simp (← n .before .sub .ensures, ← n .mul .ensures, ← f .before .sub2 .ensures, ← f .mul2 .ensures, ← c .before .soonest .ensures, c .if1 .taken)
 
 returns-2 : tie.Need-returns-2
-returns-2 c = found-apart _ _ _ _ (c .before .soonest .ensures) _ (c .before .before .latest .ensures) (c .if1 .left)
+unfolding missesBox reached
+returns-2 c =
+    let l = c .before .before in let e = l .before in let f = e .before in let n = f .before .before in
+    simp (← n .before .sub .ensures, ← n .mul .ensures, ← f .before .sub2 .ensures, ← f .mul2 .ensures, ← l .soonest .ensures, ← e .latest .ensures, c .before .if1 .left, ← c .greater .ensures)
 
 pub misses-spec : {M : Type 1} → statement M
-misses-spec = tie.close (tie.spec (λ c. search needs) latest-requires (λ c. search needs) soonest-requires returns returns-2)
+misses-spec = tie.close (tie.spec (λ c κs. tt) (λ c κs. tt) (λ c κs. tt) (λ c κs. tt) (λ c κs. tt) (λ c κs. tt) returns (λ c κs. tt) returns-2)

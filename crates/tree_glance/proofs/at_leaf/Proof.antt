@@ -8,7 +8,7 @@ use Rattle.tree_glance.proofs.at_leaf.Tie as tie
 spot-requires : tie.Need-spot-requires
 spot-requires c κs =
     let at6 = c .before .before .before .before .before .before in let pre = at6 .pre in
-    (pre .0, pre .3, pre .4, pre .5)
+    pre .0
 
 enters-requires : tie.Need-enters-requires
 enters-requires c κs =

@@ -18,37 +18,36 @@ Inv-loop numbers inverses marks node-boxes node-marks order b distance calm cove
 abbrev μ-loop : tie.MeasureT-loop
 μ-loop numbers inverses marks node-boxes node-marks order b distance calm cover₀ stack₀ r i₀ sp₀ hid₀ rounds₀ cover stack i sp hid rounds = rounds
 
-misses-requires : tie.Need-misses-requires Inv-loop μ-loop
-misses-requires c κs =
+missed-requires : tie.Need-missed-requires Inv-loop μ-loop
+missed-requires c κs =
     let at7 = c .before .before .before .before .before .before .before in let before = at7 .before in
     let at8 = before in let args = at8 .args in
     let pre = at8 .pre in
-    (root-asked (entryHit (args .numbers .now) (args .inverses .now) (args .marks .now) (args .b .ray)) (args .b .ray) (args .distance) (args .node-boxes .now) (args .node-marks .now) (args .order .now) (pre .0) .0, pre .2, root-asked (entryHit (args .numbers .now) (args .inverses .now) (args .marks .now) (args .b .ray)) (args .b .ray) (args .distance) (args .node-boxes .now) (args .node-marks .now) (args .order .now) (pre .0) .1)
+    root-asked (entryHit (args .numbers .now) (args .inverses .now) (args .marks .now) (args .b .ray)) (args .b .ray) (args .distance) (args .node-boxes .now) (args .node-marks .now) (args .order .now) (pre .0) .0
 
 returns : tie.Need-returns Inv-loop μ-loop
 returns c =
-    let at1 = c .before in let misses = at1 .misses in
+    let at1 = c .before in let missed = at1 .missed in
     let at10 = at1 .before .before .before .before .before .before .before .before .before in let pre = at10 .pre in
-    let said = turn-missed _ _ _ _ _ _ _ (pre .0) _ (misses .ensures) (pre .2) (pre .3) (c .if1 .taken) in
+    let said = turn-missed _ _ _ _ _ _ _ (pre .0) _ (missed .ensures) (pre .2) (pre .3) (c .if1 .taken) in
     (said .0, pre .4, said .1)
 
 loop-holds : tie.Need-loop-holds Inv-loop μ-loop
 loop-holds c =
     let at1 = c .before in let if1 = at1 .if1 in
-    let at2 = at1 .before in let misses = at2 .misses in
+    let at2 = at1 .before in let missed = at2 .missed in
     let at11 = at2 .before .before .before .before .before .before .before .before .before in let pre = at11 .pre in
-    (turn-start _ _ _ _ _ _ _ (pre .0) _ (misses .ensures) _ (pre .4 .wide-stack) (if1 .left), pre .4)
+    (turn-start _ _ _ _ _ _ _ (pre .0) _ (missed .ensures) _ (pre .4 .wide-stack) (if1 .left), pre .4)
 
 read-triple-requires : tie.Need-read-triple-requires Inv-loop μ-loop
 read-triple-requires c κs = place-links _ _ _ _ _ _ _ _ _ _ (c .before .loop .inv .0 .place)
 
 at-leaf-requires : tie.Need-at-leaf-requires Inv-loop μ-loop
 at-leaf-requires c κs =
-    let at19 = c .before .before .before .before .before .before .before .before .before .before .before .before .before .before .before .before .before .before .before in let pre = at19 .pre in
     let at1 = c .before in let index2 = at1 .index2 in
     let at4 = at1 .before .before .before in let index = at4 .index in
     let at7 = at4 .before .before .before in let loop = at7 .loop in
-    (omega (arith, index .ensures .1, index2 .ensures .1), place-fits _ _ _ _ _ _ _ _ _ _ (loop .inv .0 .place), loop .inv .1 .wide, pre .2, pre .3, pre .5)
+    (omega (arith, index .ensures .1, index2 .ensures .1), place-fits _ _ _ _ _ _ _ _ _ _ (loop .inv .0 .place), loop .inv .1 .wide)
 
 returns-2 : tie.Need-returns-2 Inv-loop μ-loop
 returns-2 c =
@@ -141,35 +140,33 @@ loop-again-2 c =
 sided-requires : tie.Need-sided-requires Inv-loop μ-loop
 sided-requires c κs = c .before .before .before .index .ensures .1
 
-misses-requires-2 : tie.Need-misses-requires-2 Inv-loop μ-loop
-misses-requires-2 c κs =
+missed-requires-2 : tie.Need-missed-requires-2 Inv-loop μ-loop
+missed-requires-2 c κs =
     let at1 = c .before in let before = at1 .before in
     let at2 = before in let if2 = at2 .if2 in
     let at3 = at2 .before in let is-leaf = at3 .is-leaf in
     let at4 = at3 .before in let index = at4 .index in
     let at5 = at4 .before in let read-triple = at5 .read-triple in
     let at7 = at5 .before .before in let loop = at7 .loop in
-    let at19 = at7 .before .before .before .before .before .before .before .before .before .before .before .before in let pre = at19 .pre in
-    (near-asked _ _ _ _ _ _ _ _ _ _ (loop .inv .0 .place) _ (read-triple .ensures) _ (index .ensures .0) _ (is-leaf .ensures) (if2 .left) _ _ (c .sided .ensures) .0, pre .2, near-asked _ _ _ _ _ _ _ _ _ _ (loop .inv .0 .place) _ (read-triple .ensures) _ (index .ensures .0) _ (is-leaf .ensures) (if2 .left) _ _ (c .sided .ensures) .1)
+    near-asked _ _ _ _ _ _ _ _ _ _ (loop .inv .0 .place) _ (read-triple .ensures) _ (index .ensures .0) _ (is-leaf .ensures) (if2 .left) _ _ (c .sided .ensures) .0
 
-misses-requires-3 : tie.Need-misses-requires-3 Inv-loop μ-loop
-misses-requires-3 c κs =
+missed-requires-3 : tie.Need-missed-requires-3 Inv-loop μ-loop
+missed-requires-3 c κs =
     let at1 = c .before in let sided = at1 .sided in
     let at3 = at1 .before .before in let if2 = at3 .if2 in
     let at4 = at3 .before in let is-leaf = at4 .is-leaf in
     let at5 = at4 .before in let index = at5 .index in
     let at6 = at5 .before in let read-triple = at6 .read-triple in
     let at8 = at6 .before .before in let loop = at8 .loop in
-    let at20 = at8 .before .before .before .before .before .before .before .before .before .before .before .before in let pre = at20 .pre in
-    (far-asked _ _ _ _ _ _ _ _ _ _ (loop .inv .0 .place) _ (read-triple .ensures) _ (index .ensures .0) _ (is-leaf .ensures) (if2 .left) _ _ (sided .ensures) .0, pre .2, far-asked _ _ _ _ _ _ _ _ _ _ (loop .inv .0 .place) _ (read-triple .ensures) _ (index .ensures .0) _ (is-leaf .ensures) (if2 .left) _ _ (sided .ensures) .1)
+    far-asked _ _ _ _ _ _ _ _ _ _ (loop .inv .0 .place) _ (read-triple .ensures) _ (index .ensures .0) _ (is-leaf .ensures) (if2 .left) _ _ (sided .ensures) .0
 
 returns-6 : tie.Need-returns-6 Inv-loop μ-loop
 returns-6 c =
     let at1 = c .before in let if8 = at1 .if8 in
     let at2 = at1 .before in let if7 = at2 .if7 in
     let at3 = at2 .before in let if6 = at3 .if6 in
-    let at4 = at3 .before in let misses3 = at4 .misses3 in
-    let at5 = at4 .before in let misses2 = at5 .misses2 in
+    let at4 = at3 .before in let missed3 = at4 .missed3 in
+    let at5 = at4 .before in let missed2 = at5 .missed2 in
     let at6 = at5 .before in let sided = at6 .sided in
     let at7 = at6 .before in let backward = at7 .backward in
     let at8 = at7 .before in let if2 = at8 .if2 in
@@ -179,7 +176,7 @@ returns-6 c =
     let at12 = at11 .before in let loop-test = at12 .loop-test in
     let at13 = at12 .before in let loop = at13 .loop in
     let at25 = at13 .before .before .before .before .before .before .before .before .before .before .before .before in let pre = at25 .pre in
-    let said = turn-neither-last _ _ _ _ _ _ _ _ _ _ _ _ (loop .inv .0) (loop-test .taken) _ (read-triple .ensures) _ (index .ensures .0) _ (is-leaf .ensures) (if2 .left) _ (backward .ensures) _ (sided .ensures) (pre .2) _ (misses2 .ensures) _ (misses3 .ensures) (if6 .taken) (if7 .taken) (pre .0) (pre .3) (if8 .taken) _ (c .ended2 .ensures) in
+    let said = turn-neither-last _ _ _ _ _ _ _ _ _ _ _ _ (loop .inv .0) (loop-test .taken) _ (read-triple .ensures) _ (index .ensures .0) _ (is-leaf .ensures) (if2 .left) _ (backward .ensures) _ (sided .ensures) (pre .2) _ (missed2 .ensures) _ (missed3 .ensures) (if6 .taken) (if7 .taken) (pre .0) (pre .3) (if8 .taken) _ (c .ended2 .ensures) in
     (said .0, loop .inv .1, said .1)
 
 loop-again-3 : tie.Need-loop-again-3 Inv-loop μ-loop
@@ -187,8 +184,8 @@ loop-again-3 c =
     let at1 = c .before in let if8 = at1 .if8 in
     let at2 = at1 .before in let if7 = at2 .if7 in
     let at3 = at2 .before in let if6 = at3 .if6 in
-    let at4 = at3 .before in let misses3 = at4 .misses3 in
-    let at5 = at4 .before in let misses2 = at5 .misses2 in
+    let at4 = at3 .before in let missed3 = at4 .missed3 in
+    let at5 = at4 .before in let missed2 = at5 .missed2 in
     let at6 = at5 .before in let sided = at6 .sided in
     let at7 = at6 .before in let backward = at7 .backward in
     let at8 = at7 .before in let if2 = at8 .if2 in
@@ -198,13 +195,13 @@ loop-again-3 c =
     let at12 = at11 .before in let loop-test = at12 .loop-test in
     let at13 = at12 .before in let loop = at13 .loop in
     let at25 = at13 .before .before .before .before .before .before .before .before .before .before .before .before in let pre = at25 .pre in
-    (turn-neither _ _ _ _ _ _ _ _ _ _ _ _ (loop .inv .0) (loop-test .taken) _ (read-triple .ensures) _ (index .ensures .0) _ (is-leaf .ensures) (if2 .left) _ (backward .ensures) _ (sided .ensures) (pre .2) _ (misses2 .ensures) _ (misses3 .ensures) (if6 .taken) (if7 .taken) (if8 .left), loop .inv .1)
+    (turn-neither _ _ _ _ _ _ _ _ _ _ _ _ (loop .inv .0) (loop-test .taken) _ (read-triple .ensures) _ (index .ensures .0) _ (is-leaf .ensures) (if2 .left) _ (backward .ensures) _ (sided .ensures) (pre .2) _ (missed2 .ensures) _ (missed3 .ensures) (if6 .taken) (if7 .taken) (if8 .left), loop .inv .1)
 
 loop-again-4 : tie.Need-loop-again-4 Inv-loop μ-loop
 loop-again-4 c =
     let at1 = c .before in let if6 = at1 .if6 in
-    let at2 = at1 .before in let misses3 = at2 .misses3 in
-    let at3 = at2 .before in let misses2 = at3 .misses2 in
+    let at2 = at1 .before in let missed3 = at2 .missed3 in
+    let at3 = at2 .before in let missed2 = at3 .missed2 in
     let at4 = at3 .before in let sided = at4 .sided in
     let at5 = at4 .before in let backward = at5 .backward in
     let at6 = at5 .before in let if2 = at6 .if2 in
@@ -214,13 +211,13 @@ loop-again-4 c =
     let at10 = at9 .before in let loop-test = at10 .loop-test in
     let at11 = at10 .before in let loop = at11 .loop in
     let at23 = at11 .before .before .before .before .before .before .before .before .before .before .before .before in let pre = at23 .pre in
-    (turn-far _ _ _ _ _ _ _ _ _ _ _ _ (loop .inv .0) (loop-test .taken) _ (read-triple .ensures) _ (index .ensures .0) _ (is-leaf .ensures) (if2 .left) _ (backward .ensures) _ (sided .ensures) (pre .2) _ (misses2 .ensures) _ (misses3 .ensures) (if6 .taken) (c .if7 .left), loop .inv .1)
+    (turn-far _ _ _ _ _ _ _ _ _ _ _ _ (loop .inv .0) (loop-test .taken) _ (read-triple .ensures) _ (index .ensures .0) _ (is-leaf .ensures) (if2 .left) _ (backward .ensures) _ (sided .ensures) (pre .2) _ (missed2 .ensures) _ (missed3 .ensures) (if6 .taken) (c .if7 .left), loop .inv .1)
 
 loop-again-5 : tie.Need-loop-again-5 Inv-loop μ-loop
 loop-again-5 c =
     let at1 = c .before in let if6 = at1 .if6 in
-    let at2 = at1 .before in let misses3 = at2 .misses3 in
-    let at3 = at2 .before in let misses2 = at3 .misses2 in
+    let at2 = at1 .before in let missed3 = at2 .missed3 in
+    let at3 = at2 .before in let missed2 = at3 .missed2 in
     let at4 = at3 .before in let sided = at4 .sided in
     let at5 = at4 .before in let backward = at5 .backward in
     let at6 = at5 .before in let if2 = at6 .if2 in
@@ -230,14 +227,14 @@ loop-again-5 c =
     let at10 = at9 .before in let loop-test = at10 .loop-test in
     let at11 = at10 .before in let loop = at11 .loop in
     let at23 = at11 .before .before .before .before .before .before .before .before .before .before .before .before in let pre = at23 .pre in
-    (turn-near _ _ _ _ _ _ _ _ _ _ _ _ (loop .inv .0) (loop-test .taken) _ (read-triple .ensures) _ (index .ensures .0) _ (is-leaf .ensures) (if2 .left) _ (backward .ensures) _ (sided .ensures) (pre .2) _ (misses2 .ensures) _ (misses3 .ensures) (if6 .left) (c .if9 .taken), loop .inv .1)
+    (turn-near _ _ _ _ _ _ _ _ _ _ _ _ (loop .inv .0) (loop-test .taken) _ (read-triple .ensures) _ (index .ensures .0) _ (is-leaf .ensures) (if2 .left) _ (backward .ensures) _ (sided .ensures) (pre .2) _ (missed2 .ensures) _ (missed3 .ensures) (if6 .left) (c .if9 .taken), loop .inv .1)
 
 returns-7 : tie.Need-returns-7 Inv-loop μ-loop
 returns-7 c =
     let at1 = c .before in let if9 = at1 .if9 in
     let at2 = at1 .before in let if6 = at2 .if6 in
-    let at3 = at2 .before in let misses3 = at3 .misses3 in
-    let at4 = at3 .before in let misses2 = at4 .misses2 in
+    let at3 = at2 .before in let missed3 = at3 .missed3 in
+    let at4 = at3 .before in let missed2 = at4 .missed2 in
     let at5 = at4 .before in let sided = at5 .sided in
     let at6 = at5 .before in let backward = at6 .backward in
     let at7 = at6 .before in let if2 = at7 .if2 in
@@ -247,14 +244,14 @@ returns-7 c =
     let at11 = at10 .before in let loop-test = at11 .loop-test in
     let at12 = at11 .before in let loop = at12 .loop in
     let at24 = at12 .before .before .before .before .before .before .before .before .before .before .before .before in let pre = at24 .pre in
-    (tt, loop .inv .1, turn-full _ _ _ _ _ _ _ _ _ _ _ _ (loop .inv .0) (loop-test .taken) _ (read-triple .ensures) _ (index .ensures .0) _ (is-leaf .ensures) (if2 .left) _ (backward .ensures) _ (sided .ensures) (pre .2) _ (misses2 .ensures) _ (misses3 .ensures) (if6 .left) (if9 .left) (c .if10 .taken) .1)
+    (tt, loop .inv .1, turn-full _ _ _ _ _ _ _ _ _ _ _ _ (loop .inv .0) (loop-test .taken) _ (read-triple .ensures) _ (index .ensures .0) _ (is-leaf .ensures) (if2 .left) _ (backward .ensures) _ (sided .ensures) (pre .2) _ (missed2 .ensures) _ (missed3 .ensures) (if6 .left) (if9 .left) (c .if10 .taken) .1)
 
 loop-again-6 : tie.Need-loop-again-6 Inv-loop μ-loop
 loop-again-6 c =
     let at1 = c .before in let if9 = at1 .if9 in
     let at2 = at1 .before in let if6 = at2 .if6 in
-    let at3 = at2 .before in let misses3 = at3 .misses3 in
-    let at4 = at3 .before in let misses2 = at4 .misses2 in
+    let at3 = at2 .before in let missed3 = at3 .missed3 in
+    let at4 = at3 .before in let missed2 = at4 .missed2 in
     let at5 = at4 .before in let sided = at5 .sided in
     let at6 = at5 .before in let backward = at6 .backward in
     let at7 = at6 .before in let if2 = at7 .if2 in
@@ -264,7 +261,7 @@ loop-again-6 c =
     let at11 = at10 .before in let loop-test = at11 .loop-test in
     let at12 = at11 .before in let loop = at12 .loop in
     let at24 = at12 .before .before .before .before .before .before .before .before .before .before .before .before in let pre = at24 .pre in
-    (turn-both _ _ _ _ _ _ _ _ _ _ _ _ (loop .inv .0) (loop-test .taken) _ (read-triple .ensures) _ (index .ensures .0) _ (is-leaf .ensures) (if2 .left) _ (backward .ensures) _ (sided .ensures) (pre .2) _ (misses2 .ensures) _ (misses3 .ensures) (if6 .left) (if9 .left) (loop .inv .1 .wide-stack) (omega (arith, c .if10 .left)), kept-stack _ _ _ _ _ (loop .inv .1) _ (length-set (loop .stack) (loop .sp) (sided .result .far) ∙ loop .inv .1 .wide-stack))
+    (turn-both _ _ _ _ _ _ _ _ _ _ _ _ (loop .inv .0) (loop-test .taken) _ (read-triple .ensures) _ (index .ensures .0) _ (is-leaf .ensures) (if2 .left) _ (backward .ensures) _ (sided .ensures) (pre .2) _ (missed2 .ensures) _ (missed3 .ensures) (if6 .left) (if9 .left) (loop .inv .1 .wide-stack) (omega (arith, c .if10 .left)), kept-stack _ _ _ _ _ (loop .inv .1) _ (length-set (loop .stack) (loop .sp) (sided .result .far) ∙ loop .inv .1 .wide-stack))
 
 returns-8 : tie.Need-returns-8 Inv-loop μ-loop
 returns-8 c =
@@ -401,5 +398,5 @@ pub look-spec : {M : Type 1} → statement M
 look-spec =
     tie.close
     (tie.spec
-    Inv-loop μ-loop misses-requires returns loop-holds (λ c. search needs) read-triple-requires (λ c κs. tt) (λ c κs. tt) (λ c κs. tt) at-leaf-requires (λ c. search needs) same-length same-length-2 returns-2 (λ c. search needs) (λ c κs. tt) same-length-3 same-length-4 returns-3 (λ c. search needs) (λ c. search needs) slice-read-i (λ c. search needs) loop-again (λ c. search needs) same-length-5 same-length-6 returns-4 same-length-7 same-length-8 returns-5 (λ c. search needs)
-    (λ c. search needs) slice-read-i-2 (λ c. search needs) loop-again-2 (λ c κs. tt) sided-requires misses-requires-2 misses-requires-3 (λ c κs. tt) same-length-9 same-length-10 returns-6 (λ c. search needs) (λ c. search needs) slice-read-i-3 (λ c. search needs) loop-again-3 (λ c. search needs) loop-again-4 (λ c. search needs) loop-again-5 same-length-11 same-length-12 returns-7 mul-stack slice-write-stack (λ c. search needs) (λ c. search needs) loop-again-6 same-length-13 same-length-14 returns-8)
+    Inv-loop μ-loop missed-requires returns loop-holds (λ c. search needs) read-triple-requires (λ c κs. tt) (λ c κs. tt) (λ c κs. tt) at-leaf-requires (λ c. search needs) same-length same-length-2 returns-2 (λ c. search needs) (λ c κs. tt) same-length-3 same-length-4 returns-3 (λ c. search needs) (λ c. search needs) slice-read-i (λ c. search needs) loop-again (λ c. search needs) same-length-5 same-length-6 returns-4 same-length-7 same-length-8 returns-5 (λ c. search needs)
+    (λ c. search needs) slice-read-i-2 (λ c. search needs) loop-again-2 (λ c κs. tt) sided-requires missed-requires-2 missed-requires-3 (λ c κs. tt) same-length-9 same-length-10 returns-6 (λ c. search needs) (λ c. search needs) slice-read-i-3 (λ c. search needs) loop-again-3 (λ c. search needs) loop-again-4 (λ c. search needs) loop-again-5 same-length-11 same-length-12 returns-7 mul-stack slice-write-stack (λ c. search needs) (λ c. search needs) loop-again-6 same-length-13 same-length-14 returns-8)

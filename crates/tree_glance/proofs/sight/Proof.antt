@@ -8,7 +8,7 @@ glimpse-requires : tie.Need-glimpse-requires
 glimpse-requires c κs =
     let at2 = c .before .before in let if1 = at2 .if1 in
     let at11 = at2 .before .before .before .before .before .before .before .before .before in let pre = at11 .pre in
-    (pre .0 (if1 .taken) .0, pre .1, pre .0 (if1 .taken) .1, pre .0 (if1 .taken) .2, pre .2, pre .0 (if1 .taken) .3, pre .3)
+    (pre .0 (if1 .taken) .0, pre .1, pre .0 (if1 .taken) .1, pre .0 (if1 .taken) .2, pre .2, pre .3)
 
 same-length : tie.Need-same-length
 same-length c =
