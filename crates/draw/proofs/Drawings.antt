@@ -1,11 +1,11 @@
 -- How a draw ends, by the verdict on the scene and by what the check left. Assumes nothing.
-use Prim.Native.Nat.{ℕ, _≤_}
+use Prim.Native.Nat.{ℕ}
 use mathlib.Core.Path.{_≡_, sym, _∙_, subst}
 use mathlib.Core.List.{List}
 use mathlib.Core.Bool.{Bool, true, false}
 use native.Mathlib.Omega.{arith}
 use lib.Dec.{T}
-use lib.ListN.{length, take}
+use lib.ListN.{take}
 use lib.Ieee.{Float, lt}
 use Rattle.floats.specs.Arith.{zeroF}
 use Rattle.rows.specs.Rows.{padded}
@@ -63,13 +63,10 @@ module _ (t : Float) (s : Scene) (d : Verdict) (judged : d ≡ checkOf s) (v : V
       listed : take n ds ≡ drawn (s .marks)
       listed = own-drawn s n is O ds (left-is 0 n h O (drawn (s .marks)) ld) (accepted-count s n is)
 
-      pub scene-lists : Listed bs ds n
-      scene-lists =
+      pub scene-listed : Listed bs ds n
+      scene-listed =
           let left = left-is 0 n h O (drawn (s .marks)) ld in
           accepted-listed s n is M bs (left-is zeroF n h M (boxesOf s) lb) ds (omega (arith, accepted-count s n is, padded-room 0 O (drawn (s .marks)) left)) listed
-
-      pub scene-listed : 6144 ≤ length bs → 1024 ≤ length ds → Listed bs ds n
-      scene-listed long room = scene-lists
 
       pub drawn-as : (L : ℕ) (vs : List Float) → vs ≡ padded zeroF L (ifAccepted d (inversesOf s)) → {b c : Bool} → b ≡ viewOk v → b ≡ true → c ≡ thresholdOk t → c ≡ true
           → drawWith t s v w ≡ rendered t v w (linedAt 8 (s .numbers) vs (s .marks) (s .points) (s .starts) (s .owners)) (boxAt bs) (take n ds)

@@ -1,10 +1,9 @@
 -- The ways through the filter of a draw. Assumes nothing.
-use mathlib.Core.Path.{_≡_, refl, sym, ap, _∙_}
-use mathlib.Core.Bool.{Bool, true, false, cond}
+use mathlib.Core.Path.{_≡_, refl, sym, _∙_}
+use mathlib.Core.Bool.{Bool, true, false, cond, _&&_, and-eq-true-iff}
 use Prim.Native.Nat.{ℕ}
 use native.Mathlib.Omega.{arith}
 use Rattle.geometry.specs.Boxes.{clipBox, contains}
-use Rattle.geometry.specs.Vectors.{subV, lengthOf, distanceOf}
 use Rattle.geometry.specs.declared.vector.Vector.{Vector}
 use Rattle.matrix.specs.Matrices.{mulPositionW}
 use Rattle.matrix.specs.declared.Matrix.{Matrix}
@@ -20,9 +19,9 @@ use mathlib.Core.List.{List}
 use lib.Ieee.{Float}
 use mathlib.Core.Logic.{inl}
 use lib.ListN.{replicate}
-use Rattle.geometry.specs.Limits.{Within}
-use Rattle.tree_blocks.specs.Blocks.{SoundBlocks}
-use Rattle.tree_trust.specs.Trust.{Trusted, Uncut}
+use Rattle.limits.proofs.Limits.{within-point}
+use Rattle.tree_trust.specs.Trust.{Uncut, isTrusted}
+use Rattle.tree_trust.proofs.Making.{is-trusted}
 use Rattle.tree_glance.specs.Glances.{noPlace, LastCover}
 use Rattle.draw_clip.specs.Clip.{bySight, clipFilter, Prepared}
 
@@ -57,11 +56,6 @@ module _ (matrix : Matrix) (seen : Vector → Sight) (v : Vector) (c : ℕ) (tol
   unfolding clipFilter
   told-kept e w ew = rw ew (kept-on (mulPositionW matrix v) (contains clipBox (mulPositionW matrix v)) (withinPoint v) (seen v) (told ∙ e))
 
--- ---- the distance of a point, as the code makes it
-pub distance-is : (eye point v : Vector) → v ≡ subV eye point → (d : Float) → d ≡ lengthOf v → d ≡ distanceOf eye point
-unfolding distanceOf
-distance-is eye point v ev d ed = ed ∙ ap lengthOf ev
-
 -- ---- what the eye test is handed on
 pub ready-kept : (numbers inverses : List Float) (marks : List ℕ) (boxes : List Float) (links order : List ℕ) (eye : Vector) (trusted calm : Bool) (cover stack : List ℕ)
     → Prepared numbers inverses marks boxes links order eye trusted calm cover stack → (cover′ stack′ : List ℕ) → LastCover boxes links order cover′ stack′
@@ -69,10 +63,10 @@ pub ready-kept : (numbers inverses : List Float) (marks : List ℕ) (boxes : Lis
 ready-kept numbers inverses marks boxes links order eye trusted calm cover stack R cover′ stack′ K = record { tree = R .tree; solids = R .solids; kept = K }
 
 pub ready-start : (numbers inverses : List Float) (marks : List ℕ) (boxes : List Float) (links order : List ℕ) (eye : Vector) (trusted calm : Bool)
-    → (trusted ≡ true → (order : List ℕ) → Trusted boxes links order × Within eye × SoundBlocks numbers marks) → (calm ≡ true → Uncut numbers inverses marks)
+    → trusted ≡ (isTrusted boxes links && withinPoint eye) → (calm ≡ true → Uncut numbers inverses marks)
     → Prepared numbers inverses marks boxes links order eye trusted calm (replicate 2 noPlace) (replicate 64 0)
 ready-start numbers inverses marks boxes links order eye trusted calm t u = record {
-  tree = λ e. t e order;
+  tree = λ e. let h = and-eq-true-iff (isTrusted boxes links) (withinPoint eye) .0 (sym t ∙ e) in (is-trusted boxes links order (h .0), within-point _ (h .1));
   solids = u;
   kept = record { wide = refl; wide-stack = refl; last = inl refl };
 }

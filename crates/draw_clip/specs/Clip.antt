@@ -17,7 +17,6 @@ use Rattle.tree_sight.specs.Sights.{sees}
 use Rattle.tree_sight.specs.declared.Sight.{Sight}
 use Rattle.tree_sight.specs.declared.Sight.the-variants.{Visible, Hidden, Refused as NotSeen}
 use Rattle.tree_trust.specs.Trust.{Trusted, Uncut}
-use Rattle.tree_blocks.specs.Blocks.{SoundBlocks}
 use Rattle.tree_glance.specs.Glances.{LastCover}
 use Rattle.paths.specs.Answers.{Answer}
 use Rattle.paths.specs.Paths.{Paths}
@@ -43,8 +42,8 @@ clipPaths matrix seen = filterPaths (clipFilter matrix seen)
 abbrev pub seenFrom : List Float → List Float → List ℕ → List Float → List ℕ → List ℕ → Vector → Vector → Sight
 seenFrom numbers inverses marks nodeBoxes nodeMarks order = sees (λ (r : Ray). walkRows (entryHit numbers inverses marks r) r nodeBoxes nodeMarks order)
 
--- What the filter needs so that the eye test may leave something out: what is known of the tree, of the blocks, of the eye and of the solids, where it is known; and what is kept from point to point.
+-- What the filter needs so that the eye test may leave something out: what is known of the tree, the eye and the solids; and what is kept from point to point.
 pub record Prepared (numbers inverses : List Float) (marks : List ℕ) (boxes : List Float) (links order : List ℕ) (eye : Vector) (trusted calm : Bool) (cover stack : List ℕ) : Type 0 where
-  pub tree : trusted ≡ true → Trusted boxes links order × Within eye × SoundBlocks numbers marks
+  pub tree : trusted ≡ true → Trusted boxes links order × Within eye
   pub solids : calm ≡ true → Uncut numbers inverses marks
   pub kept : LastCover boxes links order cover stack

@@ -1,19 +1,15 @@
 // The filter of a draw (filter.rs, and its loops of path.rs): the clip box, and then the eye test.
 ghost use mathlib.Core.Path.{_≡_};
-ghost use mathlib.Core.Bool.{true};
-ghost use mathlib.Core.List.{List};
-ghost use Prim.Native.Nat.{ℕ, _+_, _*_, _≤_, _<_};
+ghost use mathlib.Core.Bool.{not, _&&_};
+ghost use Prim.Native.Nat.{_+_, _*_, _≤_, _<_};
 ghost use lib.ListN.{length};
+ghost use lib.Dec.{eqb, ltb};
 ghost use lib.Seq.{slice};
 ghost use Rattle.draw_memory.specs.Memory.{Remembered};
-ghost use Rattle.rows.specs.Rows.{row};
-ghost use Rattle.rows.specs.Points.{pointOf};
 ghost use Rattle.paths.specs.Ends.{places, allPoints, held, EndsBoth};
 ghost use Rattle.path_filter.specs.Filter.{filteredFrom, pathFilter};
-ghost use Rattle.tree_trust.specs.Trust.{Trusted};
-ghost use Rattle.tree_blocks.specs.Blocks.{SoundBlocks};
-ghost use Rattle.geometry.specs.Vectors.{distanceOf};
-ghost use Rattle.geometry.specs.Limits.{Within};
+ghost use Rattle.tree_trust.specs.Trust.{isTrusted};
+ghost use Rattle.limits.specs.Limits.{withinPoint};
 ghost use Rattle.draw_clip.specs.Clip.{bySight, clipFilter, clipPaths, seenFrom, Prepared};
 use geometry::bounding_box::BBox;
 use geometry::vector::Vector;
@@ -68,25 +64,17 @@ pub fn clip_filter(
     by_sight(projected, s)
 }
 
-// Whether the tree, the blocks and the eye are such that the eye test may leave something out.
-fn trusts(
-    eye: Vector,
-    numbers: &[f64],
-    marks: &[u32],
-    node_boxes: &[f64],
-    node_marks: &[u32],
-) -> bool
-    ensures { λ r. ⌜ (r ≡ true → (order : List ℕ) → Trusted (now («node_boxes» .entry)) (now («node_marks» .entry)) order × Within eye × SoundBlocks (now (numbers .entry)) (now (marks .entry))) ⌝ }
+// Whether the tree and the eye are such that the eye test may leave something out.
+fn trusts(eye: Vector, node_boxes: &[f64], node_marks: &[u32]) -> bool
+    ensures { λ r. ⌜ r ≡ (isTrusted (now («node_boxes» .entry)) (now («node_marks» .entry)) && withinPoint eye) ⌝ }
 {
     if tree_trust::trusted(node_boxes, node_marks) {
-        if tree_blocks::sound_blocks(numbers, marks) {
-            return limits::within_point(eye);
-        }
+        return limits::within_point(eye);
     }
     false
 }
 
-// The same as `clip_filter` for a point at this distance from the eye, with the eye test by a glance.
+// The same as `clip_filter`, with the eye test by a glance.
 fn quick_filter(
     matrix: Matrix,
     eye: Vector,
@@ -97,15 +85,16 @@ fn quick_filter(
     node_marks: &[u32],
     order: &[u32],
     v: Vector,
-    distance: f64,
     trusted: bool,
     calm: bool,
     cover: &mut [usize],
     stack: &mut [usize],
 ) -> Test
-    requires { ⌜ Prepared (now numbers) (now inverses) (now marks) (now «node_boxes») (now «node_marks») (now order) eye trusted calm (now cover) (now stack) × (distance ≡ distanceOf eye v) ⌝ }
+    requires { ⌜ Prepared (now numbers) (now inverses) (now marks) (now «node_boxes») (now «node_marks») (now order) eye trusted calm (now cover) (now stack) ⌝ }
     ensures { λ r. ⌜ (r ≡ clipFilter matrix (seenFrom (now (numbers .entry)) (now (inverses .entry)) (now (marks .entry)) (now («node_boxes» .entry)) (now («node_marks» .entry)) (now (order .entry)) eye) v) × Prepared (now (numbers .entry)) (now (inverses .entry)) (now (marks .entry)) (now («node_boxes» .entry)) (now («node_marks» .entry)) (now (order .entry)) eye trusted calm (now (cover .exit)) (now (stack .exit)) ⌝ }
 {
+    // first, so that its root goes on beside the projection
+    let distance = eye.gap(v);
     let w = matrix.mul_position_w(v);
     if !BBox::clips(w) {
         return Test::Drop;
@@ -159,7 +148,6 @@ fn end_filter(
     if c == 1 {
         return Test::Keep(matrix.mul_position_w(v));
     }
-    let distance = eye.sub(v).norm();
     let t = quick_filter(
         matrix,
         eye,
@@ -170,7 +158,6 @@ fn end_filter(
         node_marks,
         order,
         v,
-        distance,
         trusted,
         calm,
         cover,
@@ -180,7 +167,7 @@ fn end_filter(
     t
 }
 
-// The filter of any point of a path. The distance is that of an inner one; an end has its own worked out.
+// The filter of any point of a path.
 fn point_filter(
     matrix: Matrix,
     eye: Vector,
@@ -192,7 +179,6 @@ fn point_filter(
     order: &[u32],
     v: Vector,
     inner: bool,
-    distance: f64,
     ends: &mut [f64],
     known: &mut [u32],
     trusted: bool,
@@ -200,7 +186,7 @@ fn point_filter(
     cover: &mut [usize],
     stack: &mut [usize],
 ) -> Test
-    requires { ⌜ Remembered (clipFilter matrix (seenFrom (now numbers) (now inverses) (now marks) (now «node_boxes») (now «node_marks») (now order) eye)) (now ends) (now known) × Prepared (now numbers) (now inverses) (now marks) (now «node_boxes») (now «node_marks») (now order) eye trusted calm (now cover) (now stack) × (inner ≡ true → distance ≡ distanceOf eye v) ⌝ }
+    requires { ⌜ Remembered (clipFilter matrix (seenFrom (now numbers) (now inverses) (now marks) (now «node_boxes») (now «node_marks») (now order) eye)) (now ends) (now known) × Prepared (now numbers) (now inverses) (now marks) (now «node_boxes») (now «node_marks») (now order) eye trusted calm (now cover) (now stack) ⌝ }
     ensures { λ r. ⌜ (r ≡ clipFilter matrix (seenFrom (now (numbers .entry)) (now (inverses .entry)) (now (marks .entry)) (now («node_boxes» .entry)) (now («node_marks» .entry)) (now (order .entry)) eye) v) × Remembered (clipFilter matrix (seenFrom (now (numbers .entry)) (now (inverses .entry)) (now (marks .entry)) (now («node_boxes» .entry)) (now («node_marks» .entry)) (now (order .entry)) eye)) (now (ends .exit)) (now (known .exit)) × Prepared (now (numbers .entry)) (now (inverses .entry)) (now (marks .entry)) (now («node_boxes» .entry)) (now («node_marks» .entry)) (now (order .entry)) eye trusted calm (now (cover .exit)) (now (stack .exit)) ⌝ }
 {
     if inner {
@@ -214,7 +200,6 @@ fn point_filter(
             node_marks,
             order,
             v,
-            distance,
             trusted,
             calm,
             cover,
@@ -243,7 +228,7 @@ fn point_filter(
 // Whether i is neither the first place nor the last.
 fn is_inner(from: usize, i: usize, end: usize) -> bool
     requires { ⌜ i < end ⌝ }
-    ensures { λ r. ⌜ (r ≡ true → (i ≡ from → ⊥) × (i + 1 < end)) ⌝ }
+    ensures { λ r. ⌜ r ≡ (not (eqb i from) && ltb (i + 1) end) ⌝ }
 {
     if i == from {
         return false;
@@ -251,19 +236,7 @@ fn is_inner(from: usize, i: usize, end: usize) -> bool
     i + 1 < end
 }
 
-// How far the point after i is from the eye, where it is not the last.
-fn next_distance(eye: Vector, path: &[f64], i: usize, end: usize) -> f64
-    requires { ⌜ (i < end) × (end * 3 ≤ length (now path)) ⌝ }
-    ensures { λ r. ⌜ (i + 2 < end → r ≡ distanceOf eye (pointOf (row 3 (i + 1) (now (path .entry))))) ⌝ }
-{
-    if i + 2 < end {
-        return eye.sub(rows::read_point(path, i + 1)).norm();
-    }
-    0.0
-}
-
-// Each point of a path from `from` up to `end`, after n points and m starts. The distance of the next point is worked
-// out a turn ahead, but for the ends: its root then goes on beside the walk for this one.
+// Each point of a path from `from` up to `end`, after n points and m starts.
 fn filter_from(
     matrix: Matrix,
     eye: Vector,
@@ -293,11 +266,8 @@ fn filter_from(
     let mut i = from;
     let mut a = n;
     let mut b = m;
-    let mut ahead = 0.0;
     while i < end {
         let v = rows::read_point(path, i);
-        let distance = ahead;
-        ahead = next_distance(eye, path, i, end);
         let t = point_filter(
             matrix,
             eye,
@@ -309,7 +279,6 @@ fn filter_from(
             order,
             v,
             is_inner(from, i, end),
-            distance,
             ends,
             known,
             trusted,
@@ -415,7 +384,7 @@ pub fn filter_paths(
     let total = path.len() / 3;
     let mut ends = [0.0; 24];
     let mut known = [2u32; 9];
-    let trusted = trusts(eye, numbers, marks, node_boxes, node_marks);
+    let trusted = trusts(eye, node_boxes, node_marks);
     let calm = tree_trust::uncut(marks);
     let mut cover = [0xffffffffusize; 2];
     let mut stack = [0usize; 64];

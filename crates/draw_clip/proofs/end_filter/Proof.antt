@@ -2,7 +2,7 @@ use mathlib.Core.Path.{sym, ap, _∙_}
 use native.Mathlib.Omega.{arith}
 use Rattle.draw_memory.specs.Memory.{outcomeOf}
 use Rattle.draw_memory.proofs.Memories.{known-told, known-more}
-use Rattle.draw_clip.proofs.Clipping.{distance-is, told-dropped, told-kept}
+use Rattle.draw_clip.proofs.Clipping.{told-dropped, told-kept}
 use borrow.Author.Needs.{needs}
 use Rattle.draw_clip.proofs.end_filter.Statement.{statement}
 use Rattle.draw_clip.proofs.end_filter.Tie as tie
@@ -27,26 +27,24 @@ returns-2 c =
 
 quick-filter-requires : tie.Need-quick-filter-requires
 quick-filter-requires c κs =
-    let at2 = c .before .before in let norm = at2 .norm in
-    let at3 = at2 .before in let sub = at3 .sub in
-    let at19 = at3 .before .before .before .before .before .before .before .before .before .before .before .before .before .before .before .before in let pre = at19 .pre in
-    (pre .1, distance-is _ _ _ (sub .ensures) _ (norm .ensures))
+    let at17 = c .before .before .before .before .before .before .before .before .before .before .before .before .before .before .before .before .before in let pre = at17 .pre in
+    pre .1
 
 remember-requires : tie.Need-remember-requires
 remember-requires c κs =
-    let at27 = c .before .before .before .before .before .before .before .before .before .before .before .before .before .before .before .before .before .before .before .before .before .before .before .before .before .before .before in let pre = at27 .pre in
+    let at25 = c .before .before .before .before .before .before .before .before .before .before .before .before .before .before .before .before .before .before .before .before .before .before .before .before .before in let pre = at25 .pre in
     (pre .0 .wide, pre .0 .wide-known)
 
 same-length-7 : tie.Need-same-length-7
 same-length-7 c =
     let at12 = c .before .before .before .before .before .before .before .before .before .before .before .before in let quick-filter = at12 .quick-filter in
-    let at32 = at12 .before .before .before .before .before .before .before .before .before .before .before .before .before .before .before .before .before .before .before .before in let pre = at32 .pre in
+    let at30 = at12 .before .before .before .before .before .before .before .before .before .before .before .before .before .before .before .before .before .before in let pre = at30 .pre in
     quick-filter .ensures .1 .kept .wide ∙ sym (pre .1 .kept .wide)
 
 same-length-8 : tie.Need-same-length-8
 same-length-8 c =
     let at12 = c .before .before .before .before .before .before .before .before .before .before .before .before in let quick-filter = at12 .quick-filter in
-    let at32 = at12 .before .before .before .before .before .before .before .before .before .before .before .before .before .before .before .before .before .before .before .before in let pre = at32 .pre in
+    let at30 = at12 .before .before .before .before .before .before .before .before .before .before .before .before .before .before .before .before .before .before in let pre = at30 .pre in
     quick-filter .ensures .1 .kept .wide-stack ∙ sym (pre .1 .kept .wide-stack)
 
 returns-3 : tie.Need-returns-3
@@ -54,11 +52,11 @@ returns-3 c =
     let at4 = c .before .before .before .before in let remember = at4 .remember in
     let at5 = at4 .before in let outcome = at5 .outcome in
     let at12 = at5 .before .before .before .before .before .before .before in let quick-filter = at12 .quick-filter in
-    let at32 = at12 .before .before .before .before .before .before .before .before .before .before .before .before .before .before .before .before .before .before .before .before in let pre = at32 .pre in
+    let at30 = at12 .before .before .before .before .before .before .before .before .before .before .before .before .before .before .before .before .before .before in let pre = at30 .pre in
     (quick-filter .ensures .0, known-more _ _ _ (pre .0) _ _ (outcome .ensures ∙ ap outcomeOf (quick-filter .ensures .0)) _ _ (remember .ensures .0) (remember .ensures .1), quick-filter .ensures .1)
 
 pub end-filter-spec : {M : Type 1} → statement M
 end-filter-spec =
     tie.close
     (tie.spec
-    recall-requires (λ c. search needs) (λ c. search needs) returns (λ c κs. tt) (λ c. search needs) (λ c. search needs) returns-2 (λ c κs. tt) (λ c κs. tt) quick-filter-requires (λ c κs. tt) remember-requires (λ c. search needs) (λ c. search needs) same-length-7 same-length-8 returns-3)
+    recall-requires (λ c. search needs) (λ c. search needs) returns (λ c κs. tt) (λ c. search needs) (λ c. search needs) returns-2 quick-filter-requires (λ c κs. tt) remember-requires (λ c. search needs) (λ c. search needs) same-length-7 same-length-8 returns-3)

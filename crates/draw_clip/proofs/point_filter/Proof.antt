@@ -4,11 +4,9 @@ use Rattle.draw_clip.proofs.point_filter.Tie as tie
 
 quick-filter-requires : tie.Need-quick-filter-requires
 quick-filter-requires c κs =
-    let at2 = c .before .before in let if1 = at2 .if1 in
-    let at12 = at2 .before .before .before .before .before .before .before .before .before .before in let before = at12 .before in
-    let at13 = at12 .before in let pre = at13 .pre in
+    let at12 = c .before .before .before .before .before .before .before .before .before .before .before .before in let before = at12 .before in
     let at13 = before in let pre = at13 .pre in
-    (pre .1, pre .2 (if1 .taken))
+    pre .1
 
 same-length : tie.Need-same-length
 same-length c =

@@ -1,6 +1,5 @@
 use mathlib.Core.List.{[]}
 use Prim.Native.Nat.{_*_, _/_}
-use native.Mathlib.Omega.{arith}
 use borrow.Author.Tests.{not-true, not-false}
 use lib.ListN.{length}
 use Rattle.scene.specs.Scenes.{sceneOf}
@@ -43,7 +42,7 @@ render-counts-requires c κs =
     let s = sceneOf (args .numbers .now) (args .marks .now) (args .points .now) (args .starts .now) (args .owners .now) in
     let w = placesFor (length (args .work .now) / 24 * 3) (length (args .work-starts .now) / 8) (args .chopped .now) (args .chopped-starts .now) (args .node-boxes .now) (args .node-marks .now) (args .order .now) (args .out) (args .begins) in (
       threshold-fine (args .threshold) (threshold-ok .ensures) (not-false _ (if2 .left)),
-      scene-listed (args .threshold) s _ (check .ensures .verdict) (args .view) w (v2 .given .1) 6144 1024 (check .last .1 .1 .1 .1 .1 .1 .0) (check .ensures .boxes-are) (check .last .1 .1 .1 .1 .1 .1 .1 .0) (check .ensures .drawn-are) (omega (arith, check .kept .1 .1 .1 .1 .1 .1 .0)) (omega (arith, check .kept .1 .1 .1 .1 .1 .1 .1 .0)),
+      scene-listed (args .threshold) s _ (check .ensures .verdict) (args .view) w (v2 .given .1) 6144 1024 (check .last .1 .1 .1 .1 .1 .1 .0) (check .ensures .boxes-are) (check .last .1 .1 .1 .1 .1 .1 .1 .0) (check .ensures .drawn-are),
     )
 
 returns-3 : tie.Need-returns-3
