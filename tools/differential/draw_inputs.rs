@@ -707,6 +707,33 @@ impl Yard<'_> {
         self.scene.push([7, 1, whole, hole], &[]);
     }
 
+    /// A bin at `at`, three metres wide, with so many openings, cut by this operation.
+    fn bin(&mut self, bin: Bin, at: Point, openings: usize, op: u32) -> u32 {
+        let mut top = match bin {
+            Bin::Block => {
+                self.scene.push([4, 1, 0, 0], &[at, along(at, [3.0, 3.0, 4.0], 1.0)].concat())
+            }
+            Bin::Tube => self.scene.push([8, 12, 0, 0], &[1.5, 0.0, 4.0]),
+        };
+        let doors: [[Point; 2]; 2] = match bin {
+            Bin::Block => [[[0.5, -1.0, 0.3], [1.4, 2.0, 2.0]], [[0.6, 0.6, 2.5], [5.0, 1.6, 3.6]]],
+            Bin::Tube => {
+                [[[-0.5, -2.0, 0.3], [0.5, -0.4, 2.0]], [[0.4, -0.5, 2.5], [2.0, 0.5, 3.6]]]
+            }
+        };
+        for door in &doors[..openings] {
+            let [low, high] = door.map(|p| along(at, p, 1.0));
+            let door = self.scene.push([4, 1, 0, 0], &[low, high].concat());
+            top = self.scene.push([7, op, top, door], &[]);
+        }
+        top
+    }
+
+    fn turned_about_z(&mut self) -> Numbers {
+        let (s, c) = self.rng.between(0.0, 6.28).sin_cos();
+        [c, -s, 0.0, 0.0, s, c, 0.0, 0.0, 0.0, 0.0, 1.0, 0.0, 0.0, 0.0, 0.0, 1.0]
+    }
+
     /// Something cut open, about the origin; seldom cut twice.
     fn opened(&mut self) -> u32 {
         let a = match self.rng.below(5) {
@@ -763,9 +790,56 @@ fn seen_whole(rng: &mut Rng, n: usize, one_in: usize, step: f64) -> (Scene, View
             break scene;
         }
     };
+    (scene, whole_view(step))
+}
+
+fn whole_view(step: f64) -> View {
     let eye = [70.0, -85.0, 60.0];
     let matrix = camera(eye, [0.0; 3], 0.6, 1.0, [1.0, 1000.0]);
-    (scene, View { matrix, eye, width: 1000.0, height: 1000.0, step })
+    View { matrix, eye, width: 1000.0, height: 1000.0, step }
+}
+
+/// What a bin is made of: a block or a closed tube.
+#[derive(Clone, Copy)]
+pub enum Bin {
+    Block,
+    Tube,
+}
+
+/// 24 bins on the ground, each with so many openings cut into it one after the other. A placed bin is made about the
+/// origin, and then turned and moved to its place as a whole.
+pub fn bins(rng: &mut Rng, bin: Bin, openings: usize, placed: bool, step: f64) -> (Scene, View) {
+    standing(rng, step, |yard, at| {
+        let about = if placed { [0.0; 3] } else { at };
+        let top = yard.bin(bin, about, openings, 1);
+        if placed {
+            let m = yard.turned_about_z();
+            yard.place(top, moved(m, at));
+        }
+    })
+}
+
+/// 24 placed bins, each of two cuts: a bin with two openings, in common with a ball from which a block is taken away.
+pub fn cuts_in_cuts(rng: &mut Rng, step: f64) -> (Scene, View) {
+    standing(rng, step, |yard, at| {
+        let bin = yard.bin(Bin::Block, [0.0; 3], 2, 3);
+        let ball = yard.scene.push([1, 0, 0, 0], &[1.5, 1.5, 2.0, 2.4]);
+        let slot = yard.scene.push([4, 1, 0, 0], &[1.0, -1.0, 3.0, 2.0, 4.0, 6.0]);
+        let room = yard.scene.push([7, 3, ball, slot], &[]);
+        let both = yard.scene.push([7, 2, bin, room], &[]);
+        let m = yard.turned_about_z();
+        yard.place(both, moved(m, at));
+    })
+}
+
+fn standing(rng: &mut Rng, step: f64, one: impl Fn(&mut Yard<'_>, Point)) -> (Scene, View) {
+    let mut yard = Yard { rng, scale: 1.0, scene: Scene::default(), ours: false };
+    for k in 0..24 {
+        one(&mut yard, [7.0 * (k % 6) as f64 - 20.0, 7.0 * (k / 6) as f64 - 13.0, 0.0]);
+    }
+    let scene = yard.scene;
+    assert!(oracle::check(&scene).is_ok());
+    (scene, whole_view(step))
 }
 
 fn full_yard(rng: &mut Rng, n: usize, placed: usize, one_in: usize) -> Scene {

@@ -2,7 +2,7 @@
 
 use crate::calls;
 use crate::core::{self, direct};
-use crate::draw_inputs::{self, Draw, Lengths, Rooms, Threshold};
+use crate::draw_inputs::{self, Bin, Draw, Lengths, Rooms, Threshold};
 use crate::harness::{Part, Run, Share, time_rounds};
 use crate::host::{self, raw};
 use crate::scene_calls::{Words, copy, number, put, put_floats};
@@ -439,7 +439,12 @@ pub fn speed() {
     for n in [100, 500, 1000] {
         for step in [0.0, 4.0, 1.0] {
             let (scene, view) = draw_inputs::ordinary(&mut Rng::new(1), n, step);
-            time_draw(&format!("draw ({n}, {step})"), &scene, &view, if step == 0.0 { 100 } else { 12 });
+            time_draw(
+                &format!("draw ({n}, {step})"),
+                &scene,
+                &view,
+                if step == 0.0 { 100 } else { 12 },
+            );
         }
     }
     // at step 0 a cut's lines are chopped to millions of points, which takes seconds on either side
@@ -451,6 +456,21 @@ pub fn speed() {
                 time_draw(&format!("cut 1 in {one_in} ({n}, {step})"), &scene, &view, rounds);
             }
         }
+    }
+    for step in [2.0, 0.5] {
+        for (bin, placed, what) in [
+            (Bin::Block, false, "bins"),
+            (Bin::Block, true, "placed bins"),
+            (Bin::Tube, true, "placed tubes"),
+        ] {
+            for openings in [0, 1, 2] {
+                let (scene, view) =
+                    draw_inputs::bins(&mut Rng::new(1), bin, openings, placed, step);
+                time_draw(&format!("{what}, {openings} cut ({step})"), &scene, &view, 40);
+            }
+        }
+        let (scene, view) = draw_inputs::cuts_in_cuts(&mut Rng::new(1), step);
+        time_draw(&format!("cuts in cuts ({step})"), &scene, &view, 20);
     }
 }
 
