@@ -18,8 +18,6 @@ use Rattle.refusals.specs.declared.Refusal.{Refusal}
 use Rattle.refusals.specs.declared.Refusal.TheVariants.{Lengths, Room}
 use Rattle.scene.specs.Entries.{marks_at}
 use Rattle.scene.specs.Scenes.{Scene, scene_of, entries, entries_of}
-use Rattle.lists.proofs.Tests.{all-at}
-use Rattle.check_measures.specs.Values.{known}
 use Rattle.check_parts.specs.Parts.{kind_at, first_at, second_at, parts_ok}
 use Rattle.check_parts.specs.Owners.{is_round, round_entry, owners_ok}
 use Rattle.check_parts.proofs.Depths.{part-six, part-seven}
@@ -104,11 +102,6 @@ owners-below marks (o ∷ os) (suc j) e h =
     let a = (and-eq-true_iff (ltb o (entries marks) && is_round (kind_at marks o)) _).0 e in
     owners-below marks os j ((and-eq-true_iff (leb o (get_or os 0 o)) (owners_ok marks os)).0 a.1).1 (omega arith)
 
--- a cut that is known has an operation
-known-cut : (m : Marks) → m.kind ≡ 7 → known m ≡ true → m.detail ≤ 3
-unfolding known
-known-cut m k e = leb-true m.detail 3 (rw k at e)
-
 -- ---- an accepted scene: its lengths, its owners and its parts
 module _ (s : Scene) (d : ℕ) (is : check_of s ≡ Accepted d) where
   pub marks-four : entries_of s * 4 ≡ length s.marks
@@ -131,7 +124,6 @@ module _ (s : Scene) (d : ℕ) (is : check_of s ≡ Accepted d) where
     placing = λ k. omega (arith, (part-six s.marks (entries_of s) (accepted-passes s d is).names i l k).0);
     cut_first = λ k. omega (arith, (part-seven s.marks (entries_of s) (accepted-passes s d is).names i l k).0.0);
     cut_second = λ k. omega (arith, (part-seven s.marks (entries_of s) (accepted-passes s d is).names i l k).1.0);
-    operation = λ k. known-cut (marks_at s.marks i) k (all-at (λ (j : ℕ). known (marks_at s.marks j)) (entries_of s) i (accepted-passes s d is).values l);
   }
 
 -- ---- two accepted scenes: the sizes of the merged one

@@ -15,7 +15,7 @@ use Rattle.rows.specs.Entries.{numbers_of}
 use Rattle.rows.specs.declared.Numbers.{Numbers}
 use Rattle.solids.specs.Solids.{hit_of, contains_of}
 use Rattle.solids.specs.declared.solid.Solid.{Solid}
-use Rattle.scene.specs.Entries.{simple_of, entry_count}
+use Rattle.scene.specs.Entries.{simple_of, is_there}
 use Rattle.scene.specs.declared.entry.Simple.{Simple}
 use Rattle.scene.specs.declared.entry.Simple.TheVariants.{Is, Other}
 use Rattle.scene.proofs.Parts.{entry-simple}
@@ -50,13 +50,13 @@ module _ (kind : ℕ) (ns : List Float) (l : length ns ≡ 16) {n : Numbers} (en
   read = ex ∙ rw (en, first-row ns l)
 
   module _ {s : Solid} (is : x ≡ Is s) where
-    one : 1 ≡ entry_count ns ns (kind ∷ 0 ∷ 0 ∷ 0 ∷ [])
-    unfolding entry_count
-    one = omega (arith, l)
+    there : true ≡ is_there ns ns (kind ∷ 0 ∷ 0 ∷ 0 ∷ []) 0
+    unfolding is_there
+    there = rw l
 
     lone : decode 1 ns ns (kind ∷ 0 ∷ 0 ∷ 0 ∷ []) 0 ≡ simple s
     unfolding shape_of
-    lone = decode_is 1 ns ns (kind ∷ 0 ∷ 0 ∷ 0 ∷ []) 0 (λ e. omega (arith, e)) (entry-simple ns ns (kind ∷ 0 ∷ 0 ∷ 0 ∷ []) 0 one (omega arith) (ex ∙ ap (simple_of kind) en) is)
+    lone = decode_is 1 ns ns (kind ∷ 0 ∷ 0 ∷ 0 ∷ []) 0 (λ e. omega (arith, e)) (entry-simple ns ns (kind ∷ 0 ∷ 0 ∷ 0 ∷ []) 0 there refl (ex ∙ ap (simple_of kind) en) is)
 
     pub lone-hit : (r : Ray) {a : Struck} → a ≡ shape_hit (decode 1 ns ns (kind ∷ 0 ∷ 0 ∷ 0 ∷ []) 0) r → a ≡ At (simple_hit (simple_of kind (numbers_of ns)) r)
     unfolding shape_hit simple_hit

@@ -5,14 +5,14 @@ use mathlib.Core.Path.{◌≡◌, refl, sym, ap, ◌∙◌}
 use mathlib.Core.Bool.{Bool, true, false, true≢false, cond, ◌&&◌}
 use mathlib.Core.List.{List}
 use lib.ListN.{length}
-use lib.Dec.{ltb, eqb, leb}
-use borrow.Author.Tests.{lt-ltb, ltb-true, leb-false, eqb-true, eqb-false}
+use lib.Dec.{eqb, leb}
+use borrow.Author.Tests.{ltb-true, eqb-true}
 use lib.Ieee.{Float}
 use Rattle.matrix.specs.declared.Matrix.{Matrix}
 use Rattle.rows.specs.declared.Numbers.{Numbers}
 use Rattle.rows.specs.declared.Marks.{Marks}
 use Rattle.solids.specs.declared.solid.Solid.{Solid}
-use Rattle.scene.specs.Entries.{closed_of, simple_of, simple_or, op_of, cut_of, parts_of, composite_of, entry_of, entry_count, entry_at, marks_at, numbers_at, matrix_of}
+use Rattle.scene.specs.Entries.{closed_of, simple_of, simple_or, op_of, cut_of, parts_of, composite_of, entry_of, is_there, entry_at, marks_at, numbers_at, matrix_of}
 use Rattle.scene.specs.declared.entry.Simple.{Simple}
 use Rattle.scene.specs.declared.entry.Simple.TheVariants.{Is, Other}
 use Rattle.scene.specs.declared.entry.Op.{Op}
@@ -27,22 +27,11 @@ parts_entry m v (PlacedPart k) = Placed m v k
 parts_entry m v (CutParts o a b) = Cut o a b
 parts_entry m v NoParts = None
 
--- what the parts of an entry tell of its kind
-abbrev pub KindBy : Marks → Parts → Type 0
-KindBy m (PlacedPart k) = m.kind ≡ 6
-KindBy m (CutParts o a b) = m.kind ≡ 7
-KindBy m NoParts = (m.kind ≡ 6 → ⊥) × (m.kind ≡ 7 → m.detail ≤ 3 → ⊥)
-
-pub kind-by : (m : Marks) {p : Parts} → p ≡ parts_of m → KindBy m p
-unfolding parts_of
-kind-by m e = rw e (go (eqb m.kind 6) refl (eqb m.kind 7) refl (leb m.detail 3) refl)
-  where
-    go : (a : Bool) → eqb m.kind 6 ≡ a → (b : Bool) → eqb m.kind 7 ≡ b → (c : Bool) → leb m.detail 3 ≡ c
-        → KindBy m (cond a (PlacedPart m.first) (cond b (cond c (CutParts (op_of m.detail) m.first m.second) NoParts) NoParts))
-    go true f b g c h = eqb-true m.kind 6 f
-    go false f true g true h = eqb-true m.kind 7 g
-    go false f true g false h = (eqb-false m.kind 6 f, λ k d. let l = leb-false m.detail 3 h in omega arith)
-    go false f false g c h = (eqb-false m.kind 6 f, λ k d. eqb-false m.kind 7 g k)
+-- whether it is a placing
+abbrev pub placing : Parts → Bool
+placing (PlacedPart k) = true
+placing (CutParts o a b) = false
+placing NoParts = false
 
 pub composite-is : (m : Marks) (n v : Numbers) → composite_of m n v ≡ parts_entry (matrix_of n) (matrix_of v) (parts_of m)
 unfolding composite_of cut_of parts_of
@@ -60,38 +49,47 @@ composite-is m n v = go (eqb m.kind 6) (eqb m.kind 7) (leb m.detail 3)
     go false true false = refl
     go false false c = refl
 
--- Of entries that all three lists have, and of others; n is how many they have.
-module _ (ns vs : List Float) (ms : List ℕ) (i : ℕ) {n : ℕ} (e : n ≡ entry_count ns vs ms) where
-  pub entry-none : n ≤ i → entry_at ns vs ms i ≡ None
-  unfolding entry_at entry_count
-  entry-none q = rw (missing (ltb i (length ns / 16)) refl (ltb i (length vs / 16)) refl (ltb i (length ms / 4)) refl)
-    where
-      missing : (a : Bool) → ltb i (length ns / 16) ≡ a → (b : Bool) → ltb i (length vs / 16) ≡ b → (c : Bool) → ltb i (length ms / 4) ≡ c → (a && (b && c)) ≡ false
-      missing true f true g true h = absurd (omega (arith, e, q, ltb-true i (length ns / 16) f, ltb-true i (length vs / 16) g, ltb-true i (length ms / 4) h))
-      missing true f true g false h = refl
-      missing true f false g c h = refl
-      missing false f b g c h = refl
+-- a placing has kind 6, so it is no simple solid
+placed-kind : (m : Marks) {k : ℕ} → parts_of m ≡ PlacedPart k → m.kind ≡ 6
+unfolding parts_of
+placed-kind m {k} = go (eqb m.kind 6) (eqb m.kind 7) (leb m.detail 3) refl
+  where
+    go : (a b c : Bool) → eqb m.kind 6 ≡ a → cond a (PlacedPart m.first) (cond b (cond c (CutParts (op_of m.detail) m.first m.second) NoParts) NoParts) ≡ PlacedPart k → m.kind ≡ 6
+    go true b c e p = eqb-true _ _ e
+    go false true true e p = absurd (true≢false (sym (ap placing p)))
+    go false true false e p = absurd (true≢false (sym (ap placing p)))
+    go false false c e p = absurd (true≢false (sym (ap placing p)))
 
-  module _ (q : i < n) where
+-- An entry that is not there, and one that is.
+module _ (ns vs : List Float) (ms : List ℕ) (i : ℕ) {t : Bool} (e : t ≡ is_there ns vs ms i) where
+  pub entry-none : t ≡ false → entry_at ns vs ms i ≡ None
+  unfolding entry_at is_there
+  entry-none q = rw (sym e ∙ q)
+
+  module _ (q : t ≡ true) where
+    both_true : (a b : Bool) → (a && b) ≡ true → (a ≡ true) × (b ≡ true)
+    both_true true true h = (refl, refl)
+    both_true true false h = (refl, h)
+    both_true false b h = absurd (true≢false (sym h))
+
+    rows_fit : (i < length ns / 16) × ((i < length vs / 16) × (i < length ms / 4))
+    unfolding is_there
+    rows_fit =
+        let a = both_true _ _ (sym e ∙ q) in let b = both_true _ _ a.1 in
+        (ltb-true _ _ a.0, (ltb-true _ _ b.0, ltb-true _ _ b.1))
+
     pub numbers_fit : i * 16 + 16 ≤ length ns
-    unfolding entry_count
-    numbers_fit = omega (arith, e, q)
+    numbers_fit = let a = rows_fit.0 in omega arith
 
     pub inverse-fits : i * 16 + 16 ≤ length vs
-    unfolding entry_count
-    inverse-fits = omega (arith, e, q)
+    inverse-fits = let a = rows_fit.1.0 in omega arith
 
     pub marks-fit : i * 4 + 4 ≤ length ms
-    unfolding entry_count
-    marks-fit = omega (arith, e, q)
-
-    there : (ltb i (length ns / 16) && (ltb i (length vs / 16) && ltb i (length ms / 4))) ≡ true
-    unfolding entry_count
-    there = rw (lt-ltb i (length ns / 16) (omega (arith, e, q)), lt-ltb i (length vs / 16) (omega (arith, e, q)), lt-ltb i (length ms / 4) (omega (arith, e, q)))
+    marks-fit = let a = rows_fit.1.1 in omega arith
 
     entry-there : entry_at ns vs ms i ≡ simple_or (simple_of (marks_at ms i).kind (numbers_at ns i)) (parts_entry (matrix_of (numbers_at ns i)) (matrix_of (numbers_at vs i)) (parts_of (marks_at ms i)))
-    unfolding entry_at entry_of
-    entry-there = rw (there, composite-is (marks_at ms i) (numbers_at ns i) (numbers_at vs i))
+    unfolding entry_at is_there entry_of
+    entry-there = rw (sym e ∙ q, composite-is (marks_at ms i) (numbers_at ns i) (numbers_at vs i))
 
     module _ {x : Simple} (ex : x ≡ simple_of (marks_at ms i).kind (numbers_at ns i)) where
       pub entry-simple : {s : Solid} → x ≡ Is s → entry_at ns vs ms i ≡ SimpleEntry s
@@ -104,4 +102,4 @@ module _ (ns vs : List Float) (ms : List ℕ) (i : ℕ) {n : ℕ} (e : n ≡ ent
 
     pub entry-placed : {p : Parts} → p ≡ parts_of (marks_at ms i) → {k : ℕ} → p ≡ PlacedPart k → entry_at ns vs ms i ≡ Placed (matrix_of (numbers_at ns i)) (matrix_of (numbers_at vs i)) k
     unfolding simple_of closed_of
-    entry-placed ep h = entry-parts refl (rw (kind-by (marks_at ms i) (sym h ∙ ep))) (sym h ∙ ep)
+    entry-placed ep h = entry-parts refl (rw (placed-kind _ (sym ep ∙ h))) (sym h ∙ ep)

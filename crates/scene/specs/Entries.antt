@@ -1,5 +1,5 @@
 -- What an entry's kind and its 16 numbers stand for (document 01, "Scene"; document 02, iii).
-use Rattle.std.specs.Prelude.{ℕ, ◌/◌, min, Bool, cond, ◌&&◌, ◌||◌, List, length, ltb, leb, eqb, Float}
+use Rattle.std.specs.Prelude.{ℕ, ◌/◌, Bool, cond, ◌&&◌, ◌||◌, List, length, ltb, leb, eqb, Float}
 use Rattle.geometry.specs.Vectors.{vec}
 use Rattle.matrix.specs.Matrices.{mat}
 use Rattle.matrix_inverse.specs.Inverses.{inverted}
@@ -105,9 +105,9 @@ marks_at marks i = marks_of (row 4 i marks)
 abbrev pub numbers_at : List Float → ℕ → Numbers
 numbers_at numbers i = numbers_of (row 16 i numbers)
 
--- how many entries all three lists have
-unfoldable pub entry_count : List Float → List Float → List ℕ → ℕ
-entry_count numbers inverses marks = min (length numbers / 16) (min (length inverses / 16) (length marks / 4))
+-- whether each of the three lists has entry i
+unfoldable pub is_there : List Float → List Float → List ℕ → ℕ → Bool
+is_there numbers inverses marks i = ltb i (length numbers / 16) && (ltb i (length inverses / 16) && ltb i (length marks / 4))
 
 -- entry i of a scene with its inverses; `None` where a list does not have it
 unfoldable pub entry_at : List Float → List Float → List ℕ → ℕ → Entry

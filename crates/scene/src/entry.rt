@@ -1,6 +1,6 @@
 // An entry of a scene: its 16 numbers and 4 marks, read as what they stand for.
 ghost use Rattle.std.specs.Prelude.{◌≡◌, ◌+◌, ◌*◌, ◌≤◌, length};
-ghost use Rattle.scene.specs.Entries.{simple_of, matrix_of, matrix_numbers, striped, stripe_count, op_of, parts_of, composite_of, entry_of, marks_at, numbers_at, entry_count, entry_at};
+ghost use Rattle.scene.specs.Entries.{simple_of, matrix_of, matrix_numbers, striped, stripe_count, op_of, parts_of, composite_of, entry_of, marks_at, numbers_at, is_there, entry_at};
 
 use geometry::vector::Vector;
 use matrix::Matrix;
@@ -235,23 +235,16 @@ pub fn entry_at(numbers: &[f64], inverses: &[f64], marks: &[u32], i: usize) -> E
     Entry::None
 }
 
-// How many entries all three slices have.
-pub fn entry_count(numbers: &[f64], inverses: &[f64], marks: &[u32]) -> usize
-    ensures { result ≡ entry_count numbers.now inverses.now marks.now }
+// Whether each of the three slices has entry i.
+pub fn is_there(numbers: &[f64], inverses: &[f64], marks: &[u32], i: usize) -> bool
+    ensures { result ≡ is_there numbers.now inverses.now marks.now i }
 {
-    let a = numbers.len() / 16;
-    let b = inverses.len() / 16;
-    let c = marks.len() / 4;
-    if a <= b {
-        if a <= c {
-            return a;
+    if i < numbers.len() / 16 {
+        if i < inverses.len() / 16 {
+            return i < marks.len() / 4;
         }
-        return c;
     }
-    if b <= c {
-        return b;
-    }
-    c
+    false
 }
 
 // The simple solid in row i, if it is one.

@@ -4,15 +4,12 @@ use mathlib.Core.Path.{◌≡◌, refl, sym, ap, subst, ◌∙◌}
 use mathlib.Core.List.{List, ◌++◌, map}
 use native.Mathlib.Omega.{arith}
 use lib.ListN.{length, get_or, length-append, length-map}
-use borrow.Author.Tests.{ne_eqb}
 use Rattle.rows.specs.Rows.{row, view, flat}
 use Rattle.rows.specs.Entries.{marks_of}
 use Rattle.rows.specs.declared.Marks.{Marks}
 use Rattle.rows.proofs.Rows.{length-view, get_d-view, length-flat}
 use Rattle.scene.specs.Entries.{marks_at}
 use Rattle.scene.specs.Scenes.{entries}
-use Rattle.scene.specs.declared.entry.Parts.TheVariants.{None}
-use Rattle.scene.proofs.Parts.{KindBy}
 use Rattle.scene_merge.specs.MergedScenes.{marks_row, raised, raised_marks, raised_by, MarksRaisable}
 use Rattle.scene_merge.proofs.Laying.{in-first, in-second, past-both, get_d_map, flat-at}
 
@@ -29,19 +26,15 @@ pub both-length : (l r : List ℕ) (by room : ℕ) → length l + length r ≤ r
 both-length l r by room h = omega (arith, length-append l (raised_by by r), length-map r (λ (i : ℕ). by + i))
 
 -- ---- marks
--- by the parts that an entry names
+-- the entries with parts
 module _ (by : ℕ) (m : Marks) where
-  pub raised-placing : m.kind ≡ 6 → record { kind = m.kind; detail = m.detail; first = by + m.first; second = m.second } ≡ raised by m
+  pub raised-six : m.kind ≡ 6 → record { kind = m.kind; detail = m.detail; first = by + m.first; second = m.second } ≡ raised by m
   unfolding raised
-  raised-placing k = rw k
+  raised-six k = rw k
 
-  pub raised-cut : m.kind ≡ 7 → record { kind = m.kind; detail = m.detail; first = by + m.first; second = by + m.second } ≡ raised by m
+  pub raised-seven : m.kind ≡ 7 → record { kind = m.kind; detail = m.detail; first = by + m.first; second = by + m.second } ≡ raised by m
   unfolding raised
-  raised-cut k = rw k
-
-  pub raised-none : MarksRaisable by m → KindBy m None → m ≡ raised by m
-  unfolding raised
-  raised-none h k = rw (ne_eqb m.kind 6 k.0, ne_eqb m.kind 7 (λ e. k.1 e (h.operation e)))
+  raised-seven k = rw k
 
 -- the last of four
 pub mark-last : (m : Marks) (place : ℕ) → place < 4 → (place ≡ 0 → ⊥) → (place ≡ 1 → ⊥) → (place ≡ 2 → ⊥) → m.second ≡ get_or (marks_row m) place 0

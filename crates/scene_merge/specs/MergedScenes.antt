@@ -1,5 +1,5 @@
 -- Document 02's request (xii), one yard from two files: the merged scene.
-use Rattle.std.specs.Prelude.{ℕ, ◌+◌, ◌/◌, ◌^◌, ◌≤◌, ◌<◌, ◌≡◌, ◌||◌, cond, List, [], ◌∷◌, ◌++◌, map, length, get_or, eqb, Float}
+use Rattle.std.specs.Prelude.{ℕ, ◌+◌, ◌/◌, ◌^◌, ◌<◌, ◌≡◌, ◌||◌, cond, List, [], ◌∷◌, ◌++◌, map, length, get_or, eqb, Float}
 use Rattle.rows.specs.Rows.{view, flat}
 use Rattle.rows.specs.Entries.{marks_of}
 use Rattle.rows.specs.declared.Marks.{Marks}
@@ -44,7 +44,7 @@ merged_scene s u =
     (s.starts ++ raised_by (length (points_of s) / 3) u.starts)
     (s.owners ++ raised_by (entries_of s) u.owners)
 
--- ---- what the code needs: no sum is too great, and a cut has an operation
+-- ---- what the code needs: no sum is too great
 abbrev pub Raisable : ℕ → ℕ → List ℕ → Type 0
 Raisable limit by is = (j : ℕ) → j < length is → by + get_or is j 0 < limit
 
@@ -52,7 +52,6 @@ pub record MarksRaisable (by : ℕ) (m : Marks) : Type 0 where
   pub placing : m.kind ≡ 6 → by + m.first < 2 ^ 32
   pub cut_first : m.kind ≡ 7 → by + m.first < 2 ^ 32
   pub cut_second : m.kind ≡ 7 → by + m.second < 2 ^ 32
-  pub operation : m.kind ≡ 7 → m.detail ≤ 3
 
 abbrev pub AllRaisable : ℕ → List ℕ → Type 0
 AllRaisable by marks = (i : ℕ) → i < entries marks → MarksRaisable by (marks_at marks i)

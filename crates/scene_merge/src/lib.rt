@@ -6,7 +6,6 @@ ghost use Rattle.rows.specs.Rows.{padded};
 ghost use Rattle.scene_merge.specs.MergedScenes as MergedScenes;
 
 use rows::Marks;
-use scene::entry::Parts;
 
 // Number k of n numbers and then m others; +0 after them.
 fn number_at(first: &[f64], n: usize, second: &[f64], m: usize, k: usize) -> f64
@@ -94,22 +93,23 @@ fn raised(m: Marks, by: u32) -> Marks
     requires { MergedScenes.MarksRaisable by m }
     ensures { result ≡ MergedScenes.raised by m }
 {
-    let p = scene::entry::parts_of(m);
-    match p {
-        Parts::Placed(_) => Marks {
+    if m.kind == 6 {
+        return Marks {
             kind: m.kind,
             detail: m.detail,
             first: by + m.first,
             second: m.second,
-        },
-        Parts::Cut(_, _, _) => Marks {
+        };
+    }
+    if m.kind == 7 {
+        return Marks {
             kind: m.kind,
             detail: m.detail,
             first: by + m.first,
             second: by + m.second,
-        },
-        Parts::None => m,
+        };
     }
+    m
 }
 
 // One of the four marks of an entry, by its place.

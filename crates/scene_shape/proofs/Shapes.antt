@@ -14,7 +14,7 @@ use Rattle.geometry.specs.declared.vector.Vector.{Vector}
 use Rattle.geometry.specs.declared.ray.Ray.{Ray}
 use Rattle.geometry.specs.declared.hit.Hit.{Hit}
 use Rattle.matrix.specs.declared.Matrix.{Matrix}
-use Rattle.scene.specs.Entries.{entry_at, entry_count, marks_at, numbers_at, matrix_of, parts_of}
+use Rattle.scene.specs.Entries.{entry_at, is_there, marks_at, numbers_at, matrix_of, parts_of}
 use Rattle.scene.specs.declared.entry.Parts.{Parts}
 use Rattle.scene.specs.declared.entry.Parts.TheVariants.{Placed, Cut, None}
 use Rattle.scene.proofs.Parts.{entry-placed}
@@ -74,7 +74,7 @@ met-below v ms i r d {q} e z = go (parts_of (marks_at ms i)) refl e
     go None h m = inr (rw m, rw (m, h))
 
 -- the answer of where a ray meets an entry is the entry's own
-module _ (ns vs : List Float) (ms : List ℕ) (i : ℕ) {n : ℕ} (e : n ≡ entry_count ns vs ms) (h : i < n) (d : ℕ) (z : d ≡ 0 → ⊥) (r : Ray) where
+module _ (ns vs : List Float) (ms : List ℕ) (i : ℕ) {t : Bool} (e : t ≡ is_there ns vs ms i) (h : t ≡ true) (d : ℕ) (z : d ≡ 0 → ⊥) (r : Ray) where
   pub met-hit : {q : Meeting} → q ≡ meeting_of (matrix_of (numbers_at vs i)) (parts_of (marks_at ms i)) i r d → {a : Struck} → a ≡ shape_hit (decode q.depth ns vs ms q.i) q.ray → told_by q.placed q.scale a ≡ shape_hit (decode d ns vs ms i) r
   unfolding meeting_of told_by shape_of shape_hit
   met-hit {q} eq {a} ea = go (parts_of (marks_at ms i)) refl eq

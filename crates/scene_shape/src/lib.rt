@@ -2,8 +2,7 @@
 // be such themselves.
 ghost use Rattle.std.specs.Prelude.{◌≡◌, ◌⊎◌, false, ◌+◌, ◌*◌, ◌≤◌, ◌<◌, length};
 ghost use Rattle.scene_shape.specs.Cuts as Cuts;
-ghost use Rattle.floats.specs.Arith.{zero_f};
-ghost use Rattle.scene.specs.Entries.{matrix_of, parts_of, marks_at, numbers_at, entry_count};
+ghost use Rattle.scene.specs.Entries.{matrix_of, parts_of, marks_at, numbers_at};
 ghost use Rattle.scene_shape.specs.Meetings.{meeting_of, told_by, placing};
 ghost use Rattle.scene_shape.specs.Shapes.{decode, shape_contains, shape_hit, cut_hit};
 
@@ -44,6 +43,13 @@ fn both(a: Struck, b: Struck) -> Struck
     }
 }
 
+// The ray put again from 0.01 beyond t.
+fn restarted(r: Ray, t: f64) -> Ray
+    ensures { result ≡ Cuts.restarted r t }
+{
+    Ray::new(r.position(t + 0.01), r.direction)
+}
+
 // The hit with its distance from the first origin, `sum` before the ray's; a miss unchanged.
 fn from_first(sum: f64, h: Hit) -> Hit
     ensures { result ≡ Cuts.from_first sum h }
@@ -82,6 +88,7 @@ fn takes_away(op: Op) -> bool
 }
 
 // Whether the solid at entry i, nested at most `depth` deep, contains p, widened by f.
+#[cycle(cut_contains_entry_contains)]
 pub fn entry_contains(
     numbers: &[f64],
     inverses: &[f64],
@@ -93,29 +100,10 @@ pub fn entry_contains(
 ) -> bool
     ensures { result ≡ shape_contains (decode depth numbers.now inverses.now marks.now i) p f }
 {
-    let many = scene::entry::entry_count(numbers, inverses, marks);
-    shape_contains(numbers, inverses, marks, many, i, p, f, depth)
-}
-
-// The same, with the count of the entries at hand.
-#[cycle(cut_contains_shape_contains)]
-fn shape_contains(
-    numbers: &[f64],
-    inverses: &[f64],
-    marks: &[u32],
-    many: usize,
-    i: usize,
-    p: Vector,
-    f: f64,
-    depth: usize,
-) -> bool
-    requires { many ≡ entry_count numbers.now inverses.now marks.now }
-    ensures { result ≡ shape_contains (decode depth numbers.now inverses.now marks.now i) p f }
-{
     if depth == 0 {
         return false;
     }
-    if i >= many {
+    if !scene::entry::is_there(numbers, inverses, marks, i) {
         return false;
     }
     let s = scene::entry::simple_at(numbers, marks, i);
@@ -126,22 +114,12 @@ fn shape_contains(
             match e {
                 Parts::Placed(k) => {
                     let v = scene::entry::matrix_at(inverses, i);
-                    shape_contains(
-                        numbers,
-                        inverses,
-                        marks,
-                        many,
-                        k,
-                        v.mul_position(p),
-                        f,
-                        depth - 1,
-                    )
+                    entry_contains(numbers, inverses, marks, k, v.mul_position(p), f, depth - 1)
                 }
                 Parts::Cut(op, a, b) => cut_contains(
                     numbers,
                     inverses,
                     marks,
-                    many,
                     op,
                     a,
                     b,
@@ -154,28 +132,26 @@ fn shape_contains(
     }
 }
 
-#[cycle(cut_contains_shape_contains)]
+#[cycle(cut_contains_entry_contains)]
 fn cut_contains(
     numbers: &[f64],
     inverses: &[f64],
     marks: &[u32],
-    many: usize,
     op: Op,
     a: usize,
     b: usize,
     p: Vector,
     depth: usize,
 ) -> bool
-    requires { many ≡ entry_count numbers.now inverses.now marks.now }
     ensures { result ≡ Cuts.cut_contains op (shape_contains (decode depth numbers.now inverses.now marks.now a)) (shape_contains (decode depth numbers.now inverses.now marks.now b)) p }
 {
-    if !shape_contains(numbers, inverses, marks, many, a, p, 1e-3, depth) {
+    if !entry_contains(numbers, inverses, marks, a, p, 1e-3, depth) {
         return false;
     }
     if takes_away(op) {
-        return !shape_contains(numbers, inverses, marks, many, b, p, -1e-3, depth);
+        return !entry_contains(numbers, inverses, marks, b, p, -1e-3, depth);
     }
-    shape_contains(numbers, inverses, marks, many, b, p, 1e-3, depth)
+    entry_contains(numbers, inverses, marks, b, p, 1e-3, depth)
 }
 
 // Where a ray meets entry i, of which `depth` levels are left: at the part of a placing, turned, with its scale; at any
@@ -240,7 +216,53 @@ fn told(placed: bool, scale: f64, a: Struck) -> Struck
     }
 }
 
+// The hit of entry i, of which `depth` levels are left, `above` where it was met: a placing is met a level down.
+#[cycle(cut_hit_entry_hit_part_hit)]
+fn part_hit(
+    numbers: &[f64],
+    inverses: &[f64],
+    marks: &[u32],
+    i: usize,
+    r: Ray,
+    depth: usize,
+    above: usize,
+) -> Struck
+    requires { (depth < above) ⊎ ((depth ≡ above) × (placing (parts_of (marks_at marks.now i)) ≡ false)) }
+    ensures { result ≡ shape_hit (decode depth numbers.now inverses.now marks.now i) r }
+{
+    if depth == 0 {
+        return Struck::At(Hit::no_hit());
+    }
+    if !scene::entry::is_there(numbers, inverses, marks, i) {
+        return Struck::At(Hit::no_hit());
+    }
+    let s = scene::entry::simple_at(numbers, marks, i);
+    match s {
+        Simple::Is(solid) => Struck::At(solid.intersect(r.again())),
+        Simple::Other => {
+            let e = scene::entry::parts_at(marks, i);
+            match e {
+                Parts::Placed(_) => entry_hit(numbers, inverses, marks, i, r.again(), depth),
+                Parts::Cut(op, a, b) => cut_hit(
+                    numbers,
+                    inverses,
+                    marks,
+                    op,
+                    a,
+                    b,
+                    r.again(),
+                    depth - 1,
+                    64,
+                    0.0,
+                ),
+                Parts::None => Struck::At(Hit::no_hit()),
+            }
+        }
+    }
+}
+
 // The hit that the solid at entry i, nested at most `depth` deep, gives a ray.
+#[cycle(cut_hit_entry_hit_part_hit)]
 pub fn entry_hit(
     numbers: &[f64],
     inverses: &[f64],
@@ -251,28 +273,10 @@ pub fn entry_hit(
 ) -> Struck
     ensures { result ≡ shape_hit (decode depth numbers.now inverses.now marks.now i) r }
 {
-    let many = scene::entry::entry_count(numbers, inverses, marks);
-    shape_hit(numbers, inverses, marks, many, i, r.again(), depth)
-}
-
-// The same, with the count of the entries at hand.
-#[cycle(cut_hit_part_hit_shape_hit)]
-fn shape_hit(
-    numbers: &[f64],
-    inverses: &[f64],
-    marks: &[u32],
-    many: usize,
-    i: usize,
-    r: Ray,
-    depth: usize,
-) -> Struck
-    requires { many ≡ entry_count numbers.now inverses.now marks.now }
-    ensures { result ≡ shape_hit (decode depth numbers.now inverses.now marks.now i) r }
-{
     if depth == 0 {
         return Struck::At(Hit::no_hit());
     }
-    if i >= many {
+    if !scene::entry::is_there(numbers, inverses, marks, i) {
         return Struck::At(Hit::no_hit());
     }
     let q = met_at(inverses, marks, i, r, depth);
@@ -280,125 +284,53 @@ fn shape_hit(
     told(
         q.placed,
         q.scale,
-        part_hit(numbers, inverses, marks, many, q.i, ray, q.depth, depth),
+        part_hit(numbers, inverses, marks, q.i, ray, q.depth, depth),
     )
 }
 
-// The hit of entry i, of which `depth` levels are left, `above` where it was met: a placing is met a level down.
-#[cycle(cut_hit_part_hit_shape_hit)]
-fn part_hit(
-    numbers: &[f64],
-    inverses: &[f64],
-    marks: &[u32],
-    many: usize,
-    i: usize,
-    r: Ray,
-    depth: usize,
-    above: usize,
-) -> Struck
-    requires { (many ≡ entry_count numbers.now inverses.now marks.now) × ((depth < above) ⊎ ((depth ≡ above) × (placing (parts_of (marks_at marks.now i)) ≡ false))) }
-    ensures { result ≡ shape_hit (decode depth numbers.now inverses.now marks.now i) r }
-{
-    if depth == 0 {
-        return Struck::At(Hit::no_hit());
-    }
-    if i >= many {
-        return Struck::At(Hit::no_hit());
-    }
-    let s = scene::entry::simple_at(numbers, marks, i);
-    match s {
-        Simple::Is(solid) => Struck::At(solid.intersect(r.again())),
-        Simple::Other => {
-            let e = scene::entry::parts_at(marks, i);
-            match e {
-                Parts::Placed(_) => shape_hit(numbers, inverses, marks, many, i, r.again(), depth),
-                Parts::Cut(op, a, b) => cut_hit(
-                    numbers,
-                    inverses,
-                    marks,
-                    many,
-                    op,
-                    a,
-                    b,
-                    r.again(),
-                    depth - 1,
-                ),
-                Parts::None => Struck::At(Hit::no_hit()),
-            }
-        }
-    }
-}
-
-// The hit of a cut. A hit of a part that the cut does not accept puts the ray again, from `origin`, which lies `sum`
-// beyond the first one. The loop holds the ray's two vectors, and makes the ray anew for each call.
-#[cycle(cut_hit_part_hit_shape_hit)]
+// The hit of a cut, with so many restarts left, for a ray that starts `sum` beyond the first origin.
+#[cycle(cut_hit_entry_hit_part_hit)]
 fn cut_hit(
     numbers: &[f64],
     inverses: &[f64],
     marks: &[u32],
-    many: usize,
     op: Op,
     a: usize,
     b: usize,
     r: Ray,
     depth: usize,
+    restarts: usize,
+    sum: f64,
 ) -> Struck
-    requires { many ≡ entry_count numbers.now inverses.now marks.now }
-    ensures { result ≡ cut_hit op 64 (decode depth numbers.now inverses.now marks.now) a b zero_f r }
+    ensures { result ≡ cut_hit op restarts (decode depth numbers.now inverses.now marks.now) a b sum r }
 {
-    let direction = r.direction;
-    let mut origin = r.origin;
-    let mut sum = 0.0;
-    let mut restarts: usize = 64;
-    loop {
-        let ha = shape_hit(
-            numbers,
-            inverses,
-            marks,
-            many,
-            a,
-            Ray::new(origin, direction),
-            depth,
-        );
-        let hb = shape_hit(
-            numbers,
-            inverses,
-            marks,
-            many,
-            b,
-            Ray::new(origin, direction),
-            depth,
-        );
-        let n = both(ha, hb);
-        match n {
-            Struck::Refused(k) => return Struck::Refused(k),
-            Struck::At(h) => {
-                if !h.is_ok() {
-                    return by_fields(Struck::At(tell_of(op, sum, h)));
-                }
-                let t = h.t;
-                let ray = Ray::new(origin, direction);
-                if cut_contains(
-                    numbers,
-                    inverses,
-                    marks,
-                    many,
-                    op,
-                    a,
-                    b,
-                    ray.position(t),
-                    depth,
-                ) {
-                    return by_fields(Struck::At(tell_of(op, sum, h)));
-                }
-                if restarts == 0 {
-                    return Struck::Refused(Refusal::Restarts);
-                }
-                restarts -= 1;
-                let s = t + 0.01;
-                origin = ray.position(s);
-                sum = sum + s;
+    let ha = entry_hit(numbers, inverses, marks, a, r.again(), depth);
+    let hb = entry_hit(numbers, inverses, marks, b, r.again(), depth);
+    let n = both(ha, hb);
+    match n {
+        Struck::Refused(k) => Struck::Refused(k),
+        Struck::At(h) => {
+            if !h.is_ok() {
+                return by_fields(Struck::At(tell_of(op, sum, h)));
             }
+            if cut_contains(numbers, inverses, marks, op, a, b, r.position(h.t), depth) {
+                return by_fields(Struck::At(tell_of(op, sum, h)));
+            }
+            if restarts == 0 {
+                return Struck::Refused(Refusal::Restarts);
+            }
+            by_fields(cut_hit(
+                numbers,
+                inverses,
+                marks,
+                op,
+                a,
+                b,
+                restarted(r, h.t),
+                depth,
+                restarts - 1,
+                sum + (h.t + 0.01),
+            ))
         }
     }
 }

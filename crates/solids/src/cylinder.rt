@@ -21,7 +21,7 @@ pub fn contains(radius: f64, z0: f64, z1: f64, v: Vector, f: f64) -> bool
     ensures { result ≡ cylinder_contains radius z0 z1 v f }
 {
     let xy = Vector::new(v.x, v.y, 0.0);
-    if xy.norm_above(radius + f) {
+    if xy.norm() > radius + f {
         return false;
     }
     v.z >= z0 - f && v.z <= z1 + f

@@ -16,7 +16,7 @@ pub fn bounding_box(center: Vector, radius: f64) -> BBox
 pub fn contains(center: Vector, radius: f64, v: Vector, f: f64) -> bool
     ensures { result ≡ sphere_contains center radius v f }
 {
-    v.sub(center).norm_at_most(radius + f)
+    v.sub(center).norm() <= radius + f
 }
 
 pub fn intersect(center: Vector, radius: f64, r: Ray) -> Hit

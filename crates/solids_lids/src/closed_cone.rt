@@ -20,7 +20,7 @@ pub fn contains(radius: f64, height: f64, v: Vector, f: f64) -> bool
     if -f <= v.z {
         if v.z <= height + f {
             let xy = Vector::new(v.x, v.y, 0.0);
-            return xy.norm_at_most(radius * (height - v.z) / height + f);
+            return xy.norm() <= radius * (height - v.z) / height + f;
         }
     }
     false

@@ -1,26 +1,22 @@
 -- A scene without cuts answers every ray. Assumes nothing.
 use mathlib.Core.Path.{◌≡◌, refl}
 use mathlib.Core.List.{List}
-use mathlib.Core.Bool.{Bool, true, false, true≢false, cond, not, ◌&&◌}
+use mathlib.Core.Bool.{Bool, true, false, cond, not, ◌&&◌}
 use Prim.Native.Nat.{ℕ, zero, suc, ◌/◌, ◌<◌}
 use lib.ListN.{length}
-use lib.Dec.{ltb}
+use lib.Dec.{ltb, eqb}
 use lib.Ieee.{Float}
-use borrow.Author.Tests.{ltb-true, not-true}
+use borrow.Author.Tests.{ltb-true, eqb-true, eqb-false, not-true}
 use Rattle.geometry.specs.Hits.{no_hit}
 use Rattle.geometry.specs.declared.ray.Ray.{Ray}
 use Rattle.geometry.specs.declared.hit.Hit.{Hit}
 use Rattle.matrix.specs.Matrices.{mul_ray}
-use Rattle.matrix.specs.declared.Matrix.{Matrix}
 use Rattle.floats.specs.Arith.{◌⊘◌}
 use Rattle.lists.proofs.Tests.{all-at}
 use Rattle.rows.specs.declared.Marks.{Marks}
 use Rattle.rows.specs.declared.Numbers.{Numbers}
 use Rattle.solids.specs.Solids.{hit_of}
-use Rattle.scene.specs.Entries.{entry_of, entry_at, composite_of, simple_of, simple_or, parts_of, matrix_of, marks_at, numbers_at}
-use Rattle.scene.proofs.Parts.{parts_entry, composite-is}
-use Rattle.scene.specs.declared.entry.Parts.{Parts}
-use Rattle.scene.specs.declared.entry.Parts.TheVariants.{Placed as PlacedPart, Cut as CutParts, None as NoParts}
+use Rattle.scene.specs.Entries.{entry_of, entry_at, composite_of, simple_of, simple_or, cut_of, matrix_of, marks_at, numbers_at}
 use Rattle.scene.specs.declared.entry.Simple.{Simple}
 use Rattle.scene.specs.declared.entry.Simple.TheVariants.{Is, Other}
 use Rattle.scene.specs.declared.entry.Entry.{Entry}
@@ -30,11 +26,11 @@ use Rattle.scene_shape.specs.Shapes.{shape_of, read, shape_hit}
 use Rattle.scene_shape.specs.declared.Struck.{Struck}
 use Rattle.scene_shape.specs.declared.Struck.TheVariants.{At}
 use Rattle.tree_walk.specs.Walks.{entry_hit}
-use Rattle.tree_trust.specs.Trust.{Uncut, is_cut, is_uncut}
+use Rattle.tree_trust.specs.Trust.{Uncut, is_uncut}
 
 -- no entry is a cut
 abbrev NoCuts : List ℕ → Type 0
-NoCuts marks = (i : ℕ) → i < length marks / 4 → is_cut (parts_of (marks_at marks i)) ≡ false
+NoCuts marks = (i : ℕ) → i < length marks / 4 → (marks_at marks i).kind ≡ 7 → ⊥
 
 -- an entry that is not a cut
 abbrev Whole : Entry → Type 0
@@ -43,14 +39,14 @@ Whole (Placed m v k) = Unit
 Whole (Cut o a b) = ⊥
 Whole None = Unit
 
-whole_parts : (m v : Matrix) (p : Parts) → is_cut p ≡ false → Whole (parts_entry m v p)
-unfolding is_cut
-whole_parts m v (PlacedPart k) h = tt
-whole_parts m v (CutParts o a b) h = true≢false h
-whole_parts m v NoParts h = tt
-
-whole-composite : (m : Marks) (n v : Numbers) → is_cut (parts_of m) ≡ false → Whole (composite_of m n v)
-whole-composite m n v h = rw (composite-is m n v) (whole_parts (matrix_of n) (matrix_of v) (parts_of m) h)
+whole-composite : (m : Marks) (n v : Numbers) → (m.kind ≡ 7 → ⊥) → Whole (composite_of m n v)
+unfolding composite_of
+whole-composite m n v h = go (eqb m.kind 6) (eqb m.kind 7) (eqb-true m.kind 7)
+  where
+    go : (a b : Bool) → (b ≡ true → m.kind ≡ 7) → Whole (cond a (Placed (matrix_of n) (matrix_of v) m.first) (cond b (cut_of m) None))
+    go true b k = tt
+    go false true k = absurd (h (k refl))
+    go false false k = tt
 
 whole-simple : (s : Simple) (e : Entry) → Whole e → Whole (simple_or s e)
 unfolding simple_or
@@ -93,4 +89,4 @@ unfolding entry_hit is_uncut
 is-uncut marks u numbers inverses r i = read-hit (entry_at numbers inverses marks) (whole-at numbers inverses marks none) 8 i r
   where
     none : NoCuts marks
-    none k h = not-true (is_cut (parts_of (marks_at marks k))) (all-at (λ (j : ℕ). not (is_cut (parts_of (marks_at marks j)))) (length marks / 4) k u h)
+    none k h = eqb-false (marks_at marks k).kind 7 (not-true (eqb (marks_at marks k).kind 7) (all-at (λ (j : ℕ). not (eqb (marks_at marks j).kind 7)) (length marks / 4) k u h))

@@ -1,5 +1,5 @@
 -- What is asked of a tree in node slices, and of the solids, before anything is left out of a walk.
-use Rattle.std.specs.Prelude.{◌≡◌, Bool, true, false, cond, not, ◌&&◌, ◌||◌, List, ℕ, zero, suc, ◌+◌, ◌/◌, ◌<◌, length, ltb, eqb, Float}
+use Rattle.std.specs.Prelude.{◌≡◌, Bool, cond, not, ◌&&◌, ◌||◌, List, ℕ, zero, suc, ◌+◌, ◌/◌, ◌<◌, length, ltb, eqb, Float}
 use Rattle.std.specs.Float.Ieee.{le}
 use Rattle.lists.specs.Lists.{all_of}
 use Rattle.limits.specs.Limits.{within_box}
@@ -11,9 +11,7 @@ use Rattle.geometry.specs.declared.bounding_box.BBox.{BBox}
 use Rattle.tree_nodes.specs.Trees.{Tree, leaf, split, below_root}
 use Rattle.tree_nodes.specs.Nodes.{node_at, places_of, is_leaf}
 use Rattle.tree_nodes.specs.declared.Node.{Node}
-use Rattle.scene.specs.Entries.{marks_at, parts_of}
-use Rattle.scene.specs.declared.entry.Parts.{Parts}
-use Rattle.scene.specs.declared.entry.Parts.TheVariants.{Placed, Cut, None}
+use Rattle.scene.specs.Entries.{marks_at}
 use Rattle.scene_shape.specs.declared.Struck.TheVariants.{At}
 use Rattle.tree_walk.specs.Walks.{leaf_entries, entry_hit}
 use Rattle.tree_walk.specs.Standing.{Stands}
@@ -88,12 +86,6 @@ nodes_from N many (suc d) i = nodes_at N many i (split_nodes N many i (nodes_fro
 unfoldable pub is_trusted : List Float → List ℕ → Bool
 is_trusted boxes links = ltb 0 (nodes_from (node_at boxes links) (places_of boxes links) 62 0)
 
--- whether an entry is a cut, by the parts that it names
-unfoldable pub is_cut : Parts → Bool
-is_cut (Placed k) = false
-is_cut (Cut o a b) = true
-is_cut None = false
-
 -- no entry is a cut
 unfoldable pub is_uncut : List ℕ → Bool
-is_uncut marks = all_of (λ i. not (is_cut (parts_of (marks_at marks i)))) (length marks / 4)
+is_uncut marks = all_of (λ i. not (eqb (marks_at marks i).kind 7)) (length marks / 4)

@@ -2,11 +2,10 @@
 // looked up in the slices, so that nothing is asked of who filled them.
 ghost use Rattle.std.specs.Prelude.{◌≡◌, ◌<◌, ◌≤◌};
 ghost use Rattle.tree_nodes.specs.Nodes.{node_at, places_of};
-ghost use Rattle.tree_trust.specs.Trust.{is_under, is_sound, is_inside, joined_of, nodes_from, is_trusted, is_cut, is_uncut};
+ghost use Rattle.tree_trust.specs.Trust.{is_under, is_sound, is_inside, joined_of, nodes_from, is_trusted, is_uncut};
 
 use geometry::bounding_box::BBox;
 use geometry::vector::Vector;
-use scene::entry::Parts;
 
 // Whether each component of a is at most that of b.
 fn under(a: Vector, b: Vector) -> bool
@@ -103,16 +102,6 @@ pub fn trusted(boxes: &[f64], links: &[u32]) -> bool
     0 < nodes_from(boxes, links, many, 0, 62)
 }
 
-fn is_cut(p: Parts) -> bool
-    ensures { result ≡ is_cut p }
-{
-    match p {
-        Parts::Placed(_) => false,
-        Parts::Cut(_, _, _) => true,
-        Parts::None => false,
-    }
-}
-
 // Whether no entry is a cut: then none refuses a ray.
 pub fn uncut(marks: &[u32]) -> bool
     ensures { result ≡ is_uncut marks.now }
@@ -120,7 +109,8 @@ pub fn uncut(marks: &[u32]) -> bool
     let n = marks.len() / 4;
     let mut i = 0usize;
     while i < n {
-        if is_cut(scene::entry::parts_at(marks, i)) {
+        let m = rows::read_marks(marks, i);
+        if m.kind == 7 {
             return false;
         }
         i += 1;

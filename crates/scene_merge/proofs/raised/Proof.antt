@@ -1,46 +1,36 @@
-use Rattle.scene_merge.proofs.Raising.{raised-placing, raised-cut, raised-none}
-use Rattle.scene.proofs.Parts.{kind-by}
-use mathlib.Core.Path.{sym, ◌∙◌}
+use Rattle.scene_merge.proofs.Raising.{raised-six, raised-seven}
+use borrow.Author.Tests.{ne_eqb}
+use Rattle.scene_merge.specs.MergedScenes.{raised}
+use borrow.Author.Tests.{eq-eqb, ne_eqb}
 use native.Mathlib.Omega.{arith}
 use borrow.Author.Rules.{rules}
 use Rattle.scene_merge.proofs.raised.Statement.{statement}
 use Rattle.scene_merge.proofs.raised.Tie as tie
 
+add-t4 : tie.Need-overflow-add-t4
+add-t4 c = omega (arith, c.before.before.before.requires.placing c.before.if1.true)
+
+returns : tie.Need-returns
+returns c = raised-six _ _ c.before.if1.true
+
 add-t5 : tie.Need-overflow-add-t5
 add-t5 c =
-    let at1 = c.before in let enum_told = at1.enum_told in
-    let at3 = at1.before.before in let parts-of = at3.parts-of in
-    let at4 = at3.before in let pre = at4.requires in
-    let k = kind-by _ (sym enum_told.given.1 ∙ parts-of.ensures) in omega (arith, pre.placing k)
+    let at1 = c.before in let if2 = at1.if2 in
+    let at5 = at1.before.before.before.before in let pre = at5.requires in
+    omega (arith, pre.cut_first if2.true)
 
 add-t6 : tie.Need-overflow-add-t6
 add-t6 c =
-    let at1 = c.before in let enum-told2 = at1.enum-told2 in
-    let at3 = at1.before.before in let parts-of = at3.parts-of in
-    let at4 = at3.before in let pre = at4.requires in
-    let k = kind-by _ (sym enum-told2.given.1 ∙ parts-of.ensures) in omega (arith, pre.cut_first k)
-
-add-t7 : tie.Need-overflow-add-t7
-add-t7 c =
-    let at2 = c.before.before in let enum-told2 = at2.enum-told2 in
-    let at4 = at2.before.before in let parts-of = at4.parts-of in
-    let at5 = at4.before in let pre = at5.requires in
-    let k = kind-by _ (sym enum-told2.given.1 ∙ parts-of.ensures) in omega (arith, pre.cut_second k)
-
-returns : tie.Need-returns
-returns c = raised-placing _ _ (kind-by _ (sym c.before.enum_told.given.1 ∙ c.before.before.before.parts-of.ensures))
+    let at2 = c.before.before in let if2 = at2.if2 in
+    let at6 = at2.before.before.before.before in let pre = at6.requires in
+    omega (arith, pre.cut_second if2.true)
 
 returns-2 : tie.Need-returns-2
-returns-2 c =
-    let at2 = c.before.before in let enum-told2 = at2.enum-told2 in
-    let at4 = at2.before.before in let parts-of = at4.parts-of in
-    raised-cut _ _ (kind-by _ (sym enum-told2.given.1 ∙ parts-of.ensures))
+returns-2 c = raised-seven _ _ c.before.before.if2.true
 
 returns-3 : tie.Need-returns-3
-returns-3 c = raised-none _ _ c.before.before.before.requires (kind-by _ (sym c.enum-told3.given.1 ∙ c.before.before.parts-of.ensures))
+unfolding raised
+returns-3 c = rw (ne_eqb _ _ c.before.before.if1.false, ne_eqb _ _ c.if2.false)
 
 pub raised-spec : {M : Type 1} → statement M
-raised-spec =
-    tie.close
-    (tie.spec
-    (λ c κs. search rules) (λ c. search rules) add-t5 (λ c. search rules) add-t6 add-t7 (λ c. search rules) returns returns-2 returns-3)
+raised-spec = tie.close (tie.spec add-t4 returns add-t5 add-t6 returns-2 returns-3)

@@ -14,7 +14,7 @@ returns-2 c = rw c.enum-told2.given.1
 
 returns-3 : tie.Need-returns-3
 unfolding tell_of
-returns-3 c = c.from_first.ensures ∙ rw c.before.enum-told3.given.1
+returns-3 c = c.from_First.ensures ∙ rw c.before.enum-told3.given.1
 
 returns-4 : tie.Need-returns-4
 unfolding tell_of

@@ -4,7 +4,7 @@ use Rattle.solids.proofs.sphere.contains.Tie as tie
 
 returns : tie.Need-returns
 unfolding sphere_contains
-returns c = simp (← c.before.sub.ensures, ← c.norm-at-most.ensures)
+returns c = simp (← c.before.sub.ensures, ← c.norm.ensures)
 
 pub contains-spec : {M : Type 1} → statement M
 contains-spec = tie.close (tie.spec (λ c κs. tt) (λ c κs. tt) returns)

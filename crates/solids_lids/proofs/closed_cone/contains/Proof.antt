@@ -4,7 +4,7 @@ use Rattle.solids_lids.proofs.closed_cone.contains.Tie as tie
 
 returns : tie.Need-returns
 unfolding closed_cone_contains
-returns c = rw (c.before.before.before.before.before.if1.true, c.before.before.before.if2.true, ← c.before.before.new.ensures, ← c.norm-at-most.ensures)
+returns c = rw (c.before.before.before.before.before.if1.true, c.before.before.before.if2.true, ← c.before.before.new.ensures, ← c.before.norm.ensures)
 
 returns-2 : tie.Need-returns-2
 unfolding closed_cone_contains
