@@ -10,7 +10,7 @@ ghost use Rattle.check_scene.specs.Stored.{Held, RoomFor};
 use refusals::Refusal;
 
 // A scene is accepted, with so many drawn entries, or refused.
-#[derive(Drop)]
+#[derive(Clone, Copy)]
 pub enum Verdict {
     Accepted(usize),
     Refused(Refusal),

@@ -18,7 +18,7 @@ use view::RenderArgs;
 
 // The placings around a solid, innermost first: what the places after the `free` ones hold. A scene nests at most
 // 8 deep, so 8 places are enough.
-#[derive(Drop)]
+#[derive(Clone, Copy)]
 pub struct Placings {
     pub free: usize,
     pub held: [Matrix; 8],
@@ -62,7 +62,7 @@ impl Placings {
 
 // Where a solid stands: the arguments as it sees them (the eye taken back, the screen times the placings),
 // the view's own screen, and the placings.
-#[derive(Drop)]
+#[derive(Clone, Copy)]
 pub struct Stance {
     pub args: RenderArgs,
     pub screen: Screen,
@@ -110,7 +110,7 @@ pub fn placed_stance(m: Matrix, v: Matrix, t: Stance) -> Stance
 }
 
 // A ring's centre and its two axes.
-#[derive(Drop)]
+#[derive(Clone, Copy)]
 pub struct Frame {
     pub center: Vector,
     pub first: Vector,

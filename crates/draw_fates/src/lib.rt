@@ -16,7 +16,7 @@ use refusals::Refusal;
 use view::View;
 
 // A point is clipped away, or visible, or hidden by this drawn entry; or it meets a number.
-#[derive(Drop)]
+#[derive(Clone, Copy)]
 pub enum Fate {
     Clipped,
     Visible,

@@ -54,7 +54,7 @@ pub fn line(c: Counts, a: Vector, b: Vector, out: &mut [f64], begins: &mut [usiz
 }
 
 // Where a stripe of a cube lies, from either end.
-#[derive(Drop)]
+#[derive(Clone, Copy)]
 struct Along {
     x: f64,
     y: f64,

@@ -3,7 +3,7 @@ ghost use Rattle.std.specs.Prelude.{◌≡◌};
 ghost use Rattle.draw_ranges.specs.Ranges.{range_within};
 
 // So many entries from a place on.
-#[derive(Drop)]
+#[derive(Clone, Copy)]
 pub struct EntryRange {
     pub first: usize,
     pub many: usize,

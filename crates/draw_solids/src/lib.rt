@@ -13,7 +13,7 @@ use paths::Counts;
 use solids::solid::Solid;
 
 // Where stripes lie: on a cylinder's wall, or on a cone's, up to its apex.
-#[derive(Drop)]
+#[derive(Clone, Copy)]
 pub enum Flank {
     Upright { radius: f64, z0: f64, z1: f64 },
     Slanted { radius: f64, height: f64 },

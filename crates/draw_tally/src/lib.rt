@@ -17,7 +17,7 @@ use refusals::Refusal;
 
 // While a path is open: how many points there are, how many paths before it, and how many points there
 // were when it was opened; or why it is refused.
-#[derive(Drop)]
+#[derive(Clone, Copy)]
 pub enum Tallied {
     So(usize, usize, usize),
     Refused(Refusal),

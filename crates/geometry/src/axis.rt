@@ -1,5 +1,5 @@
 // An axis of the coordinate system, or none.
-#[derive(Drop)]
+#[derive(Clone, Copy)]
 pub enum Axis {
     X,
     Y,

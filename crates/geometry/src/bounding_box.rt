@@ -6,21 +6,21 @@ use crate::axis::Axis;
 use crate::ray::Ray;
 use crate::vector::Vector;
 
-#[derive(Drop)]
+#[derive(Clone, Copy)]
 pub struct BBox {
     pub min: Vector,
     pub max: Vector,
 }
 
 // Where a ray enters and leaves a box, or the room between two planes.
-#[derive(Drop)]
+#[derive(Clone, Copy)]
 pub struct Span {
     pub tmin: f64,
     pub tmax: f64,
 }
 
 // Whether a box reaches to the left and to the right of a plane.
-#[derive(Drop)]
+#[derive(Clone, Copy)]
 pub struct Sides {
     pub left: bool,
     pub right: bool,

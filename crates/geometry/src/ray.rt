@@ -4,7 +4,7 @@ ghost use Rattle.geometry.specs.Rays as Rays;
 
 use crate::vector::Vector;
 
-#[derive(Drop)]
+#[derive(Clone, Copy)]
 pub struct Ray {
     pub origin: Vector,
     pub direction: Vector,

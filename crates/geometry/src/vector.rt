@@ -5,7 +5,7 @@ ghost use Rattle.geometry.specs.Vectors as Vectors;
 
 use sqrt::Rooted;
 
-#[derive(Drop)]
+#[derive(Clone, Copy)]
 pub struct Vector {
     pub x: f64,
     pub y: f64,
@@ -13,7 +13,7 @@ pub struct Vector {
 }
 
 // A vector over its length, where the computed length is not 0.
-#[derive(Drop)]
+#[derive(Clone, Copy)]
 pub enum Normalized {
     Unit(Vector),
     Zero,

@@ -6,7 +6,7 @@ use geometry::bounding_box::BBox;
 use geometry::ray::Ray;
 use geometry::vector::{Normalized, Vector};
 
-#[derive(Drop)]
+#[derive(Clone, Copy)]
 pub struct Matrix {
     pub x00: f64,
     pub x01: f64,
@@ -27,7 +27,7 @@ pub struct Matrix {
 }
 
 // Four numbers: a row of a matrix.
-#[derive(Drop)]
+#[derive(Clone, Copy)]
 pub struct Row {
     pub a: f64,
     pub b: f64,
@@ -36,7 +36,7 @@ pub struct Row {
 }
 
 // A ray in other coordinates, its direction over its length, and that length.
-#[derive(Drop)]
+#[derive(Clone, Copy)]
 pub struct Scaled {
     pub ray: Ray,
     pub scale: f64,

@@ -6,7 +6,7 @@ ghost use Rattle.matrix_inverse.specs.Inverses as Inverses;
 use matrix::Matrix;
 
 // An inverse, and the determinant that it was divided by.
-#[derive(Drop)]
+#[derive(Clone, Copy)]
 pub struct Inverted {
     pub inverse: Matrix,
     pub determinant: f64,

@@ -15,7 +15,7 @@ use paths::{Count, Counts, Judgement};
 use view::{RenderArgs, View};
 
 // What the stop rule looks at: the matrix to the sheet, its width and height, and the step squared.
-#[derive(Drop)]
+#[derive(Clone, Copy)]
 pub struct Screen {
     pub matrix: Matrix,
     pub width: f64,
@@ -24,7 +24,7 @@ pub struct Screen {
 }
 
 // A point, and where it is seen on the sheet.
-#[derive(Drop)]
+#[derive(Clone, Copy)]
 pub struct Spot {
     pub at: Vector,
     pub seen: Vector,

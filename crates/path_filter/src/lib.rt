@@ -8,7 +8,7 @@ use paths::{Count, Counts};
 use refusals::Refusal;
 
 // What a test makes of a point: kept, as what; dropped; or why it is refused.
-#[derive(Drop)]
+#[derive(Clone, Copy)]
 pub enum Test {
     Keep(Vector),
     Drop,

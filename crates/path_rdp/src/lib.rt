@@ -7,14 +7,14 @@ ghost use Rattle.path_rdp.specs.Rdp as Rdp;
 ghost use Rattle.path_rdp.specs.Rdp.{farthest_of, peak_of, threshold_ok};
 
 // A vertex by its place in a path, and its distance.
-#[derive(Drop)]
+#[derive(Clone, Copy)]
 pub struct Far {
     pub index: usize,
     pub distance: f64,
 }
 
 // The first vertex with the greatest square of a distance, that square, and the greatest before it.
-#[derive(Drop)]
+#[derive(Clone, Copy)]
 pub struct Peak {
     pub index: usize,
     pub square: f64,
@@ -22,7 +22,7 @@ pub struct Peak {
 }
 
 // The farthest vertex so far, and the square whose root its distance is.
-#[derive(Drop)]
+#[derive(Clone, Copy)]
 struct FarSquare {
     far: Far,
     square: f64,

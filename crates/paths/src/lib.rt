@@ -14,21 +14,21 @@ use geometry::vector::Vector;
 use refusals::Refusal;
 
 // How many rows of a slice are filled now, or why it is refused.
-#[derive(Drop)]
+#[derive(Clone, Copy)]
 pub enum Count {
     At(usize),
     Refused(Refusal),
 }
 
 // How many points and starts there are now, or why it is refused.
-#[derive(Drop)]
+#[derive(Clone, Copy)]
 pub enum Counts {
     Both(usize, usize),
     Refused(Refusal),
 }
 
 // Whether what is handed in passes.
-#[derive(Drop)]
+#[derive(Clone, Copy)]
 pub enum Judgement {
     Fine,
     Refused(Refusal),
@@ -95,7 +95,7 @@ pub fn close(starts: &[usize], m: usize, n: usize) -> usize
 }
 
 // Where a path starts and ends among the points.
-#[derive(Drop)]
+#[derive(Clone, Copy)]
 pub struct Range {
     pub from: usize,
     pub end: usize,

@@ -10,7 +10,7 @@ use paths::Range;
 use refusals::Refusal;
 
 // The nearest path so far, by the place of its mark, if there is one.
-#[derive(Drop)]
+#[derive(Clone, Copy)]
 pub struct NearestPath {
     pub found: bool,
     pub place: usize,
@@ -19,7 +19,7 @@ pub struct NearestPath {
 
 // A path of one of the drawings, by its place there and where it lies among the points; or both are used
 // up; or why the pick is refused.
-#[derive(Drop)]
+#[derive(Clone, Copy)]
 pub enum Choice {
     Yard(usize, Range),
     Lines(usize, Range),

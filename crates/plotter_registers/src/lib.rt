@@ -5,7 +5,7 @@ ghost use Rattle.plotter_registers.specs.Plotter as Plotter;
 
 // In tenths of a millimetre.
 #[repr(C)]
-#[derive(Drop)]
+#[derive(Clone, Copy)]
 pub struct Position {
     pub x: u16,
     pub y: u16,
@@ -14,7 +14,7 @@ pub struct Position {
 // Where the pen is, the accepted target, and bytes 0 to 7: last command, status, target X (low, high),
 // target Y (low, high), interrupt mask, pending.
 #[repr(C)]
-#[derive(Drop)]
+#[derive(Clone, Copy)]
 pub struct Registers {
     pub pen: Position,
     pub target: Position,
@@ -22,7 +22,7 @@ pub struct Registers {
 }
 
 // What a write meets.
-#[derive(Drop)]
+#[derive(Clone, Copy)]
 pub enum WriteAnswer {
     Accepted,
     ReadOnly,
@@ -43,7 +43,7 @@ impl WriteAnswer {
 }
 
 // The registers after a write, and the number of its answer.
-#[derive(Drop)]
+#[derive(Clone, Copy)]
 pub struct Written {
     pub registers: Registers,
     pub number: u32,

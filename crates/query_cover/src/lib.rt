@@ -13,7 +13,7 @@ use refusals::Refusal;
 use tree_sight::Sight;
 
 // Whether each point of many is answered in the lent slice, or why none is.
-#[derive(Drop)]
+#[derive(Clone, Copy)]
 pub enum Batch {
     Answered,
     Refused(Refusal),

@@ -8,7 +8,7 @@ use check_scene::Verdict;
 use refusals::Refusal;
 
 // How many elements each of five slices has: numbers, marks, points, path starts and owners.
-#[derive(Drop)]
+#[derive(Clone, Copy)]
 pub struct Sizes {
     pub numbers: usize,
     pub marks: usize,
@@ -18,7 +18,7 @@ pub struct Sizes {
 }
 
 // The scenes are merged into so many entries, points and paths, or refused.
-#[derive(Drop)]
+#[derive(Clone, Copy)]
 pub enum Merged {
     Into(usize, usize, usize),
     Refused(Refusal),

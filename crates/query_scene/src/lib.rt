@@ -18,14 +18,14 @@ use tree_sight::Sight;
 use tree_walk::Found;
 
 // How many nodes a tree has, or why there is none.
-#[derive(Drop)]
+#[derive(Clone, Copy)]
 pub enum Built {
     Nodes(usize),
     Refused(Refusal),
 }
 
 // Whether a point is seen, and by which entry it is hidden: the one that the nearest hit names.
-#[derive(Drop)]
+#[derive(Clone, Copy)]
 pub enum NamedSight {
     Clear,
     Hidden(u32),

@@ -13,7 +13,7 @@ use refusals::Refusal;
 use scene_shape::Struck;
 
 // Whether a point lies inside, or why that is not told.
-#[derive(Drop)]
+#[derive(Clone, Copy)]
 pub enum Contained {
     Inside(bool),
     Refused(Refusal),

@@ -66,7 +66,7 @@ pub fn write_box(xs: &mut [f64], i: usize, b: BBox)
 }
 
 // The 16 numbers of an entry, its measures or a matrix by rows.
-#[derive(Drop)]
+#[derive(Clone, Copy)]
 pub struct Numbers {
     pub x00: f64,
     pub x01: f64,
@@ -134,7 +134,7 @@ pub fn write_numbers(xs: &mut [f64], i: usize, m: Numbers)
 }
 
 // The marks of an entry: its kind, its detail, and the entries that it names.
-#[derive(Drop)]
+#[derive(Clone, Copy)]
 pub struct Marks {
     pub kind: u32,
     pub detail: u32,
@@ -156,7 +156,7 @@ pub fn read_marks(xs: &[u32], i: usize) -> Marks
 }
 
 // Three marks.
-#[derive(Drop)]
+#[derive(Clone, Copy)]
 pub struct Triple {
     pub a: u32,
     pub b: u32,

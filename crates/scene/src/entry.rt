@@ -8,7 +8,7 @@ use rows::{Marks, Numbers};
 use solids::solid::Solid;
 
 // A solid of kinds 1 to 5, 8 or 9, or none of these.
-#[derive(Drop)]
+#[derive(Clone, Copy)]
 pub enum Simple {
     Is(Solid),
     Other,
@@ -139,7 +139,7 @@ pub fn matrix_numbers(m: Matrix) -> Numbers
 
 // The operation of a cut: what its parts have in common, or the first less the second. The true ones answer
 // the distance from a ray's first origin, the others the t of the last ray.
-#[derive(Drop)]
+#[derive(Clone, Copy)]
 pub enum Op {
     Intersection,
     Difference,
@@ -149,7 +149,7 @@ pub enum Op {
 
 // What an entry stands for: a simple solid, a placing (its matrix, the inverse, its part), a cut (its
 // operation and parts), or nothing.
-#[derive(Drop)]
+#[derive(Clone, Copy)]
 pub enum Entry {
     Simple(Solid),
     Placed(Matrix, Matrix, usize),
@@ -174,7 +174,7 @@ pub fn op_of(detail: u32) -> Op
 }
 
 // The parts that an entry names: that of a placing, kind 6, or the two of a cut, kind 7, by operations 0 to 3.
-#[derive(Drop)]
+#[derive(Clone, Copy)]
 pub enum Parts {
     Placed(usize),
     Cut(Op, usize, usize),

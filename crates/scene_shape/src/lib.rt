@@ -13,7 +13,7 @@ use refusals::Refusal;
 use scene::entry::{Op, Parts, Simple};
 
 // The hit of a ray, or why there is none.
-#[derive(Drop)]
+#[derive(Clone, Copy)]
 pub enum Struck {
     At(Hit),
     Refused(Refusal),
@@ -157,7 +157,7 @@ fn cut_contains(
 // Where a ray meets entry i, of which `depth` levels are left: at the part of a placing, turned, with its scale; at any
 // other entry itself. So a solid, placed or not, is hit at one and the same place of the code, and a turned ray need not
 // go through memory.
-#[derive(Drop)]
+#[derive(Clone, Copy)]
 pub struct Meeting {
     pub i: usize,
     pub ray: Ray,

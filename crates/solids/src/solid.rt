@@ -9,7 +9,7 @@ use geometry::ray::Ray;
 use geometry::vector::Vector;
 use solids_lids::{closed_cone, closed_cylinder};
 
-#[derive(Drop)]
+#[derive(Clone, Copy)]
 pub enum Solid {
     Sphere { center: Vector, radius: f64 },
     Cylinder { radius: f64, z0: f64, z1: f64 },

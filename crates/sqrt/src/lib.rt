@@ -11,7 +11,7 @@ ghost use Rattle.sqrt.specs.Floor.{FloorRoot, LowRoot, NearestRoot};
 ghost use Rattle.sqrt.specs.Root.{sqrt_of, rest_of};
 
 // A whole number and what is left over of another when its square is taken off.
-#[derive(Drop)]
+#[derive(Clone, Copy)]
 pub struct WholeRoot {
     pub whole: u64,
     pub rest: u64,
@@ -93,7 +93,7 @@ fn root_of(m: u64, bits: u64) -> WholeRoot
 }
 
 // m * 2^g / 2^1126, with m of 53 bits.
-#[derive(Drop)]
+#[derive(Clone, Copy)]
 pub struct Significand {
     pub m: u64,
     pub g: u64,
@@ -121,7 +121,7 @@ fn unpack(b: u64) -> Significand
 }
 
 // A whole number, and how much another exceeds its square.
-#[derive(Drop)]
+#[derive(Clone, Copy)]
 pub struct NearRoot {
     pub whole: u64,
     pub rest: i64,
@@ -150,7 +150,7 @@ fn rounded(p: WholeRoot) -> NearRoot
 
 // The root of an f64 and its exact remainder: where the root is R * 2^k with R of 53 bits, and the f64
 // is S * 4^k, that is S - R * R. It fits: it is at most R, and above -R.
-#[derive(Drop)]
+#[derive(Clone, Copy)]
 pub struct Rooted {
     pub root: f64,
     pub rest: i64,

@@ -8,7 +8,7 @@ use geometry::vector::Vector;
 use plotter_registers::Registers;
 
 // The registers, how far the pen went, and what came of it.
-#[derive(Drop)]
+#[derive(Clone, Copy)]
 struct Plot {
     registers: Registers,
     paths: u64,

@@ -14,7 +14,7 @@ use text_tokens::{Counted, Located, NumberRead, Step};
 use view::View;
 
 // How far the reading has come: the place in the line, and how many entries, points and lines are held.
-#[derive(Drop)]
+#[derive(Clone, Copy)]
 pub struct Cursor {
     pub at: usize,
     pub entries: usize,
@@ -22,14 +22,14 @@ pub struct Cursor {
     pub lines: usize,
 }
 
-#[derive(Drop)]
+#[derive(Clone, Copy)]
 pub enum Next {
     To(Cursor),
     No,
 }
 
 // A form's kind, its detail and its numbers, then zeros.
-#[derive(Drop)]
+#[derive(Clone, Copy)]
 pub struct Head {
     pub kind: u32,
     pub detail: u32,
@@ -37,25 +37,25 @@ pub struct Head {
 }
 
 // The place after a line, and how many points are held then.
-#[derive(Drop)]
+#[derive(Clone, Copy)]
 pub enum Run {
     Upto(usize, usize),
     Broken,
 }
 
-#[derive(Drop)]
+#[derive(Clone, Copy)]
 pub enum Opening {
     Of(Head, usize),
     NoOpening,
 }
 
-#[derive(Drop)]
+#[derive(Clone, Copy)]
 pub enum PointRead {
     Point(Vector, usize),
     NoPoint,
 }
 
-#[derive(Drop)]
+#[derive(Clone, Copy)]
 pub enum Viewed {
     Seen(View, usize),
     Unseen,

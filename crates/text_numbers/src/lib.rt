@@ -3,20 +3,20 @@ ghost use Rattle.std.specs.Prelude.{◌≡◌};
 ghost use Rattle.text_numbers.specs.Numerals.{digit_of, decimal_of, hex_of, numeral_of};
 
 // A decimal's value, or that the word is none.
-#[derive(Drop)]
+#[derive(Clone, Copy)]
 pub enum Whole {
     Value(u32),
     Bad,
 }
 
 // The value of sixteen hexadecimal digits, or that the word is not that.
-#[derive(Drop)]
+#[derive(Clone, Copy)]
 pub enum Pattern {
     Bits(u64),
     Wrong,
 }
 
-#[derive(Drop)]
+#[derive(Clone, Copy)]
 pub enum Numeral {
     Float(f64),
     NoNumber,

@@ -12,7 +12,7 @@ use text_heads::{Cursor, Next, Viewed};
 use view::View;
 
 // A view with how many entries, points and lines were read, or document 01's number 1.
-#[derive(Drop)]
+#[derive(Clone, Copy)]
 pub enum Reading {
     Scene(View, usize, usize, usize),
     Refused,
@@ -46,7 +46,7 @@ fn line_end(text: &[u8], at: usize) -> usize
 }
 
 // Where a line begins and ends, or that none is left.
-#[derive(Drop)]
+#[derive(Clone, Copy)]
 pub enum Line {
     At(usize, usize),
     Over,

@@ -4,7 +4,7 @@ ghost use Rattle.text_tokens.specs.Tokens.{left, part, word_byte, word, word_in,
 ghost use Rattle.text_tokens.specs.Seen.{seen, TokenWithin, span_as, WordWithin, found_as, step_as, counted_as};
 
 // A token, with the place after it; a word with the place where it begins too.
-#[derive(Drop)]
+#[derive(Clone, Copy)]
 pub enum Tok {
     Opens(usize),
     Closes(usize),
@@ -13,25 +13,25 @@ pub enum Tok {
 }
 
 // A word's begin and end, or that there is none.
-#[derive(Drop)]
+#[derive(Clone, Copy)]
 pub enum Located {
     At(usize, usize),
     Nowhere,
 }
 
-#[derive(Drop)]
+#[derive(Clone, Copy)]
 pub enum Step {
     To(usize),
     Off,
 }
 
-#[derive(Drop)]
+#[derive(Clone, Copy)]
 pub enum NumberRead {
     Real(f64, usize),
     Absent,
 }
 
-#[derive(Drop)]
+#[derive(Clone, Copy)]
 pub enum Counted {
     Count(u32, usize),
     Uncounted,

@@ -8,7 +8,7 @@ use geometry::ray::Ray;
 use geometry::vector::Vector;
 
 // A ray with a bound on 1 / d on each axis of its direction d: nearer to 0, by less than one part in 4 * 10^14.
-#[derive(Drop)]
+#[derive(Clone, Copy)]
 pub struct Beam {
     pub ray: Ray,
     pub low: Vector,

@@ -14,7 +14,7 @@ use tree_nodes::Node;
 use tree_split::Plan;
 
 // The number of nodes, or that a slice is full.
-#[derive(Drop)]
+#[derive(Clone, Copy)]
 pub enum Outcome {
     Upto(usize),
     Full,

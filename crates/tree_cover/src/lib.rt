@@ -13,7 +13,7 @@ use tree_sight::Sight;
 use tree_walk::Nearest;
 
 // How far a walk that stops has come: none of the solids fell short, one did, or a refusal was met before.
-#[derive(Drop)]
+#[derive(Clone, Copy)]
 pub enum Sought {
     Open(Nearest),
     Covered,

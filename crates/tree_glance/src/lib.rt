@@ -23,7 +23,7 @@ use tree_beams::Beam;
 use tree_sight::Sight;
 
 // What a glance says of a point.
-#[derive(Drop)]
+#[derive(Clone, Copy)]
 pub enum Glance {
     Hidden,
     Visible,
@@ -31,7 +31,7 @@ pub enum Glance {
 }
 
 // What the entries of a leaf say of the distance: none falls short of it, this one does, or one met a refusal.
-#[derive(Drop)]
+#[derive(Clone, Copy)]
 pub enum Spotted {
     Clear,
     Short(u32),

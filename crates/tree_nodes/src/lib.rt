@@ -10,7 +10,7 @@ use rows::Triple;
 
 // A leaf's first solid in the order and its count, or the first of a split's two children and 0; the
 // axis is 0 for none, 1 for X, 2 for Y, 3 for Z.
-#[derive(Drop)]
+#[derive(Clone, Copy)]
 pub struct Node {
     pub bx: BBox,
     pub first: u32,

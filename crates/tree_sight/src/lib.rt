@@ -10,7 +10,7 @@ use refusals::Refusal;
 use tree_walk::Found;
 
 // Document 01's yes and no, or why there is no answer.
-#[derive(Drop)]
+#[derive(Clone, Copy)]
 pub enum Sight {
     Visible,
     Hidden,

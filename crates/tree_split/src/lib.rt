@@ -120,7 +120,7 @@ pub fn right_areas(boxes: &[f64], order: &[u32], right: &mut [f64])
 }
 
 // A split after so many solids, and its cost.
-#[derive(Drop)]
+#[derive(Clone, Copy)]
 pub struct BestSplit {
     pub cost: f64,
     pub at: usize,
@@ -165,7 +165,7 @@ pub fn best_split(boxes: &[f64], order: &[u32], right: &[f64]) -> BestSplit
 
 // What becomes of the solids of a node: its box, its axis (0 for none), and after how many they are
 // split, 0 for a leaf.
-#[derive(Drop)]
+#[derive(Clone, Copy)]
 pub struct Plan {
     pub bx: BBox,
     pub axis: u32,

@@ -12,21 +12,21 @@ use refusals::Refusal;
 use scene_shape::Struck;
 
 // The best hit and the entry whose t last became the best: 0xffffffff, which no entry is, where none did.
-#[derive(Drop)]
+#[derive(Clone, Copy)]
 pub struct Nearest {
     pub hit: Hit,
     pub entry: u32,
 }
 
 // The nearest hit, or why there is none.
-#[derive(Drop)]
+#[derive(Clone, Copy)]
 pub enum Found {
     Best(Nearest),
     Refused(Refusal),
 }
 
 // The places of a split's children.
-#[derive(Drop)]
+#[derive(Clone, Copy)]
 pub struct Children {
     pub near: usize,
     pub far: usize,

@@ -6,7 +6,7 @@ use geometry::vector::Vector;
 use matrix::Matrix;
 
 // The clip matrix, the eye, the sheet's width and height, and the step of chopping.
-#[derive(Drop)]
+#[derive(Clone, Copy)]
 pub struct View {
     pub matrix: Matrix,
     pub eye: Vector,
@@ -16,7 +16,7 @@ pub struct View {
 }
 
 // The matrix to the sheet, with what else lines are made by.
-#[derive(Drop)]
+#[derive(Clone, Copy)]
 pub struct RenderArgs {
     pub screen: Matrix,
     pub eye: Vector,
