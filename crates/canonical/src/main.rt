@@ -1,3 +1,4 @@
+#![tactic(auto)]
 // The program `canonical`: reads forms from standard input, and prints them in canonical form, or why they
 // are refused.
 fn main() {

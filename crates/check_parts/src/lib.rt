@@ -1,4 +1,6 @@
 // Number 4 of a scene's entries: their parts and the owners of handed-in lines; and which are drawn.
+#![tactic(auto)]
+
 ghost use Rattle.std.specs.Prelude.{◌≡◌, true, ◌&&◌, cond, ◌+◌, ◌<◌, ◌≤◌, ◌/◌, length, get_or, set, take, drop, ltb, eqb};
 ghost use Rattle.check_parts.specs.Parts as Parts;
 ghost use Rattle.check_parts.specs.Owners as Owners;

@@ -1,4 +1,6 @@
 // The check of a scene: numbers 2 to 7 of document 01, and 14 of document 02 just after 3.
+#![tactic(auto)]
+
 pub mod extents;
 pub mod placings;
 

@@ -1,4 +1,6 @@
 // Cosine and sine of whole degrees, from a constant table of whole numbers in units of 2^-53 (document 02, request (ii)).
+#![tactic(auto)]
+
 ghost use Rattle.std.specs.Prelude.{◌≡◌, ◌^◌, ◌≤◌, nat_abs};
 ghost use Rattle.degrees.specs.Table.{degree_table};
 ghost use Rattle.degrees.specs.Degrees.{cosine_units, sine_units, from_units, cosine_of, sine_of, float_table};

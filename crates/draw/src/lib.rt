@@ -1,4 +1,6 @@
 // The draw of a scene: refusals 2 to 8 and 14 before anything is written, then the drawing.
+#![tactic(auto)]
+
 ghost use Rattle.std.specs.Prelude.{length};
 ghost use Rattle.floats.specs.Arith.{zero_f};
 ghost use Rattle.paths.specs.Ends.{EndsBoth, Finished, Zeroed};

@@ -1,4 +1,6 @@
 // Rings in space: the points of a ring around a centre, pushed piece by piece.
+#![tactic(auto)]
+
 ghost use Rattle.std.specs.Prelude.{◌≡◌, [], ◌∷◌, map, ◌+◌, ◌-◌, ◌*◌, ◌≤◌, length, replicate, set};
 ghost use Rattle.matrix.specs.Matrices.{identity_m};
 ghost use Rattle.rows.specs.Points.{points};

@@ -1,4 +1,6 @@
 // The work slices of a draw, cleared when it is over.
+#![tactic(auto)]
+
 ghost use Rattle.floats.specs.Arith.{zero_f};
 ghost use Rattle.paths.specs.Ends.{Zeroed};
 

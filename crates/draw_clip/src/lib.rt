@@ -1,4 +1,6 @@
 // The filter of a draw (filter.rs, and its loops of path.rs): the clip box, and then the eye test.
+#![tactic(auto)]
+
 ghost use Rattle.std.specs.Prelude.{◌≡◌, not, ◌&&◌, ◌+◌, ◌*◌, ◌≤◌, ◌<◌, length, eqb, ltb};
 ghost use Rattle.std.proofs.Math.Seq.{slice};
 ghost use Rattle.draw_memory.specs.Memory.{Remembered};

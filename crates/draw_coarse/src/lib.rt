@@ -1,4 +1,6 @@
 // The draw by default: a coarse sheet, simplified with 1e-4.
+#![tactic(auto)]
+
 ghost use Rattle.std.specs.Prelude.{length};
 ghost use Rattle.floats.specs.Arith.{zero_f};
 ghost use Rattle.paths.specs.Ends.{Finished, Zeroed};

@@ -1,5 +1,7 @@
 // The lines of the drawn entries of a scene (`paths` of shape.rs and csg.rs), in vectors of paths that
 // stand one after the other in a slice: the first takes the lines, the others those of nested cuts.
+#![tactic(auto)]
+
 ghost use Rattle.std.specs.Prelude.{◌≡◌, ◌++◌, map, ℕ, ◌+◌, ◌*◌, ◌≤◌, length, take, drop};
 ghost use Rattle.matrix.specs.Matrices.{mul_position};
 ghost use Rattle.rows.specs.Points.{points as points_in};

@@ -1,5 +1,7 @@
 // The counts of a drawing of solids whose boxes and inverses are known: the steps of `draw_render`, but for
 // the last stage, whose points and paths are counted.
+#![tactic(auto)]
+
 ghost use Rattle.std.specs.Prelude.{◌≡◌, false, ◌*◌, ◌/◌, ◌≤◌, length, take};
 ghost use Rattle.std.specs.Float.Ieee.{lt};
 ghost use Rattle.floats.specs.Arith.{zero_f};

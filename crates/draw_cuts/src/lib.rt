@@ -1,4 +1,6 @@
 // The filter of a cut's lines (csg.rs, and its loops of path.rs): by the cut's own insides.
+#![tactic(auto)]
+
 ghost use Rattle.std.specs.Prelude.{◌≡◌, ◌*◌, ◌≤◌, length};
 ghost use Rattle.std.proofs.Math.Seq.{slice};
 ghost use Rattle.paths.specs.Ends.{places, all_points, held, EndsBoth};

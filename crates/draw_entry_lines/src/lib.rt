@@ -1,4 +1,6 @@
 // The lines of a range of drawn entries that a draw puts to step 4: its steps 1 and 2.
+#![tactic(auto)]
+
 ghost use Rattle.std.specs.Prelude.{◌+◌, ◌*◌, ◌/◌, ◌≤◌, length, take, drop};
 ghost use Rattle.floats.specs.Arith.{zero_f};
 ghost use Rattle.paths.specs.Ends.{places, held, EndsBoth, Finished, Zeroed};

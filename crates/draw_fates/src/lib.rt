@@ -1,4 +1,6 @@
 // What becomes of points at step 4 of a draw, in one word each: for the account of a sheet.
+#![tactic(auto)]
+
 ghost use Rattle.std.specs.Prelude.{◌≡◌, ◌*◌, ◌≤◌, length, get_or};
 ghost use Rattle.geometry.specs.declared.ray.Ray.{Ray};
 ghost use Rattle.rows.specs.Rows.{padded};

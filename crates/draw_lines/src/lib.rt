@@ -1,4 +1,6 @@
 // Lines added to the paths that two lent slices hold: those of cubes and triangles, and handed-in ones.
+#![tactic(auto)]
+
 ghost use Rattle.std.specs.Prelude.{◌≡◌, [], ◌∷◌, ◌*◌, ◌≤◌, ◌<◌, length, eqb};
 ghost use Rattle.std.proofs.Math.Seq.{slice};
 ghost use Rattle.paths.specs.Paths.{one_path, paths_of};

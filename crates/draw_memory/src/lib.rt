@@ -1,4 +1,6 @@
 // The ends of earlier paths, and what became of them: many a path ends where others do.
+#![tactic(auto)]
+
 ghost use Rattle.std.specs.Prelude.{◌≡◌, true, ◌+◌, ◌<◌, length, set};
 ghost use Rattle.rows.specs.Rows.{set_row};
 ghost use Rattle.rows.specs.Points.{point_row};

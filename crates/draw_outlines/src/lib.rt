@@ -1,4 +1,6 @@
 // The outlines of round solids (document 02 (vii)): rings, and the lines where planes through the eye touch.
+#![tactic(auto)]
+
 ghost use Rattle.std.specs.Prelude.{◌≡◌, ◌*◌, ◌≤◌, length};
 ghost use Rattle.paths.specs.Ends.{places, Finished};
 ghost use Rattle.draw_lines.specs.Pushing.{Fit, Adds};

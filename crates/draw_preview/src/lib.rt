@@ -1,5 +1,7 @@
 // The preview of a draw: how many points and paths it would answer, or why it would be refused, in the
 // work slices of a draw and without the slices of its result.
+#![tactic(auto)]
+
 ghost use Rattle.std.specs.Prelude.{◌≡◌};
 ghost use Rattle.floats.specs.Arith.{zero_f};
 ghost use Rattle.paths.specs.Ends.{Zeroed};

@@ -1,4 +1,6 @@
 // A range of the entries of a list, cut down to those that there are.
+#![tactic(auto)]
+
 ghost use Rattle.std.specs.Prelude.{◌≡◌};
 ghost use Rattle.draw_ranges.specs.Ranges.{range_within};
 

@@ -1,5 +1,7 @@
 // A drawing of solids whose boxes and inverses are known, from their lines to the sheet (`render` of
 // scene.rs).
+#![tactic(auto)]
+
 ghost use Rattle.std.specs.Prelude.{◌≡◌, false, ◌+◌, ◌*◌, ◌/◌, ◌≤◌, length, take, drop};
 ghost use Rattle.std.specs.Float.Ieee.{lt};
 ghost use Rattle.floats.specs.Arith.{zero_f};

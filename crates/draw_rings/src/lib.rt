@@ -1,1 +1,3 @@
 // Rings in their own plane, and the promise on their points: statements in specs/, proofs in proofs/.
+
+#![tactic(auto)]

@@ -1,4 +1,6 @@
 // What a solid shows: its stripes and the lines handed in for it, or else its outline.
+#![tactic(auto)]
+
 ghost use Rattle.std.specs.Prelude.{◌≡◌, List, ◌*◌, ◌≤◌, length};
 ghost use Rattle.geometry.specs.declared.vector.Vector.{Vector};
 ghost use Rattle.paths.specs.Paths.{paths_of};

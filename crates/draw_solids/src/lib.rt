@@ -1,4 +1,6 @@
 // The lines of a solid of kinds 1 to 5, 8 or 9, added to the paths that two lent slices hold.
+#![tactic(auto)]
+
 ghost use Rattle.std.specs.Prelude.{◌≡◌, [], ◌∷◌, ◌++◌, map, ◌*◌, ◌≤◌, length};
 ghost use Rattle.degrees.specs.Degrees.{cosine_of, sine_of, float_table};
 ghost use Rattle.paths.specs.Paths.{paths_of};

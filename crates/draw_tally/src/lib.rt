@@ -1,5 +1,7 @@
 // How many points and paths the last stage of a draw would write, without the slices that it writes to:
 // the filter's, and simplification's.
+#![tactic(auto)]
+
 ghost use Rattle.std.specs.Prelude.{◌≡◌, false, ◌*◌, ◌≤◌, ◌<◌, length};
 ghost use Rattle.std.proofs.Math.Seq.{slice};
 ghost use Rattle.std.specs.Float.Ieee.{lt};

@@ -1,5 +1,7 @@
 // `min`, `max` and `abs` as Rust's f64 has them, the tests of a single number, and the float of a bit pattern. The laws of
 // floats that the other crates use stand in proofs/.
+#![tactic(auto)]
+
 ghost use Rattle.std.specs.Prelude.{◌≡◌, cond};
 ghost use Rattle.std.specs.Float.Ieee.{lt};
 ghost use Rattle.std.specs.Float.Ieee.Scale.{finite};

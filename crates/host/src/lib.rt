@@ -1,5 +1,7 @@
 // The calls for a host program, by C's calling convention: each is thin over the proved one, and takes
 // any numbers. host/larnt.h declares them, with what its pointers must be.
+#![tactic(auto)]
+
 pub mod covers;
 pub mod stages;
 pub mod trees;

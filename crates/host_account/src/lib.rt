@@ -1,5 +1,7 @@
 // The account of a sheet for a host program, by C's calling convention: the lines that a draw puts to step 4, and what
 // becomes of their points. host/larnt.h declares the calls, with what their pointers must be.
+#![tactic(auto)]
+
 ghost use Rattle.std.specs.Prelude.{length};
 ghost use Rattle.floats.specs.Arith.{zero_f};
 ghost use Rattle.scene.specs.Scenes.{scene_of};

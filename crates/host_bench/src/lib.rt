@@ -1,5 +1,7 @@
 // The walks and the eye test on a scene that is checked already: for timing them, and for many rays on one
 // scene. No host links this; its calls are those of crate host.
+#![tactic(auto)]
+
 ghost use Rattle.std.specs.Prelude.{◌≡◌, Float};
 ghost use Rattle.geometry.specs.declared.ray.Ray.{Ray};
 ghost use Rattle.rows.specs.Points.{point_of};

@@ -1,5 +1,7 @@
 // The call that merges two scenes, for a host program, by C's calling convention: it is thin over the proved one,
 // and takes any numbers. host/larnt.h declares it, with what its pointers must be.
+#![tactic(auto)]
+
 ghost use Rattle.std.specs.Prelude.{◌≡◌};
 ghost use Rattle.scene.specs.Scenes.{scene_of};
 ghost use Rattle.host_merge.specs.MergeCalls as MergeCalls;

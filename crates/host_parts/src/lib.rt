@@ -1,5 +1,7 @@
 // The draw of some parts of a scene for a host program, by C's calling convention. host/larnt.h declares it, with
 // what its pointers must be.
+#![tactic(auto)]
+
 ghost use Rattle.std.specs.Prelude.{length};
 ghost use Rattle.floats.specs.Arith.{zero_f};
 ghost use Rattle.paths.specs.Ends.{Zeroed};

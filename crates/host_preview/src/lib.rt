@@ -1,5 +1,7 @@
 // The preview of a draw for a host program, by C's calling convention. host/larnt.h declares it, with what
 // its pointers must be.
+#![tactic(auto)]
+
 ghost use Rattle.std.specs.Prelude.{◌≡◌};
 ghost use Rattle.floats.specs.Arith.{zero_f};
 ghost use Rattle.paths.specs.Ends.{Zeroed};

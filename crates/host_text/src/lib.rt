@@ -1,5 +1,7 @@
 // The calls on text for a host program, by C's calling convention: each is thin over the proved one, and takes
 // any numbers. host/larnt.h declares them, with what its pointers must be.
+#![tactic(auto)]
+
 ghost use Rattle.std.specs.Prelude.{◌≡◌, ◌≤◌, length, take};
 ghost use Rattle.scene.specs.Scenes.{scene_of};
 ghost use Rattle.host.specs.StageCalls.{view_of_row};

@@ -1,4 +1,6 @@
 // Limits on several numbers at once: finite, or finite and of magnitude at most 1,000,000.
+#![tactic(auto)]
+
 ghost use Rattle.std.specs.Prelude.{◌≡◌};
 ghost use Rattle.limits.specs.Limits.{within_point, within_box, within_ray, within_four, within_matrix, finite_four, finite_matrix};
 

@@ -1,4 +1,6 @@
 // Matrices of 4 rows and 4 columns; their inverses stand in matrix_inverse.
+#![tactic(auto)]
+
 ghost use Rattle.std.specs.Prelude.{◌≡◌};
 ghost use Rattle.matrix.specs.Matrices as Matrices;
 

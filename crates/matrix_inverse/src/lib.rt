@@ -1,4 +1,6 @@
 // The inverse of a matrix, with the determinant that it divides by (matrix.rs).
+#![tactic(auto)]
+
 ghost use Rattle.std.specs.Prelude.{◌≡◌};
 ghost use Rattle.floats.specs.Arith.{◌⊕◌, ◌⊖◌, ◌⊗◌, ◌⊘◌};
 ghost use Rattle.matrix_inverse.specs.Inverses as Inverses;

@@ -1,4 +1,6 @@
 // Two vectors of paths that stand one after the other in one slice: the second appended to the first.
+#![tactic(auto)]
+
 ghost use Rattle.std.specs.Prelude.{◌≡◌, ◌+◌, ◌*◌, ◌/◌, ◌≤◌, length, take, drop};
 ghost use Rattle.std.proofs.lemmas.List.Edits.{sets};
 ghost use Rattle.paths.specs.Ends.{held, EndsBoth};

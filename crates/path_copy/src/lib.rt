@@ -1,4 +1,6 @@
 // Paths copied from one pair of slices to another.
+#![tactic(auto)]
+
 ghost use Rattle.std.specs.Prelude.{◌≡◌, ◌≤◌, length, take};
 ghost use Rattle.paths.specs.Paths.{paths_with};
 ghost use Rattle.paths.specs.Ends.{places, all_points, EndsBoth};

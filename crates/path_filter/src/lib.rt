@@ -1,4 +1,6 @@
 // The filter's work on one point, by the outcome of its test.
+#![tactic(auto)]
+
 ghost use Rattle.std.specs.Prelude.{◌*◌, ◌≤◌, length};
 ghost use Rattle.paths.specs.Ends.{places, held, EndsBoth};
 ghost use Rattle.path_filter.specs.Filter.{stepped};

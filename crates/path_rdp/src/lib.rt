@@ -1,4 +1,6 @@
 // The vertex that splits a path, in simplification by Ramer, Douglas and Peucker.
+#![tactic(auto)]
+
 ghost use Rattle.std.specs.Prelude.{◌≡◌, ◌+◌, ◌*◌, ◌≤◌, length};
 ghost use Rattle.std.proofs.Math.Seq.{slice};
 ghost use Rattle.sqrt.specs.Root.{sqrt_of};

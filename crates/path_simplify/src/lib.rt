@@ -1,4 +1,6 @@
 // Simplification of paths by Ramer, Douglas and Peucker.
+#![tactic(auto)]
+
 ghost use Rattle.std.specs.Prelude.{◌≡◌, false, not, ℕ, ◌+◌, ◌-◌, ◌*◌, ◌≤◌, ◌<◌, T, length, take, get_or, set};
 ghost use Rattle.std.proofs.Math.Seq.{slice};
 ghost use Rattle.std.specs.Float.Ieee.{lt, is_nan, of_bits, to_bits};

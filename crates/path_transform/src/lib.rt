@@ -1,4 +1,6 @@
 // Points moved by a matrix, in place.
+#![tactic(auto)]
+
 ghost use Rattle.std.specs.Prelude.{◌≡◌, ◌*◌, ◌≤◌, length};
 ghost use Rattle.path_transform.specs.Transform.{transformed};
 

@@ -1,5 +1,7 @@
 // Points and starts of paths in lent slices, with the Rust's verbs; what is asked of paths that are
 // handed in; and how a call on paths ends.
+#![tactic(auto)]
+
 ghost use Rattle.std.specs.Prelude.{◌≡◌, ℕ, ◌*◌, ◌≤◌, ◌<◌, length, take};
 ghost use Rattle.std.proofs.Math.Seq.{slice};
 ghost use Rattle.rows.specs.Points.{points};

@@ -1,5 +1,7 @@
 // Pen travel: the undrawn path whose first point is nearest to the pen, over two drawings, the yard and
 // its dimension lines.
+#![tactic(auto)]
+
 ghost use Rattle.std.specs.Prelude.{true, ◌≡◌, ◌+◌, ◌*◌, ◌≤◌, ◌<◌, length};
 ghost use Rattle.std.proofs.Math.Seq.{slice};
 ghost use Rattle.plotter_pens.specs.Pens.{lent_drawing};

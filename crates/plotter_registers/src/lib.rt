@@ -1,5 +1,7 @@
 // The plotter's registers without a machine: what a write answers and leaves, and what a step does, by value;
 // then the same on registers that are lent.
+#![tactic(auto)]
+
 ghost use Rattle.std.specs.Prelude.{◌≡◌, ◌<◌};
 ghost use Rattle.plotter_registers.specs.Plotter as Plotter;
 

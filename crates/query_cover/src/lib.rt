@@ -1,4 +1,6 @@
 // The public calls that say whether a point is covered at all: of one point, and of many on one scene.
+#![tactic(auto)]
+
 ghost use Rattle.std.specs.Prelude.{◌≡◌, ◌*◌, ◌≤◌, length, get_or, Float};
 ghost use Rattle.geometry.specs.declared.ray.Ray.{Ray};
 ghost use Rattle.rows.specs.Rows.{padded};

@@ -1,4 +1,6 @@
 // Request (xii), one yard from two files: two accepted scenes merged into one.
+#![tactic(auto)]
+
 ghost use Rattle.std.specs.Prelude.{◌≡◌, ◌+◌, ◌≤◌, length, leb};
 ghost use Rattle.scene.specs.Scenes.{scene_of};
 ghost use Rattle.scene_merge.specs.MergedScenes as MergedScenes;

@@ -1,4 +1,6 @@
 // The public calls on a scene: its tree, the nearest hit and the eye test.
+#![tactic(auto)]
+
 ghost use Rattle.std.specs.Prelude.{◌≡◌, [], ◌≤◌, length, take};
 ghost use Rattle.floats.specs.Arith.{zero_f};
 ghost use Rattle.geometry.specs.declared.ray.Ray.{Ray};

@@ -1,4 +1,6 @@
 // What the solid at an entry of a scene answers by itself: its hit, and what it contains.
+#![tactic(auto)]
+
 pub mod answers;
 pub mod simple;
 

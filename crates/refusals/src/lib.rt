@@ -1,4 +1,6 @@
 // Why a call is refused: document 01's numbers 2 to 13 and document 02's 14, by what each says; 10 is unused.
+#![tactic(auto)]
+
 ghost use Rattle.std.specs.Prelude.{◌≡◌};
 ghost use Rattle.refusals.specs.Refusals.{number_of};
 

@@ -1,5 +1,7 @@
 // Rows of a fixed width in flat lent slices: points, boxes, and what belongs to an entry of a scene;
 // clearing a slice from a place on; and the check of path starts.
+#![tactic(auto)]
+
 ghost use Rattle.std.specs.Prelude.{◌≡◌, [], ◌∷◌, ◌++◌, ◌+◌, ◌-◌, ◌*◌, ◌≤◌, ◌<◌, length, take, replicate};
 ghost use Rattle.std.proofs.lemmas.List.Edits.{sets};
 ghost use Rattle.floats.specs.Arith.{zero_f};

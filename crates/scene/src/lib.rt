@@ -1,2 +1,4 @@
 // Scenes: five slices, and what the numbers and marks of their entries stand for.
+#![tactic(auto)]
+
 pub mod entry;

@@ -1,5 +1,7 @@
 // The lists of two scenes merged into one, each laid into a lent slice: the first scene's, then the second's with
 // its indices raised, then zeros.
+#![tactic(auto)]
+
 ghost use Rattle.std.specs.Prelude.{◌≡◌, ◌++◌, ◌+◌, ◌*◌, ◌/◌, ◌^◌, ◌≤◌, ◌<◌, length, take, get_or};
 ghost use Rattle.floats.specs.Arith.{zero_f};
 ghost use Rattle.rows.specs.Rows.{padded};

@@ -1,5 +1,7 @@
 // Hits and insides of the solids of a scene: placed parts (shape.rs) and cuts (csg.rs), whose parts may
 // be such themselves.
+#![tactic(auto)]
+
 ghost use Rattle.std.specs.Prelude.{◌≡◌, ◌⊎◌, false, ◌+◌, ◌*◌, ◌≤◌, ◌<◌, length};
 ghost use Rattle.scene_shape.specs.Cuts as Cuts;
 ghost use Rattle.scene.specs.Entries.{matrix_of, parts_of, marks_at, numbers_at};

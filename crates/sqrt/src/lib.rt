@@ -2,6 +2,8 @@
 // operations. An estimate in floats is tested exactly in integers; where it is off by more than one,
 // which among normal numbers no input is known to reach, the root is found digit by digit instead. So
 // the contracts rest on integers alone, and nothing is proved, or assumed, of the estimate.
+#![tactic(auto)]
+
 ghost use Rattle.std.specs.Prelude.{◌≡◌, ℕ, ◌+◌, ◌*◌, ◌^◌, ◌<◌, ◌≤◌, false, FitsSigned, from_bits};
 ghost use Rattle.std.specs.Int.{w64};
 ghost use Rattle.std.specs.Float.{binary64};

@@ -1,5 +1,7 @@
 // Writes the table of degrees as the proved functions answer it: for each degree the cosine and the sine in
 // units of 2^-53, then the bit pattern of each as an f64. It must be what tools/degrees/generate prints.
+#![tactic(auto)]
+
 ghost use Rattle.std.specs.Prelude.{◌≡◌, not, ◌^◌, ◌≤◌, T, nat_abs};
 ghost use Rattle.std.specs.Float.Ieee.{is_nan};
 

@@ -1,5 +1,7 @@
 // Reads records of 41 words of 8 bytes, and writes how many there are and how many are wrong: word 0
 // is the call, words 1 to 23 are its inputs and words 24 to 40 its answers, each with zeros after it.
+#![tactic(auto)]
+
 ghost use Rattle.std.specs.Prelude.{◌≡◌, ◌+◌, ◌*◌, ◌≤◌, length};
 ghost use Rattle.test_leaves.specs.Inputs.{box_from, numbers_from, solid_from};
 ghost use Rattle.test_leaves.specs.Answers.{simple_answer, told_hit, simple_box, told_contains};

@@ -2,6 +2,8 @@
 // the plotter's registers by that way; writes how many paths it drew, how many tenths of a millimetre the pen
 // went up and down, and the number that the last pick met. A move is as long as its longer axis. The list is
 // made by tools/plotter/stored: the numbers of the points, then the path starts, in words of 8 bytes.
+#![tactic(auto)]
+
 ghost use Rattle.std.specs.Prelude.{◌≤◌, length};
 
 use geometry::vector::Vector;

@@ -1,5 +1,7 @@
 // Asks the public calls on a scene what is known of small scenes, and writes how many questions there
 // are and how many of the answers are wrong.
+#![tactic(auto)]
+
 ghost use Rattle.std.specs.Prelude.{◌≡◌, ◌≤◌, length};
 ghost use Rattle.tree_nodes.specs.Nodes.{places_of};
 ghost use Rattle.query_scene.specs.Queries.{build_of, intersect_of, visible_of, occluder_of};

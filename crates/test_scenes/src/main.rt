@@ -1,5 +1,7 @@
 // Reads records of 256 words of 8 bytes, and writes how many there are and how many are wrong. A record
 // is a scene with what is asked of it, and the answers of the calls on it (specs/Records).
+#![tactic(auto)]
+
 ghost use Rattle.std.specs.Prelude.{◌≡◌, ◌+◌, ◌*◌, length};
 ghost use Rattle.scene.specs.Scenes.{scene_of};
 ghost use Rattle.test_scenes.specs.Records.{check_right, own_hit_right, own_contains_right, answers_right, slices_fit, scene_right, wrong_scenes};

@@ -1,6 +1,8 @@
 // Reads records of three words of 8 bytes, the bit pattern of an f64, that of its root and the root's
 // remainder in two's complement, and writes how many there are and how many are not what `sqrt` gives. A
 // NaN's pattern is 7FF8000000000000. The list is made by tools/vectors/sqrt.py.
+#![tactic(auto)]
+
 ghost use Rattle.std.specs.Prelude.{◌≡◌, ◌+◌, ◌*◌, ◌≤◌, length};
 ghost use Rattle.std.specs.Float.{binary64};
 ghost use Rattle.std.specs.Float.Ieee.{to_bits};

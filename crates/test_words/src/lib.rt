@@ -1,5 +1,7 @@
 // The words of 8 bytes of a slice of bytes, most significant byte first: read as numbers, floats, points
 // and rays, compared with answers, and copied to slices; and the count of records that are wrong.
+#![tactic(auto)]
+
 ghost use Rattle.std.specs.Prelude.{◌≡◌, ◌+◌, ◌*◌, ◌≤◌, ◌<◌, eqb, length, take};
 ghost use Rattle.test_words.specs.Words.{half_at, word_at, float_at, point_at, ray_at, same_bits, all_same, flag_of, signed_word, floats_from, marks_from, counts_from};
 ghost use Rattle.test_words.specs.Counts.{missed};

@@ -1,5 +1,7 @@
 // Reads stored texts of yards with their answers, and writes how many there are and how many are wrong
 // (specs/Records). The list is made by tools/differential/lists.
+#![tactic(auto)]
+
 ghost use Rattle.std.specs.Prelude.{◌≡◌, ◌+◌, ◌-◌, ◌*◌, ◌≤◌, length};
 ghost use Rattle.test_yard.specs.Records.{reply_right, right_at, count_of, wrong_texts};
 

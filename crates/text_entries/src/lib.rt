@@ -1,4 +1,6 @@
 // The form of an entry of a scene in canonical text, with those of its parts in it.
+#![tactic(auto)]
+
 ghost use Rattle.std.specs.Prelude.{◌≡◌, ◌∷◌, [], ◌++◌, ℕ, ◌≤◌, length};
 ghost use Rattle.scene.specs.Scenes.{scene_of};
 ghost use Rattle.text_heads.specs.Heads.{place, cut};

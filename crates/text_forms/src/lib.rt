@@ -1,4 +1,6 @@
 // A form of a solid, from a line of `yard`'s text, with its inner forms before it, into lent slices.
+#![tactic(auto)]
+
 ghost use Rattle.std.specs.Prelude.{◌≡◌, List, [], ◌∷◌, ◌++◌, ℕ, ◌+◌, ◌-◌, ◌*◌, ◌≤◌, ◌<◌, length, take, Float};
 ghost use Rattle.rows.specs.Rows.{set_row};
 ghost use Rattle.rows.specs.Entries.{numbers_row};

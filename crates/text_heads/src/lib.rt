@@ -1,5 +1,7 @@
 // The beginnings of forms, lines and the view, from a line of `yard`'s text. A reader takes the place in
 // the line and how much is held, and gives both anew.
+#![tactic(auto)]
+
 ghost use Rattle.std.specs.Prelude.{◌≡◌, List, [], ℕ, ◌-◌, ◌*◌, ◌≤◌, length, take, drop, Float};
 ghost use Rattle.scene.specs.Scenes.{scene_of};
 ghost use Rattle.text_tokens.specs.Tokens.{left};

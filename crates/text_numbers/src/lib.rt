@@ -1,4 +1,6 @@
 // Numbers as `yard` reads them: words of bytes to whole numbers and floats.
+#![tactic(auto)]
+
 ghost use Rattle.std.specs.Prelude.{◌≡◌};
 ghost use Rattle.text_numbers.specs.Numerals.{digit_of, decimal_of, hex_of, numeral_of};
 

@@ -1,4 +1,6 @@
 // What the program `yard` answers a text.
+#![tactic(auto)]
+
 ghost use Rattle.std.specs.Prelude.{◌≡◌, ◌≤◌, length, take};
 ghost use Rattle.scene.specs.Scenes.{scene_of};
 ghost use Rattle.text_drawing.specs.Drawings.{fitting, written, laid};

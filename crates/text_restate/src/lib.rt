@@ -1,4 +1,6 @@
 // What the program `canonical` answers a text: the same yard in canonical form, or why it is refused.
+#![tactic(auto)]
+
 ghost use Rattle.std.specs.Prelude.{◌≡◌, ◌≤◌, length, take};
 ghost use Rattle.scene.specs.Scenes.{scene_of};
 ghost use Rattle.text_drawing.specs.Drawings.{fitting, written, laid};

@@ -1,4 +1,6 @@
 // The text of `yard` to a view and a scene in lent arrays.
+#![tactic(auto)]
+
 ghost use Rattle.std.specs.Prelude.{◌≡◌, ◌+◌, ◌≤◌, length};
 ghost use Rattle.floats.specs.Arith.{zero_f};
 ghost use Rattle.rows.specs.Rows.{padded};

@@ -1,4 +1,6 @@
 // Tokens of a line of `yard`'s text: brackets, and words between spaces; and what one token says.
+#![tactic(auto)]
+
 ghost use Rattle.std.specs.Prelude.{◌≡◌, ◌+◌, ◌≤◌, ◌<◌, length, get_or, true, ◌∷◌};
 ghost use Rattle.text_tokens.specs.Tokens.{left, part, word_byte, word, word_in, open_in, close_in, is_over, number_in, count_in, count_or};
 ghost use Rattle.text_tokens.specs.Seen.{seen, TokenWithin, span_as, WordWithin, found_as, step_as, counted_as};

@@ -1,4 +1,6 @@
 // The canonical writer (document 02, xii): a view and a scene as forms, in a lent slice of bytes.
+#![tactic(auto)]
+
 ghost use Rattle.std.specs.Prelude.{◌≡◌, [], ◌∷◌, ◌++◌, map, length};
 ghost use Rattle.rows.specs.Rows.{flat};
 ghost use Rattle.scene.specs.Scenes.{scene_of};

@@ -1,1 +1,3 @@
 // What the filters of a draw and of a cut pass: statements in specs/, proofs in proofs/.
+
+#![tactic(auto)]

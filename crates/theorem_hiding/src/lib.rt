@@ -1,1 +1,3 @@
 // Demand 3 on hiding, of any solids: definitions and statements in specs/, proofs in proofs/.
+
+#![tactic(auto)]

@@ -1,5 +1,7 @@
 // Boxes that a ray misses, shown by products with bounds on the reciprocals of its direction, in place of the six
 // divisions of the box test.
+#![tactic(auto)]
+
 ghost use Rattle.std.specs.Prelude.{◌≡◌};
 ghost use Rattle.tree_beams.specs.Beams.{is_shown, aim_of, greater_f, lesser_f, latest_of, soonest_of, misses_box};
 

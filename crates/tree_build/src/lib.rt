@@ -1,6 +1,8 @@
 // The build of the tree (`Tree::new`, tree.rs) over boxes in a slice, 6 numbers a solid: the nodes go
 // to two lent slices, `node_boxes` for their boxes and `node_marks`, and the solids' numbers are put into the
 // order of the leaves.
+#![tactic(auto)]
+
 ghost use Rattle.std.specs.Prelude.{◌≡◌, ◌*◌, ◌≤◌, ◌<◌, length, replicate, take};
 ghost use Rattle.floats.specs.Arith.{zero_f};
 ghost use Rattle.tree_nodes.specs.Nodes.{node_at, places_of};

@@ -1,5 +1,7 @@
 // Whether a point is covered at all: the walk of a tree that stops at the first solid whose distance falls
 // short of the eye.
+#![tactic(auto)]
+
 ghost use Rattle.std.specs.Prelude.{◌≡◌, ◌+◌, ◌≤◌, Float};
 ghost use Rattle.geometry.specs.declared.ray.Ray.{Ray};
 ghost use Rattle.tree_walk.specs.Walks.{entry_hit};

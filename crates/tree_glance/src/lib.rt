@@ -1,6 +1,8 @@
 // The eye test by a glance: a walk that leaves out what cannot change its answer. It tells boxes that the ray misses
 // by products, stops at the first solid that falls short where no refusal can follow, and tries the solid
 // that hid the last point first. Where it is not sure, the full walk answers.
+#![tactic(auto)]
+
 ghost use Rattle.std.specs.Prelude.{◌≡◌, ◌⊎◌, true, false, [], ◌+◌, ◌*◌, ◌≤◌, ◌<◌, length, get_or, take, drop, T};
 ghost use Rattle.std.specs.Float.Ieee.{le};
 ghost use Rattle.floats.specs.Arith.{INF};

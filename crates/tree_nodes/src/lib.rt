@@ -1,4 +1,6 @@
 // The nodes of a tree of boxes in lent slices: a row of 6 numbers and a row of 3 marks each.
+#![tactic(auto)]
+
 ghost use Rattle.std.specs.Prelude.{◌≡◌, ◌+◌, ◌*◌, ◌≤◌, length};
 ghost use Rattle.rows.specs.Rows.{set_row};
 ghost use Rattle.rows.specs.Points.{box_row};

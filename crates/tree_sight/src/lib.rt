@@ -1,4 +1,6 @@
 // The eye test (scene.rs): whether a point is seen from the eye past the solids of a tree.
+#![tactic(auto)]
+
 ghost use Rattle.std.specs.Prelude.{◌≡◌};
 ghost use Rattle.geometry.specs.declared.ray.Ray.{Ray};
 ghost use Rattle.tree_walk.specs.Walks.{entry_hit, walk_rows};

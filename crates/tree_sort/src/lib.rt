@@ -1,4 +1,6 @@
 // A stable merge sort of numbers by the floats that they name.
+#![tactic(auto)]
+
 ghost use Rattle.std.specs.Prelude.{◌≡◌, ◌≤◌, ◌<◌, length, take, drop, get_or};
 ghost use Rattle.tree_sort.specs.Sort.{by_key, HasKey, inserted, sorted, merged};
 ghost use Rattle.lists.specs.Lists.{Each};

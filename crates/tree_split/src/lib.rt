@@ -1,6 +1,8 @@
 // The parts of the tree's build (`Tree::new`, tree.rs) that read the solids' boxes: their hull, the
 // axis along which they lie, and the best split by surface-area cost. The boxes stand in a slice, 6
 // numbers each; an order lists the solids of a node by their numbers.
+#![tactic(auto)]
+
 ghost use Rattle.std.specs.Prelude.{◌≡◌, ℕ, ◌-◌, ◌≤◌, ◌<◌, length, get_or};
 ghost use Rattle.lists.specs.Lists.{Each};
 ghost use Rattle.tree_split.specs.Build.{box_at, Fits, middle, middle_box, area_of, hull_of, axis_of, on_axis, cost_by, better_of, best_upto, Swept};

@@ -1,5 +1,7 @@
 // Which trees a walk may leave something out of: those that are shallow, and whose boxes lie in one another. It is
 // looked up in the slices, so that nothing is asked of who filled them.
+#![tactic(auto)]
+
 ghost use Rattle.std.specs.Prelude.{◌≡◌, ◌<◌, ◌≤◌};
 ghost use Rattle.tree_nodes.specs.Nodes.{node_at, places_of};
 ghost use Rattle.tree_trust.specs.Trust.{is_under, is_sound, is_inside, joined_of, nodes_from, is_trusted, is_uncut};

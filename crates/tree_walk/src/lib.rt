@@ -1,4 +1,6 @@
 // The nearest hit of a ray: the walk of a tree in lent slices (tree.rs).
+#![tactic(auto)]
+
 ghost use Rattle.std.specs.Prelude.{◌≡◌, ◌||◌, ◌+◌, ◌*◌, ◌≤◌, ◌<◌, length, take, drop, eqb, ltb};
 ghost use Rattle.geometry.specs.Boxes.{box_test, skips};
 ghost use Rattle.rows.specs.Rows.{row};

@@ -1,4 +1,6 @@
 // A view, and what the Rust's `render` makes of it.
+#![tactic(auto)]
+
 ghost use Rattle.std.specs.Prelude.{◌≡◌};
 ghost use Rattle.view.specs.Views as Views;
 

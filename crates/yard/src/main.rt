@@ -1,3 +1,4 @@
+#![tactic(auto)]
 // The program `yard`: reads forms from standard input, and prints their drawing, or why they are refused.
 fn main() {
     let mut text = [0u8; 65537];

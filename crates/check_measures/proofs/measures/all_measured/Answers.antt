@@ -1,0 +1,33 @@
+use Rattle.lists.proofs.Tests.{Passed, passed_start, passed-turn, passed-fails, passed-end}
+use Rattle.check_measures.specs.Measures.{measured}
+use Rattle.scene.specs.Entries.{marks_at, numbers_at}
+use native.Mathlib.Omega.{arith}
+use mathlib.Core.Path.{◌∙◌}
+use Prim.Native.Nat.{◌-◌}
+use borrow.Author.Tests.{not-true, not-false}
+use borrow.Author.Rules.{rules}
+use Rattle.check_measures.proofs.measures.all_measured.Goals as goal
+
+pub loop-i-init : goal.loop-i-init
+loop-i-init c =
+    passed_start _ _
+
+pub read_marks-m-requires : goal.read_marks-m-requires
+read_marks-m-requires c =
+    omega (arith, c.loop-i-test.true)
+
+pub read_numbers-requires : goal.read_numbers-requires
+read_numbers-requires c =
+    let pre = c.requires in omega (arith, c.loop-i-test.true, pre)
+
+pub returns-then-not-measured : goal.returns-then-not-measured
+returns-then-not-measured c =
+    let measured' = ? in passed-fails _ _ _ c.loop-i.invariant c.loop-i-test.true (measured'.ensures ∙ rw (c.read_marks-m.ensures, c.read_numbers.ensures)) (not-true _ c.if-not-measured.true)
+
+pub loop-i-preserved : goal.loop-i-preserved
+loop-i-preserved c =
+    let measured' = ? in passed-turn _ _ _ c.loop-i.invariant c.loop-i-test.true (measured'.ensures ∙ rw (c.read_marks-m.ensures, c.read_numbers.ensures)) (not-false _ c.if-not-measured.false)
+
+pub returns : goal.returns
+returns c =
+    passed-end _ _ _ c.loop-i.invariant c.loop-i-test.false

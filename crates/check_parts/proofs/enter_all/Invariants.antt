@@ -1,0 +1,16 @@
+use Rattle.check_parts.proofs.Parts.{never, ill-all, ok-more}
+use Rattle.check_parts.specs.Parts.{Known, parts_ok, Flags, named_before}
+use borrow.Author.Tests.{not-true, not-false}
+use lib.ListN.{length}
+use native.Mathlib.Nat.{le_antisymm}
+use native.Mathlib.Omega.{arith}
+use mathlib.Core.Bool.{true}
+use mathlib.Core.Path.{◌≡◌, refl, sym, ap, subst, ◌∙◌}
+use Prim.Native.Nat.{ℕ, ◌≤◌, ◌-◌}
+use Rattle.check_parts.proofs.enter_all.Given as goal
+
+abbrev pub invariant-loop-i : goal.invariant-loop-i
+invariant-loop-i l = (l.i ≤ l.n) × (length l.depths ≡ length l.initial.depths) × (length l.named ≡ length l.initial.named) × Known l.marks l.i l.depths l.named × (parts_ok l.marks l.i ≡ true)
+
+abbrev pub decreases-loop-i : goal.decreases-loop-i
+decreases-loop-i l = l.n - l.i

@@ -1,0 +1,11 @@
+use native.Mathlib.Omega.{arith}
+use Prim.Native.Nat.{◌-◌}
+use Rattle.check_parts.proofs.Drawn.{Listed, listed_start, listed-skip, listed-put, listed-end}
+use borrow.Author.Rules.{rules}
+use Rattle.check_parts.proofs.list_unnamed.Given as goal
+
+abbrev pub invariant-loop-i : goal.invariant-loop-i
+invariant-loop-i l = Listed l.named l.initial.drawn l.n l.drawn l.i l.d
+
+abbrev pub decreases-loop-i : goal.decreases-loop-i
+decreases-loop-i l = l.n - l.i

@@ -1,0 +1,21 @@
+use Rattle.paths.proofs.Stages.{one-full, one-refused, one-done}
+use Rattle.draw_lines.specs.Pushing.{copied}
+use native.Mathlib.Omega.{arith}
+use borrow.Author.Rules.{rules}
+use Rattle.draw_lines.proofs.one_path.Goals as goal
+
+pub close-z-requires : goal.close-z-requires
+close-z-requires c =
+    omega (arith, c.new_path-o.ensures.fits _ c.in-At.is)
+
+pub returns-in-Refused : goal.returns-in-Refused
+returns-in-Refused c =
+    let args = c.args in one-full copied _ args.out.now args.begins.now args.n args.m _ c.new_path-o.ensures c.in-Refused.is
+
+pub returns-in-Refused-r : goal.returns-in-Refused-r
+returns-in-Refused-r c =
+    let args = c.args in one-refused copied _ args.out.now args.begins.now args.n args.m _ c.new_path-o.ensures c.in-At.is _ c.extend-r.ensures c.in-Refused-r.is
+
+pub returns-in-At-r : goal.returns-in-At-r
+returns-in-At-r c =
+    let args = c.args in one-done copied _ args.out.now args.begins.now args.n args.m _ c.new_path-o.ensures c.in-At.is _ c.extend-r.ensures _ c.in-At-r.is c.close-z.ensures.0 c.close-z.ensures.1

@@ -1,0 +1,8 @@
+use Rattle.draw_rings.specs.Spheres.{sphere_ring}
+use borrow.Author.Rules.{rules}
+use Rattle.draw_outlines.proofs.sphere_ring.Goals as goal
+
+pub returns : goal.returns
+unfolding sphere_ring
+returns c =
+    simp (← c.root.ensures)

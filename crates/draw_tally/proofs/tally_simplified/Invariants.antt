@@ -1,0 +1,16 @@
+use mathlib.Core.Path.{◌≡◌, refl, sym, ◌∙◌}
+use Prim.Native.Nat.{◌-◌}
+use native.Mathlib.Omega.{arith}
+use lib.ListN.{length}
+use Rattle.paths.proofs.Parts.{range-fits}
+use Rattle.draw_tally.specs.Tallies.{simplify_tally}
+use Rattle.draw_tally.proofs.Telling.{simplified-told}
+use Rattle.draw_tally.proofs.Turning.{Counting, counting-start, counting-turn, counting-refused, counting-end, added-points}
+use borrow.Author.Rules.{rules}
+use Rattle.draw_tally.proofs.tally_simplified.Given as goal
+
+abbrev pub invariant-loop-i : goal.invariant-loop-i
+invariant-loop-i l = (length l.spare ≡ length l.initial.spare) × Counting (simplify_tally l.threshold l.room l.begins) l.room l.path l.starts l.i l.n l.m
+
+abbrev pub decreases-loop-i : goal.decreases-loop-i
+decreases-loop-i l = length l.starts - l.i

@@ -1,9 +1,0 @@
-use Rattle.floats.proofs.Tests.{finite-test}
-use Rattle.floats.proofs.is_finite.Statement.{statement}
-use Rattle.floats.proofs.is_finite.Tie as tie
-
-returns : tie.Need-returns
-returns c = finite-test c.args.x
-
-pub is-finite-spec : {M : Type 1} → statement M
-is-finite-spec = tie.close (tie.spec returns)

@@ -1,0 +1,7 @@
+use Rattle.host.proofs.CoverCalls.{covered-so}
+use borrow.Author.Rules.{rules}
+use Rattle.host.proofs.covers.larnt_covered.Goals as goal
+
+pub returns : goal.returns
+returns c =
+    covered-so _ _ _ _ c.covered-s.ensures c.point.ensures c.point-2.ensures c.sight_number.ensures c.in_sight.ensures

@@ -1,0 +1,10 @@
+use Rattle.host.proofs.Calls.{contains-so}
+use Rattle.query_solid.specs.Answers.{contained_number, inside}
+use mathlib.Core.Path.{ap, ◌∙◌}
+use borrow.Author.Rules.{rules}
+use Rattle.host.proofs.larnt_own_contains.Goals as goal
+
+pub returns : goal.returns
+returns c =
+    let h = contains-so _ _ _ _ _ c.own_contains-c.ensures c.point.ensures in
+    (c.contained_number.ensures ∙ ap contained_number h, c.inside.ensures ∙ ap inside h)

@@ -1,0 +1,13 @@
+use Rattle.host.specs.StageCalls.{points_told}
+use borrow.Author.Rules.{rules}
+use Rattle.host.proofs.stages.point_count.Goals as goal
+
+pub returns-in-Both : goal.returns-in-Both
+unfolding points_told
+returns-in-Both c =
+    rw c.in-Both.is
+
+pub returns-in-Refused : goal.returns-in-Refused
+unfolding points_told
+returns-in-Refused c =
+    rw c.in-Refused.is

@@ -1,0 +1,6 @@
+use borrow.Author.Rules.{rules}
+use Rattle.path_chop.proofs.read_spot.Goals as goal
+
+pub returns : goal.returns
+returns c =
+    simp c.read_box-b.ensures

@@ -1,0 +1,12 @@
+use Rattle.path_simplify.proofs.Thinning.{Thinning, thinning-short, thinning-none, thinning-start, thinning-back, thinning-place, thinning-number, thinning-below, thinning-inside, thinning-split, thinning-full, thinning-write, thinning-end}
+use mathlib.Core.Path.{◌∙◌}
+use native.Mathlib.Omega.{arith}
+use Prim.Native.Nat.{◌-◌, ◌*◌}
+use borrow.Author.Rules.{rules}
+use Rattle.path_simplify.proofs.path_simplify.Given as goal
+
+abbrev pub invariant-loop-w : goal.invariant-loop-w
+invariant-loop-w l = Thinning l.threshold l.path l.initial.out l.from l.end l.n l.room l.out l.a l.m l.w
+
+abbrev pub decreases-loop-w : goal.decreases-loop-w
+decreases-loop-w l = 2 * (l.end - l.a) - l.w

@@ -1,0 +1,13 @@
+use Rattle.paths.specs.Ranges.{lesser_of}
+use borrow.Author.Tests.{lt-ltb, le-ltb}
+use Rattle.paths.proofs.lesser.Goals as goal
+
+pub returns-then-b-a : goal.returns-then-b-a
+unfolding lesser_of
+returns-then-b-a c =
+    rw (lt-ltb _ _ c.if-b-a.true)
+
+pub returns-else-b-a : goal.returns-else-b-a
+unfolding lesser_of
+returns-else-b-a c =
+    rw (le-ltb _ _ c.if-b-a.false)

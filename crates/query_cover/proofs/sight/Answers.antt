@@ -1,0 +1,12 @@
+use borrow.Author.Tests.{not-true, not-false}
+use Rattle.query_cover.proofs.Answers.{past-refused, past_is}
+use borrow.Author.Rules.{rules}
+use Rattle.query_cover.proofs.sight.Goals as goal
+
+pub returns-then-not-within_point : goal.returns-then-not-within_point
+returns-then-not-within_point c =
+    past-refused _ _ _ c.within_point.ensures (not-true _ c.if-not-within_point.true)
+
+pub returns : goal.returns
+returns c =
+    past_is _ _ _ c.within_point.ensures (not-false _ c.if-not-within_point.false) c.covered.ensures

@@ -1,0 +1,9 @@
+use Rattle.query_merge.specs.Merging.{given_sizes}
+use mathlib.Core.Path.{sym}
+use borrow.Author.Rules.{rules}
+use Rattle.query_merge.proofs.given_sizes.Goals as goal
+
+pub returns : goal.returns
+unfolding given_sizes
+returns c =
+    rw c.given-n.ensures.value

@@ -1,0 +1,22 @@
+use Rattle.query_merge.proofs.Answers.{mergeable-so, merges-refused, merges-into}
+use Rattle.query_merge.specs.Merging.{sizes_of}
+use Rattle.check_scene.proofs.Verdicts.{cleared}
+use Rattle.floats.specs.Arith.{zero_f}
+use mathlib.Core.Path.{refl}
+use borrow.Author.Rules.{rules}
+use Rattle.query_merge.proofs.merge.Goals as goal
+
+pub fill-requires : goal.fill-requires
+unfolding sizes_of
+fill-requires c =
+    mergeable-so _ _ _ c.judged-r.ensures c.in-Into.is
+
+pub returns-in-Refused : goal.returns-in-Refused
+unfolding sizes_of
+returns-in-Refused c =
+    let args = c.args in merges-refused _ _ _ c.judged-r.ensures c.in-Refused.is (cleared zero_f args.out-numbers.now refl c.clear.ensures) (cleared 0 args.out-marks.now refl c.clear_marks.ensures) (cleared zero_f args.out-points.now refl c.clear-in-Refused.ensures) (cleared 0 args.out-starts.now refl c.clear_starts.ensures) (cleared 0 args.out-owners.now refl c.clear_marks-in-Refused.ensures)
+
+pub returns-in-Into : goal.returns-in-Into
+unfolding sizes_of
+returns-in-Into c =
+    merges-into _ _ _ c.judged-r.ensures c.in-Into.is c.fill.ensures

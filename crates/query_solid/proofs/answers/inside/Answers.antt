@@ -1,0 +1,13 @@
+use Rattle.query_solid.specs.Answers.{inside}
+use borrow.Author.Rules.{rules}
+use Rattle.query_solid.proofs.answers.inside.Goals as goal
+
+pub returns-in-Inside : goal.returns-in-Inside
+unfolding inside
+returns-in-Inside c =
+    rw c.in-Inside.is
+
+pub returns-in-Refused : goal.returns-in-Refused
+unfolding inside
+returns-in-Refused c =
+    rw c.in-Refused.is

@@ -1,0 +1,13 @@
+use Rattle.query_solid.specs.Answers.{verdict_number}
+use borrow.Author.Rules.{rules}
+use Rattle.query_solid.proofs.answers.verdict_number.Goals as goal
+
+pub returns-in-Accepted : goal.returns-in-Accepted
+unfolding verdict_number
+returns-in-Accepted c =
+    rw c.in-Accepted.is
+
+pub returns-in-Refused : goal.returns-in-Refused
+unfolding verdict_number
+returns-in-Refused c =
+    rw c.in-Refused.is c.number.ensures

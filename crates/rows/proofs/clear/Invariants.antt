@@ -1,0 +1,12 @@
+use Rattle.floats.specs.Arith.{zero_f}
+use Prim.Native.Nat.{◌-◌}
+use borrow.Author.Rules.{rules}
+use lib.ListN.{length}
+use Rattle.rows.proofs.Rows.{Filled, filled-start, filled-turn, filled-end}
+use Rattle.rows.proofs.clear.Given as goal
+
+abbrev pub invariant-loop-i : goal.invariant-loop-i
+invariant-loop-i l = Filled zero_f l.initial.xs l.from l.xs l.i
+
+abbrev pub decreases-loop-i : goal.decreases-loop-i
+decreases-loop-i l = length l.initial.xs - l.i

@@ -1,0 +1,23 @@
+use Prim.Native.Nat.{◌*◌}
+use borrow.Author.Rules.{rules}
+use native.Mathlib.Omega.{arith}
+use lib.ListN.{length-set}
+use Rattle.rows.specs.Points.{point_row}
+use Rattle.rows.proofs.Rows.{written_is}
+use Rattle.rows.proofs.write_point.Goals as goal
+
+pub returns : goal.returns
+returns c =
+    written_is (c.args.i * 3) (point_row c.args.p) c.args.xs.now
+
+pub bounds-xs-at-2 : goal.bounds-xs-at-2
+bounds-xs-at-2 c =
+    simp length-set (omega arith)
+
+pub bounds-xs-at-3 : goal.bounds-xs-at-3
+bounds-xs-at-3 c =
+    simp length-set (omega arith)
+
+pub shape_of-xs : goal.shape_of-xs
+shape_of-xs c =
+    simp length-set

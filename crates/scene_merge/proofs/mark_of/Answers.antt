@@ -1,0 +1,10 @@
+use Rattle.scene_merge.proofs.Raising.{mark-last}
+use Prim.Native.Nat.{ℕ}
+use native.Mathlib.Omega.{arith}
+use mathlib.Core.Path.{◌≡◌, refl}
+use borrow.Author.Rules.{rules}
+use Rattle.scene_merge.proofs.mark_of.Goals as goal
+
+pub returns : goal.returns
+returns c =
+    mark-last _ _ c.requires c.if-place-eq0.false c.if-place-eq1.false c.if-place-eq2.false

@@ -1,0 +1,10 @@
+use borrow.Author.Rules.{rules}
+use Rattle.scene_shape.proofs.by_fields.Goals as goal
+
+pub returns-in-At : goal.returns-in-At
+returns-in-At c =
+    rw c.in-At.is
+
+pub returns-in-Refused : goal.returns-in-Refused
+returns-in-Refused c =
+    rw c.in-Refused.is

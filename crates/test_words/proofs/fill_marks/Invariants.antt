@@ -1,0 +1,15 @@
+use Rattle.test_words.proofs.Filling.{Filled, filled-start, filled-turn, filled-end}
+use Rattle.test_words.specs.Words.{word_at}
+use mathlib.Core.Path.{refl, ap}
+use lib.ListN.{length}
+use native.Mathlib.Omega.{arith}
+use native.Mathlib.Nat.{mod-lt}
+use Prim.Native.Nat.{ℕ, ◌+◌, ◌-◌, ◌%◌}
+use borrow.Author.Rules.{rules}
+use Rattle.test_words.proofs.fill_marks.Given as goal
+
+abbrev pub invariant-loop-j : goal.invariant-loop-j
+invariant-loop-j l = Filled (λ i. word_at l.s (l.k + i % l.period) % 0x1_0000_0000) (length l.initial.xs) l.n l.j l.xs
+
+abbrev pub decreases-loop-j : goal.decreases-loop-j
+decreases-loop-j l = l.n - l.j

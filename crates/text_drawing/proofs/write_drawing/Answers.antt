@@ -1,0 +1,16 @@
+use mathlib.Core.Path.{◌∙◌}
+use Rattle.text_drawing.proofs.Ends.{all-answered, all_laid}
+use borrow.Author.Rules.{rules}
+use Rattle.text_drawing.proofs.write_drawing.Goals as goal
+
+pub finish-requires : goal.finish-requires
+finish-requires c =
+    c.put_text-d.ensures.fits
+
+pub shape_of-text : goal.shape_of-text
+shape_of-text c =
+    c.finish.auto.0 ∙ c.put_text-d.auto.0
+
+pub returns : goal.returns
+returns c =
+    record { answer = all-answered c.put_text-d.ensures c.put_text-d.auto.0 c.finish.ensures.answer c.finish.ensures.lent; lent = all_laid c.put_text-d.ensures c.put_text-d.auto.0 c.finish.ensures.answer c.finish.ensures.lent }

@@ -1,0 +1,16 @@
+use Rattle.text_scene.proofs.Texts.{Formed, formed-start, formed-end, formed-no, formed-more, formed-turn, line-lies}
+use Rattle.text_forms.proofs.Forms.{within-next, sized-kept}
+use Rattle.text_heads.specs.Cursors.{WithinNext}
+use borrow.Author.Tests.{not-true, not-false}
+use lib.ListN.{length}
+use native.Mathlib.Omega.{arith}
+use mathlib.Core.Path.{◌∙◌}
+use Prim.Native.Nat.{◌+◌, ◌-◌}
+use borrow.Author.Rules.{rules}
+use Rattle.text_scene.proofs.forms.Given as goal
+
+abbrev pub invariant-loop-a : goal.invariant-loop-a
+invariant-loop-a l = Formed l.text l.at l.initial.numbers l.initial.marks l.initial.points l.initial.starts l.initial.owners l.numbers l.marks l.points l.starts l.owners l.i l.c
+
+abbrev pub decreases-loop-a : goal.decreases-loop-a
+decreases-loop-a l = length l.text + 1 - l.i

@@ -1,0 +1,14 @@
+use Rattle.text_scene.proofs.Texts.{Skipped, skipped-start, skipped-turn, skipped-line, skipped-over}
+use Rattle.text_scene.specs.Readings.{LineWithin}
+use borrow.Author.Tests.{not-true, not-false}
+use lib.ListN.{length}
+use native.Mathlib.Omega.{arith}
+use Prim.Native.Nat.{◌+◌, ◌-◌}
+use borrow.Author.Rules.{rules}
+use Rattle.text_scene.proofs.next_line.Given as goal
+
+abbrev pub invariant-loop-a : goal.invariant-loop-a
+invariant-loop-a l = Skipped l.text l.at l.a
+
+abbrev pub decreases-loop-a : goal.decreases-loop-a
+decreases-loop-a l = length l.text + 1 - l.a

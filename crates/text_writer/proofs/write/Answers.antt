@@ -1,0 +1,16 @@
+use mathlib.Core.Path.{◌∙◌}
+use Rattle.text_writer.proofs.Written.{ends_so}
+use borrow.Author.Rules.{rules}
+use Rattle.text_writer.proofs.write.Goals as goal
+
+pub finish-requires : goal.finish-requires
+finish-requires c =
+    c.put_checked-c.ensures.1
+
+pub shape_of-text : goal.shape_of-text
+shape_of-text c =
+    c.finish.auto.0 ∙ c.put_checked-c.auto.1.1.1.1.1.1.0
+
+pub returns : goal.returns
+returns c =
+    record { answer = (ends_so c.put_checked-c.result c.put_checked-c.new.1.1.1.1.1.1.0 c.put_checked-c.ensures.0 c.put_checked-c.auto.1.1.1.1.1.1.0 c.finish.ensures.answer c.finish.ensures.lent).0; lent = (ends_so c.put_checked-c.result c.put_checked-c.new.1.1.1.1.1.1.0 c.put_checked-c.ensures.0 c.put_checked-c.auto.1.1.1.1.1.1.0 c.finish.ensures.answer c.finish.ensures.lent).1 }

@@ -1,0 +1,36 @@
+use mathlib.Core.Path.{◌≡◌, refl}
+use Prim.Native.Nat.{◌-◌}
+use lib.ListN.{length}
+use native.Mathlib.Omega.{arith}
+use borrow.Author.Rules.{rules}
+use Rattle.tree_walk.specs.Walks.{entry_hit}
+use Rattle.tree_glance.proofs.Spots.{Spotting, spotting-start, spotting-gone, spotting-end, spotting-unknown, spotting-short, spotting-on, spotting-clear}
+use Rattle.tree_glance.proofs.spot.Goals as goal
+
+pub loop-k-init : goal.loop-k-init
+loop-k-init c =
+    (spotting-start _ _ _ _ _ _, refl)
+
+pub returns-then-at-n : goal.returns-then-at-n
+returns-then-at-n c =
+    spotting-gone _ _ _ _ _ _ _ _ c.loop-k.invariant.0 (omega (arith, c.loop-k.invariant.1, c.if-at-n.true))
+
+pub returns-in-Unknown : goal.returns-in-Unknown
+returns-in-Unknown c =
+    spotting-unknown _ _ _ _ _ _ _ _ c.loop-k.invariant.0 c.loop-k-test.true (omega (arith, c.loop-k.invariant.1, c.if-at-n.false)) _ _ _ _ refl c.index-w.ensures.0 c.entry_hit-a.ensures c.judged-s.ensures c.in-Unknown.is
+
+pub returns-then-calm : goal.returns-then-calm
+returns-then-calm c =
+    spotting-short _ _ _ _ _ _ _ _ c.loop-k.invariant.0 c.loop-k-test.true (omega (arith, c.loop-k.invariant.1, c.if-at-n.false)) _ _ _ _ refl c.index-w.ensures.0 c.entry_hit-a.ensures c.judged-s.ensures _ c.in-Short.is c.if-calm.true
+
+pub loop-k-preserved-in-Short : goal.loop-k-preserved-in-Short
+loop-k-preserved-in-Short c =
+    (spotting-on _ _ _ _ _ _ _ _ c.loop-k.invariant.0 c.loop-k-test.true (omega (arith, c.loop-k.invariant.1, c.if-at-n.false)) _ _ _ _ refl c.index-w.ensures.0 c.entry_hit-a.ensures c.judged-s.ensures _ c.in-Short.is c.if-calm.false, c.loop-k.invariant.1)
+
+pub loop-k-preserved : goal.loop-k-preserved
+loop-k-preserved c =
+    (spotting-clear _ _ _ _ _ _ _ _ c.loop-k.invariant.0 c.loop-k-test.true (omega (arith, c.loop-k.invariant.1, c.if-at-n.false)) _ _ _ _ refl c.index-w.ensures.0 c.entry_hit-a.ensures c.judged-s.ensures c.in-Clear.is, c.loop-k.invariant.1)
+
+pub returns : goal.returns
+returns c =
+    spotting-end _ _ _ _ _ _ _ _ c.loop-k.invariant.0 c.loop-k-test.false

@@ -1,0 +1,14 @@
+use mathlib.Core.Path.{◌≡◌, refl}
+use Prim.Native.Nat.{◌-◌}
+use lib.ListN.{length}
+use native.Mathlib.Omega.{arith}
+use borrow.Author.Rules.{rules}
+use Rattle.tree_walk.specs.Walks.{entry_hit}
+use Rattle.tree_glance.proofs.Spots.{Spotting, spotting-start, spotting-gone, spotting-end, spotting-unknown, spotting-short, spotting-on, spotting-clear}
+use Rattle.tree_glance.proofs.spot.Given as goal
+
+abbrev pub invariant-loop-k : goal.invariant-loop-k
+invariant-loop-k l = Spotting l.distance l.calm (entry_hit l.numbers l.inverses l.marks l.b.ray) l.order l.first l.count l.found l.k × (l.n ≡ length l.order)
+
+abbrev pub decreases-loop-k : goal.decreases-loop-k
+decreases-loop-k l = l.count - l.k

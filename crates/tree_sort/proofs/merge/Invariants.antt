@@ -1,0 +1,16 @@
+use native.Mathlib.Nat.{not-le_of_lt}
+use mathlib.Core.Path.{sym, ◌∙◌}
+use mathlib.Core.Logic.{⊎_elim}
+use native.Mathlib.Omega.{arith}
+use Prim.Native.Nat.{◌+◌, ◌-◌}
+use Rattle.tree_sort.specs.Sort.{by_key}
+use Rattle.tree_sort.proofs.Sorting.{Merging, merging-p, merging-q, merging-right, merging-left, merging-end}
+use Rattle.lists.proofs.Properties.{each_at}
+use borrow.Author.Rules.{rules}
+use Rattle.tree_sort.proofs.merge.Given as goal
+
+abbrev pub invariant-loop-i : goal.invariant-loop-i
+invariant-loop-i l = Merging (by_key l.keys) l.initial.order l.m l.work l.n l.order l.i l.j l.k
+
+abbrev pub decreases-loop-i : goal.decreases-loop-i
+decreases-loop-i l = l.m + l.n - (l.i + l.j)

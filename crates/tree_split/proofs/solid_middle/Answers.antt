@@ -1,0 +1,6 @@
+use borrow.Author.Rules.{rules}
+use Rattle.tree_split.proofs.solid_middle.Goals as goal
+
+pub returns : goal.returns
+returns c =
+    rw (c.centroid-c.ensures, c.solid_box.ensures)

@@ -1,0 +1,34 @@
+use mathlib.Core.Path.{◌≡◌, refl}
+use Prim.Native.Nat.{◌-◌}
+use lib.ListN.{length}
+use native.Mathlib.Omega.{arith}
+use borrow.Author.Rules.{rules}
+use Rattle.tree_walk.specs.Walks.{entry_hit}
+use Rattle.tree_walk.proofs.Turns.{Scanned, scanned-start, scanned-gone, scanned-refused, scanned-turn, scanned-end}
+use Rattle.tree_walk.proofs.scan.Goals as goal
+
+pub loop-k-init : goal.loop-k-init
+loop-k-init c =
+    (scanned-start _ _ _ _ _, refl)
+
+pub returns-then-at-n : goal.returns-then-at-n
+returns-then-at-n c =
+    scanned-gone _ _ _ _ _ _ _ c.loop-k.invariant.0 (omega (arith, c.loop-k.invariant.1, c.if-at-n.true))
+
+pub returns-in-Refused : goal.returns-in-Refused
+returns-in-Refused c =
+    scanned-refused _ _ _ _ _ _ _ c.loop-k.invariant.0 c.loop-k-test.true
+    (omega (arith, c.loop-k.invariant.1, c.if-at-n.false)) _ _ _
+    c.index.ensures.0 c.entry_hit.ensures c.tried-a.ensures _ c.in-Refused.is
+
+pub loop-k-preserved : goal.loop-k-preserved
+loop-k-preserved c = (
+  scanned-turn _ _ _ _ _ _ _ c.loop-k.invariant.0 c.loop-k-test.true
+      (omega (arith, c.loop-k.invariant.1, c.if-at-n.false)) _ _ _
+      c.index.ensures.0 c.entry_hit.ensures c.tried-a.ensures _ c.in-Best.is,
+  c.loop-k.invariant.1,
+)
+
+pub returns : goal.returns
+returns c =
+    scanned-end _ _ _ _ _ _ _ c.loop-k.invariant.0 c.loop-k-test.false

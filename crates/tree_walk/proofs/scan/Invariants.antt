@@ -1,0 +1,14 @@
+use mathlib.Core.Path.{◌≡◌, refl}
+use Prim.Native.Nat.{◌-◌}
+use lib.ListN.{length}
+use native.Mathlib.Omega.{arith}
+use borrow.Author.Rules.{rules}
+use Rattle.tree_walk.specs.Walks.{entry_hit}
+use Rattle.tree_walk.proofs.Turns.{Scanned, scanned-start, scanned-gone, scanned-refused, scanned-turn, scanned-end}
+use Rattle.tree_walk.proofs.scan.Given as goal
+
+abbrev pub invariant-loop-k : goal.invariant-loop-k
+invariant-loop-k l = Scanned (entry_hit l.numbers l.inverses l.marks l.r) l.order l.first l.count l.initial.b l.b l.k × (l.n ≡ length l.order)
+
+abbrev pub decreases-loop-k : goal.decreases-loop-k
+decreases-loop-k l = l.count - l.k

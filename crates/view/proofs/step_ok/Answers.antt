@@ -1,0 +1,12 @@
+use Rattle.view.specs.Views as Views
+use Rattle.view.proofs.step_ok.Goals as goal
+
+pub returns-then-x : goal.returns-then-x
+unfolding Views.step_ok
+returns-then-x c =
+    simp c.if-x.true
+
+pub returns-else-x : goal.returns-else-x
+unfolding Views.step_ok
+returns-else-x c =
+    simp c.if-x.false
