@@ -22,4 +22,4 @@ returns-in-Refused c =
 
 pub returns-in-Fine : goal.returns-in-Fine
 returns-in-Fine c =
-    record { finished = (call_ends _ _ _ _ _ _ _ (finished_as _ _ _ _ (c.simplify_paths-r.ensures.is ∙ call-fine _ _ _ _ c.threshold_ok.ensures _ c.judge-v.ensures _ _ c.in-Fine.is) c.simplify_paths-r.auto.1.1.1.0 c.simplify_paths-r.auto.1.1.1.1.0 c.finish-in-Fine.ensures)).0; kept = (call_ends _ _ _ _ _ _ _ (finished_as _ _ _ _ (c.simplify_paths-r.ensures.is ∙ call-fine _ _ _ _ c.threshold_ok.ensures _ c.judge-v.ensures _ _ c.in-Fine.is) c.simplify_paths-r.auto.1.1.1.0 c.simplify_paths-r.auto.1.1.1.1.0 c.finish-in-Fine.ensures)).1 }
+    record { finished = (call_ends _ _ _ _ _ _ _ (finished_as _ _ _ _ (c.simplify_paths-r.ensures.is ∙ call-fine _ _ _ _ c.threshold_ok.ensures _ c.judge-v.ensures _ _ c.in-Fine.is) c.simplify_paths-r.auto.out c.simplify_paths-r.auto.begins c.finish-in-Fine.ensures)).0; kept = (call_ends _ _ _ _ _ _ _ (finished_as _ _ _ _ (c.simplify_paths-r.ensures.is ∙ call-fine _ _ _ _ c.threshold_ok.ensures _ c.judge-v.ensures _ _ c.in-Fine.is) c.simplify_paths-r.auto.out c.simplify_paths-r.auto.begins c.finish-in-Fine.ensures)).1 }
