@@ -1,5 +1,5 @@
-use Rattle.std.proofs.Common.{◌-◌, ◌^◌, ◌<◌, lt_of_lt_of_le, arith, pow_mono}
-use Rattle.sqrt.proofs.Squares.{Turn, turn-0, turn-1, turns-end}
+use Rattle.std.proofs.Common.{◌^◌, ◌<◌, lt_of_lt_of_le, arith, pow_mono}
+use Rattle.sqrt.proofs.Squares.{turn-0, turn-1, turns-end}
 use Rattle.sqrt.proofs.digits.Goals as goal
 use Rattle.sqrt.proofs.digits.Goals.{In-loop-i}
 use Rattle.sqrt.proofs.digits.Goals.{then-whole-rest, else-whole-rest}
@@ -34,7 +34,7 @@ loop-i-preserved c =
     let m = c.args.m in
     let h = c.loop-i-test.true in
     elim c.if-whole-rest.branch [
-      then-whole-rest w ↦ turn-1 m c.loop-i.whole c.loop-i.rest c.loop-i.left c.loop-i.i c.if-whole-rest.whole c.if-whole-rest.rest c.loop-i.invariant h w.whole-is w.rest-is w.if-whole-rest.true
+      | then-whole-rest w ↦ turn-1 m c.loop-i.whole c.loop-i.rest c.loop-i.left c.loop-i.i c.if-whole-rest.whole c.if-whole-rest.rest c.loop-i.invariant h w.whole-is w.rest-is w.if-whole-rest.true
       | else-whole-rest w ↦ turn-0 m c.loop-i.whole c.loop-i.rest c.loop-i.left c.loop-i.i c.if-whole-rest.whole c.if-whole-rest.rest c.loop-i.invariant h w.whole-is w.rest-is (omega (arith, w.if-whole-rest.false, w.whole-is, w.rest-is))
     ]
 

@@ -1,4 +1,4 @@
-use Rattle.std.proofs.Common.{◌<◌, T, pos, sym, ap, ◌∙◌, subst, arith, w64, SFits}
+use Rattle.std.proofs.Common.{T, pos, sym, ap, ◌∙◌, subst, arith, w64, SFits}
 use lib.Ieee.{binary64, fits}
 use lib.Ieee.Bits.{of_bits-to_bits}
 use Rattle.sqrt.specs.Root.{sqrt_of, rest_of}

@@ -1,4 +1,4 @@
-use Rattle.std.proofs.Common.{T, sym, ap, ◌∙◌, subst, arith, rules}
+use Rattle.std.proofs.Common.{T, sym, ap, ◌∙◌, subst, arith}
 use lib.Ieee.{binary64, fits}
 use lib.Ieee.Bits.{of_bits-to_bits}
 use Rattle.floats.proofs.Patterns.{equals_itself, no-nan-bits}

@@ -1,4 +1,4 @@
-use Rattle.std.proofs.Common.{◌-◌, arith, rules}
+use Rattle.std.proofs.Common.{◌-◌, arith}
 use Rattle.sqrt.proofs.Squares.{Parts, parts, off}
 use Rattle.sqrt.proofs.root_of.Goals as goal
 use Rattle.sqrt.proofs.root_of.Goals.{After-guess-r}

@@ -1,4 +1,4 @@
-use Rattle.std.proofs.Common.{◌≡◌, ℕ, ◌+◌, ◌*◌, ◌^◌, ◌<◌, ◌≤◌, ℤ, pos, ◌-ℤ◌, sym, ap, ◌∙◌, subst, ⊎_elim, mul-le-mul, arith, w64, SFits, to_z, rules}
+use Rattle.std.proofs.Common.{◌≡◌, ℕ, ◌+◌, ◌*◌, ◌^◌, ◌<◌, ◌≤◌, ℤ, pos, ◌-ℤ◌, sym, ap, ◌∙◌, subst, mul-le-mul, arith, w64, SFits, to_z}
 use mir.ValLaws.{to_z_pos, to_z-of_z}
 use Rattle.sqrt.specs.Root.{nearest_root}
 use Rattle.sqrt.specs.Floor.{LowRoot}
@@ -24,10 +24,10 @@ module _ (c : Joined-whole-rest-2) where
   nearest : (n : ℕ) → 0 < n → n < 4 ^ 53 → LowRoot n q rest → q + k ≡ nearest_root n
   nearest n p h f =
       elim c.if-whole-rest-2.branch [
-        then-whole-rest-2 u ↦ ap (λ (z : ℕ). q + z) u.k-is ∙ two_up n q rest p h f u.if-whole-rest-2.true
+        | then-whole-rest-2 u ↦ ap (λ (z : ℕ). q + z) u.k-is ∙ two_up n q rest p h f u.if-whole-rest-2.true
         | else-whole-rest-2 u ↦ ap (λ (z : ℕ). q + z) u.k-is
             ∙ elim c.if-whole-rest.branch [
-              then-whole-rest w ↦ ap (λ (z : ℕ). q + z) w.k-is ∙ one_up n q rest p h f w.if-whole-rest.true u.if-whole-rest-2.false
+              | then-whole-rest w ↦ ap (λ (z : ℕ). q + z) w.k-is ∙ one_up n q rest p h f w.if-whole-rest.true u.if-whole-rest-2.false
               | else-whole-rest w ↦ ap (λ (z : ℕ). q + z) w.k-is ∙ stays n q rest p h f w.if-whole-rest.false
             ]
       ]
@@ -35,7 +35,7 @@ module _ (c : Joined-whole-rest-2) where
   few : k ≤ 2
   few =
       elim c.if-whole-rest-2.branch [
-        then-whole-rest-2 u ↦ omega (arith, u.k-is)
+        | then-whole-rest-2 u ↦ omega (arith, u.k-is)
         | else-whole-rest-2 u ↦ elim c.if-whole-rest.branch [ then-whole-rest w ↦ omega (arith, u.k-is, w.k-is) | else-whole-rest w ↦ omega (arith, u.k-is, w.k-is) ]
       ]
 
