@@ -43,7 +43,6 @@ fn point(p: &[f64; 3]) -> Vector
 }
 
 // The nearest hit on the rows of a tree with the entry that it names, given the inverses of the scene's placings.
-#[unsafe(no_mangle)]
 pub extern "C" fn bench_intersect(
     numbers: &[f64],
     inverses: &[f64],
@@ -84,7 +83,6 @@ pub extern "C" fn bench_intersect(
 }
 
 // Whether the eye sees a point, the same way.
-#[unsafe(no_mangle)]
 pub extern "C" fn bench_visible(
     numbers: &[f64],
     inverses: &[f64],
@@ -113,7 +111,6 @@ pub extern "C" fn bench_visible(
 }
 
 // The same by the walk that stops.
-#[unsafe(no_mangle)]
 pub extern "C" fn bench_covered(
     numbers: &[f64],
     inverses: &[f64],

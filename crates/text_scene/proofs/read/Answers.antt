@@ -39,7 +39,7 @@ clear_marks-requires-in-Scene c =
 pub returns-in-Scene : goal.returns-in-Scene
 unfolding WithinReading
 returns-in-Scene c =
-    let fits = fits-within c.yard-r.result c.yard-r.new.1.0 c.yard-r.new.1.1.0 c.yard-r.new.1.1.1.0 c.yard-r.new.1.1.1.1.0 c.yard-r.new.1.1.1.1.1.0 c.yard-r.ensures.within_reading c.clear-arg-1.given.0.1 c.clear_marks-arg-1.given.0.1 c.clear-arg-in-Scene-1.given.0.1 c.clear_starts-arg-1.given.0.1 c.clear_marks-arg-in-Scene-1.given.0.1 in record {
+    let fits = fits-within c.yard-r.result c.yard-r.new.numbers c.yard-r.new.marks c.yard-r.new.points c.yard-r.new.starts c.yard-r.new.owners c.yard-r.ensures.within_reading c.clear-arg-1.given.0.1 c.clear_marks-arg-1.given.0.1 c.clear-arg-in-Scene-1.given.0.1 c.clear_starts-arg-1.given.0.1 c.clear_marks-arg-in-Scene-1.given.0.1 in record {
       value = ((
         read_answer _ _ _ _ _ _ _ _ _ _ c.yard-r.ensures.owners_after c.in-Scene.is fits,
         (
@@ -55,7 +55,7 @@ returns-in-Scene c =
                   (
                     read_held _ _ _ _ _ _ _ _ _ _ c.yard-r.ensures.owners_after c.in-Scene.is fits _ _ _ _ _ c.clear.ensures c.clear_marks.ensures c.clear-in-Scene.ensures c.clear_starts.ensures c.clear_marks-in-Scene.ensures,
                     (
-                      held_fits _ _ _ _ _ _ _ _ _ _ c.yard-r.ensures.owners_after c.in-Scene.is fits _ _ _ _ _ c.clear.auto.0 c.clear_marks.auto.0 c.clear-in-Scene.auto.0 c.clear_starts.auto.0 c.clear_marks-in-Scene.auto.0,
+                      held_fits _ _ _ _ _ _ _ _ _ _ c.yard-r.ensures.owners_after c.in-Scene.is fits _ _ _ _ _ c.clear.auto.xs c.clear_marks.auto.xs c.clear-in-Scene.auto.xs c.clear_starts.auto.xs c.clear_marks-in-Scene.auto.xs,
                       read-within c.yard-r.ensures.within_reading c.in-Scene.is,
                     ),
                   ),
@@ -80,7 +80,7 @@ returns-in-Scene c =
                   (
                     read_held _ _ _ _ _ _ _ _ _ _ c.yard-r.ensures.owners_after c.in-Scene.is fits _ _ _ _ _ c.clear.ensures c.clear_marks.ensures c.clear-in-Scene.ensures c.clear_starts.ensures c.clear_marks-in-Scene.ensures,
                     (
-                      held_fits _ _ _ _ _ _ _ _ _ _ c.yard-r.ensures.owners_after c.in-Scene.is fits _ _ _ _ _ c.clear.auto.0 c.clear_marks.auto.0 c.clear-in-Scene.auto.0 c.clear_starts.auto.0 c.clear_marks-in-Scene.auto.0,
+                      held_fits _ _ _ _ _ _ _ _ _ _ c.yard-r.ensures.owners_after c.in-Scene.is fits _ _ _ _ _ c.clear.auto.xs c.clear_marks.auto.xs c.clear-in-Scene.auto.xs c.clear_starts.auto.xs c.clear_marks-in-Scene.auto.xs,
                       read-within c.yard-r.ensures.within_reading c.in-Scene.is,
                     ),
                   ),
@@ -105,7 +105,7 @@ returns-in-Scene c =
                   (
                     read_held _ _ _ _ _ _ _ _ _ _ c.yard-r.ensures.owners_after c.in-Scene.is fits _ _ _ _ _ c.clear.ensures c.clear_marks.ensures c.clear-in-Scene.ensures c.clear_starts.ensures c.clear_marks-in-Scene.ensures,
                     (
-                      held_fits _ _ _ _ _ _ _ _ _ _ c.yard-r.ensures.owners_after c.in-Scene.is fits _ _ _ _ _ c.clear.auto.0 c.clear_marks.auto.0 c.clear-in-Scene.auto.0 c.clear_starts.auto.0 c.clear_marks-in-Scene.auto.0,
+                      held_fits _ _ _ _ _ _ _ _ _ _ c.yard-r.ensures.owners_after c.in-Scene.is fits _ _ _ _ _ c.clear.auto.xs c.clear_marks.auto.xs c.clear-in-Scene.auto.xs c.clear_starts.auto.xs c.clear_marks-in-Scene.auto.xs,
                       read-within c.yard-r.ensures.within_reading c.in-Scene.is,
                     ),
                   ),
@@ -130,7 +130,7 @@ returns-in-Scene c =
                   (
                     read_held _ _ _ _ _ _ _ _ _ _ c.yard-r.ensures.owners_after c.in-Scene.is fits _ _ _ _ _ c.clear.ensures c.clear_marks.ensures c.clear-in-Scene.ensures c.clear_starts.ensures c.clear_marks-in-Scene.ensures,
                     (
-                      held_fits _ _ _ _ _ _ _ _ _ _ c.yard-r.ensures.owners_after c.in-Scene.is fits _ _ _ _ _ c.clear.auto.0 c.clear_marks.auto.0 c.clear-in-Scene.auto.0 c.clear_starts.auto.0 c.clear_marks-in-Scene.auto.0,
+                      held_fits _ _ _ _ _ _ _ _ _ _ c.yard-r.ensures.owners_after c.in-Scene.is fits _ _ _ _ _ c.clear.auto.xs c.clear_marks.auto.xs c.clear-in-Scene.auto.xs c.clear_starts.auto.xs c.clear_marks-in-Scene.auto.xs,
                       read-within c.yard-r.ensures.within_reading c.in-Scene.is,
                     ),
                   ),
@@ -155,7 +155,7 @@ returns-in-Scene c =
                   (
                     read_held _ _ _ _ _ _ _ _ _ _ c.yard-r.ensures.owners_after c.in-Scene.is fits _ _ _ _ _ c.clear.ensures c.clear_marks.ensures c.clear-in-Scene.ensures c.clear_starts.ensures c.clear_marks-in-Scene.ensures,
                     (
-                      held_fits _ _ _ _ _ _ _ _ _ _ c.yard-r.ensures.owners_after c.in-Scene.is fits _ _ _ _ _ c.clear.auto.0 c.clear_marks.auto.0 c.clear-in-Scene.auto.0 c.clear_starts.auto.0 c.clear_marks-in-Scene.auto.0,
+                      held_fits _ _ _ _ _ _ _ _ _ _ c.yard-r.ensures.owners_after c.in-Scene.is fits _ _ _ _ _ c.clear.auto.xs c.clear_marks.auto.xs c.clear-in-Scene.auto.xs c.clear_starts.auto.xs c.clear_marks-in-Scene.auto.xs,
                       read-within c.yard-r.ensures.within_reading c.in-Scene.is,
                     ),
                   ),
@@ -180,7 +180,7 @@ returns-in-Scene c =
                   (
                     read_held _ _ _ _ _ _ _ _ _ _ c.yard-r.ensures.owners_after c.in-Scene.is fits _ _ _ _ _ c.clear.ensures c.clear_marks.ensures c.clear-in-Scene.ensures c.clear_starts.ensures c.clear_marks-in-Scene.ensures,
                     (
-                      held_fits _ _ _ _ _ _ _ _ _ _ c.yard-r.ensures.owners_after c.in-Scene.is fits _ _ _ _ _ c.clear.auto.0 c.clear_marks.auto.0 c.clear-in-Scene.auto.0 c.clear_starts.auto.0 c.clear_marks-in-Scene.auto.0,
+                      held_fits _ _ _ _ _ _ _ _ _ _ c.yard-r.ensures.owners_after c.in-Scene.is fits _ _ _ _ _ c.clear.auto.xs c.clear_marks.auto.xs c.clear-in-Scene.auto.xs c.clear_starts.auto.xs c.clear_marks-in-Scene.auto.xs,
                       read-within c.yard-r.ensures.within_reading c.in-Scene.is,
                     ),
                   ),
@@ -205,7 +205,7 @@ returns-in-Scene c =
                   (
                     read_held _ _ _ _ _ _ _ _ _ _ c.yard-r.ensures.owners_after c.in-Scene.is fits _ _ _ _ _ c.clear.ensures c.clear_marks.ensures c.clear-in-Scene.ensures c.clear_starts.ensures c.clear_marks-in-Scene.ensures,
                     (
-                      held_fits _ _ _ _ _ _ _ _ _ _ c.yard-r.ensures.owners_after c.in-Scene.is fits _ _ _ _ _ c.clear.auto.0 c.clear_marks.auto.0 c.clear-in-Scene.auto.0 c.clear_starts.auto.0 c.clear_marks-in-Scene.auto.0,
+                      held_fits _ _ _ _ _ _ _ _ _ _ c.yard-r.ensures.owners_after c.in-Scene.is fits _ _ _ _ _ c.clear.auto.xs c.clear_marks.auto.xs c.clear-in-Scene.auto.xs c.clear_starts.auto.xs c.clear_marks-in-Scene.auto.xs,
                       read-within c.yard-r.ensures.within_reading c.in-Scene.is,
                     ),
                   ),
@@ -230,7 +230,7 @@ returns-in-Scene c =
                   (
                     read_held _ _ _ _ _ _ _ _ _ _ c.yard-r.ensures.owners_after c.in-Scene.is fits _ _ _ _ _ c.clear.ensures c.clear_marks.ensures c.clear-in-Scene.ensures c.clear_starts.ensures c.clear_marks-in-Scene.ensures,
                     (
-                      held_fits _ _ _ _ _ _ _ _ _ _ c.yard-r.ensures.owners_after c.in-Scene.is fits _ _ _ _ _ c.clear.auto.0 c.clear_marks.auto.0 c.clear-in-Scene.auto.0 c.clear_starts.auto.0 c.clear_marks-in-Scene.auto.0,
+                      held_fits _ _ _ _ _ _ _ _ _ _ c.yard-r.ensures.owners_after c.in-Scene.is fits _ _ _ _ _ c.clear.auto.xs c.clear_marks.auto.xs c.clear-in-Scene.auto.xs c.clear_starts.auto.xs c.clear_marks-in-Scene.auto.xs,
                       read-within c.yard-r.ensures.within_reading c.in-Scene.is,
                     ),
                   ),
@@ -255,7 +255,7 @@ returns-in-Scene c =
                   (
                     read_held _ _ _ _ _ _ _ _ _ _ c.yard-r.ensures.owners_after c.in-Scene.is fits _ _ _ _ _ c.clear.ensures c.clear_marks.ensures c.clear-in-Scene.ensures c.clear_starts.ensures c.clear_marks-in-Scene.ensures,
                     (
-                      held_fits _ _ _ _ _ _ _ _ _ _ c.yard-r.ensures.owners_after c.in-Scene.is fits _ _ _ _ _ c.clear.auto.0 c.clear_marks.auto.0 c.clear-in-Scene.auto.0 c.clear_starts.auto.0 c.clear_marks-in-Scene.auto.0,
+                      held_fits _ _ _ _ _ _ _ _ _ _ c.yard-r.ensures.owners_after c.in-Scene.is fits _ _ _ _ _ c.clear.auto.xs c.clear_marks.auto.xs c.clear-in-Scene.auto.xs c.clear_starts.auto.xs c.clear_marks-in-Scene.auto.xs,
                       read-within c.yard-r.ensures.within_reading c.in-Scene.is,
                     ),
                   ),
