@@ -22,11 +22,11 @@ read_numbers-requires c =
 
 pub returns-then-not-measured : goal.returns-then-not-measured
 returns-then-not-measured c =
-    let measured' = ? in passed-fails _ _ _ c.loop-i.invariant c.loop-i-test.true (measured'.ensures ∙ rw (c.read_marks-m.ensures, c.read_numbers.ensures)) (not-true _ c.if-not-measured.true)
+    passed-fails _ _ _ c.loop-i.invariant c.loop-i-test.true (c.measured.ensures ∙ rw (c.read_marks-m.ensures, c.read_numbers.ensures)) c.if-not-measured.true
 
 pub loop-i-preserved : goal.loop-i-preserved
 loop-i-preserved c =
-    let measured' = ? in passed-turn _ _ _ c.loop-i.invariant c.loop-i-test.true (measured'.ensures ∙ rw (c.read_marks-m.ensures, c.read_numbers.ensures)) (not-false _ c.if-not-measured.false)
+    passed-turn _ _ _ c.loop-i.invariant c.loop-i-test.true (c.measured.ensures ∙ rw (c.read_marks-m.ensures, c.read_numbers.ensures)) c.if-not-measured.false
 
 pub returns : goal.returns
 returns c =

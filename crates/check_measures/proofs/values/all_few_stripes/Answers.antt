@@ -18,11 +18,11 @@ read_marks-requires c =
 
 pub returns-then-not-few_stripes : goal.returns-then-not-few_stripes
 returns-then-not-few_stripes c =
-    passed-fails _ _ _ c.loop-i.invariant c.loop-i-test.true (c.few_stripes.ensures ∙ ap few_stripes c.read_marks.ensures) (not-true _ c.if-not-few_stripes.true)
+    passed-fails _ _ _ c.loop-i.invariant c.loop-i-test.true (c.few_stripes.ensures ∙ ap few_stripes c.read_marks.ensures) c.if-not-few_stripes.true
 
 pub loop-i-preserved : goal.loop-i-preserved
 loop-i-preserved c =
-    passed-turn _ _ _ c.loop-i.invariant c.loop-i-test.true (c.few_stripes.ensures ∙ ap few_stripes c.read_marks.ensures) (not-false _ c.if-not-few_stripes.false)
+    passed-turn _ _ _ c.loop-i.invariant c.loop-i-test.true (c.few_stripes.ensures ∙ ap few_stripes c.read_marks.ensures) c.if-not-few_stripes.false
 
 pub returns : goal.returns
 returns c =

@@ -18,11 +18,11 @@ read_marks-requires c =
 
 pub returns-then-not-known : goal.returns-then-not-known
 returns-then-not-known c =
-    passed-fails _ _ _ c.loop-i.invariant c.loop-i-test.true (c.known.ensures ∙ ap known c.read_marks.ensures) (not-true _ c.if-not-known.true)
+    passed-fails _ _ _ c.loop-i.invariant c.loop-i-test.true (c.known.ensures ∙ ap known c.read_marks.ensures) c.if-not-known.true
 
 pub loop-i-preserved : goal.loop-i-preserved
 loop-i-preserved c =
-    passed-turn _ _ _ c.loop-i.invariant c.loop-i-test.true (c.known.ensures ∙ ap known c.read_marks.ensures) (not-false _ c.if-not-known.false)
+    passed-turn _ _ _ c.loop-i.invariant c.loop-i-test.true (c.known.ensures ∙ ap known c.read_marks.ensures) c.if-not-known.false
 
 pub returns : goal.returns
 returns c =
