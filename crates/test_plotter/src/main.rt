@@ -192,5 +192,8 @@ fn main(rt: HostRuntime) -> io::Result<()> {
     let mut buffer = [0u8; 8192];
     let n = test_words::read_list(&mut rt.stdin(), &mut buffer);
     let p = plotted(&buffer[..n]);
-    println!(rt; "{} paths, up {}, down {}, then {}", p.paths, p.up, p.down, p.number)
+    println!(rt;
+        "{} paths, up {}, down {}, then {}",
+        p.paths, p.up, p.down, p.number
+    )
 }
