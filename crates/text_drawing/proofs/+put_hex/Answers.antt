@@ -4,10 +4,10 @@ use native.Mathlib.Omega.{arith}
 use Rattle.text_drawing.proofs.+put_hex.Goals as goal
 
 pub returns-then-k-eq0 : goal.returns-then-k-eq0
-returns-then-k-eq0 t c = hex-done _ _ c.requires.1 c.if-k-eq0.true
+returns-then-k-eq0 t c = hex-done _ _ c.requires c.if-k-eq0.true
 
 pub put_hex-d-requires : goal.put_hex-d-requires
-put_hex-d-requires t c = (omega (arith, c.if-k-eq0.false, c.requires.0), c.requires.1)
+put_hex-d-requires t c = (omega (arith, c.if-k-eq0.false), c.requires)
 
 pub put_byte-requires : goal.put_byte-requires
 put_byte-requires t c = c.put_hex-d.ensures.fits
