@@ -29,11 +29,11 @@ pub enclose-requires : goal.enclose-requires
 enclose-requires t c =
     (record { entries = c.requires.0.entries; points = c.requires.0.points; lines = c.requires.0.lines }, (c.requires.1.numbers, c.requires.1.marks))
 
-pub returns-then-kind-le5 : goal.returns-then-kind-le5
+pub returns-then-h-le5 : goal.returns-then-h-le5
 unfolding scene_upto
-returns-then-kind-le5 t c =
+returns-then-h-le5 t c =
     record {
-      owners_after = c.enclose.ensures.owners_after _ _ _ ∙ body-plain _ _ _ _ c.is_round.ensures c.if-is_round.false c.if-kind-le5.true ∙ form-as _ _ _ _ c.if-depth-eq0.false c.opening_at-o.ensures c.in-Of.is;
+      owners_after = c.enclose.ensures.os_after _ _ _ ∙ body-plain _ _ _ _ c.is_round.ensures c.if-is_round.false c.if-h-le5.true ∙ form-as _ _ _ _ c.if-depth-eq0.false c.opening_at-o.ensures c.in-Of.is;
       within_next = c.enclose.ensures.within_next;
     }
 
@@ -45,23 +45,23 @@ pub returns-in_default-f : goal.returns-in_default-f
 unfolding scene_upto next_as WithinNext
 returns-in_default-f t c =
     record {
-      owners_after = body-bare _ _ _ _ c.is_round.ensures c.if-is_round.false c.if-kind-le5.false (next-no _ _ _ _ _ _ c.form-f.ensures.owners_after c.in_default-f.is) ∙ form-as _ _ _ _ c.if-depth-eq0.false c.opening_at-o.ensures c.in-Of.is;
+      owners_after = body-bare _ _ _ _ c.is_round.ensures c.if-is_round.false c.if-h-le5.false (next-no _ _ _ _ _ _ c.form-f.ensures.owners_after c.in_default-f.is) ∙ form-as _ _ _ _ c.if-depth-eq0.false c.opening_at-o.ensures c.in-Of.is;
       within_next = tt;
     }
 
 pub last_of-p-requires : goal.last_of-p-requires
 last_of-p-requires t c = within-next c.form-f.ensures.within_next c.in-To.is
 
-pub enclose-requires-2 : goal.enclose-requires-2
-enclose-requires-2 t c =
+pub enclose-requires-then-h-eq6 : goal.enclose-requires-then-h-eq6
+enclose-requires-then-h-eq6 t c =
     (within-next c.form-f.ensures.within_next c.in-To.is, (kept_more c.requires.1.numbers c.form-f.auto.numbers, kept_more c.requires.1.marks c.form-f.auto.marks))
 
-pub returns-then-kind-eq6 : goal.returns-then-kind-eq6
+pub returns-then-h-eq6 : goal.returns-then-h-eq6
 unfolding scene_upto
-returns-then-kind-eq6 t c =
+returns-then-h-eq6 t c =
     record {
-      owners_after = c.enclose-2.ensures.owners_after _ _ _ ∙ body-place _ _ _ _ c.is_round.ensures c.if-is_round.false c.if-kind-le5.false (next-to _ _ _ _ _ _ c.form-f.ensures.owners_after c.in-To.is) (last-held _ [] _ [] [] [] (within-next c.form-f.ensures.within_next c.in-To.is) (kept_more c.requires.1.marks c.form-f.auto.marks) c.last_of-p.ensures) c.if-kind-eq6.true ∙ form-as _ _ _ _ c.if-depth-eq0.false c.opening_at-o.ensures c.in-Of.is;
-      within_next = c.enclose-2.ensures.within_next;
+      owners_after = c.enclose-then-h-eq6.ensures.os_after _ _ _ ∙ body-place _ _ _ _ c.is_round.ensures c.if-is_round.false c.if-h-le5.false (next-to _ _ _ _ _ _ c.form-f.ensures.owners_after c.in-To.is) (last-held _ [] _ [] [] [] (within-next c.form-f.ensures.within_next c.in-To.is) (kept_more c.requires.1.marks c.form-f.auto.marks) c.last_of-p.ensures) c.if-h-eq6.true ∙ form-as _ _ _ _ c.if-depth-eq0.false c.opening_at-o.ensures c.in-Of.is;
+      within_next = c.enclose-then-h-eq6.ensures.within_next;
     }
 
 pub form-g-requires : goal.form-g-requires
@@ -72,21 +72,21 @@ pub returns-in_default-g : goal.returns-in_default-g
 unfolding scene_upto next_as WithinNext
 returns-in_default-g t c =
     record {
-      owners_after = body-half _ _ _ _ c.is_round.ensures c.if-is_round.false c.if-kind-le5.false (next-to _ _ _ _ _ _ c.form-f.ensures.owners_after c.in-To.is) (last-held _ [] _ [] [] [] (within-next c.form-f.ensures.within_next c.in-To.is) (kept_more c.requires.1.marks c.form-f.auto.marks) c.last_of-p.ensures) c.if-kind-eq6.false (next-no _ _ _ _ _ _ c.form-g.ensures.owners_after c.in_default-g.is) ∙ form-as _ _ _ _ c.if-depth-eq0.false c.opening_at-o.ensures c.in-Of.is;
+      owners_after = body-half _ _ _ _ c.is_round.ensures c.if-is_round.false c.if-h-le5.false (next-to _ _ _ _ _ _ c.form-f.ensures.owners_after c.in-To.is) (last-held _ [] _ [] [] [] (within-next c.form-f.ensures.within_next c.in-To.is) (kept_more c.requires.1.marks c.form-f.auto.marks) c.last_of-p.ensures) c.if-h-eq6.false (next-no _ _ _ _ _ _ c.form-g.ensures.owners_after c.in_default-g.is) ∙ form-as _ _ _ _ c.if-depth-eq0.false c.opening_at-o.ensures c.in-Of.is;
       within_next = tt;
     }
 
 pub last_of-requires : goal.last_of-requires
 last_of-requires t c = within-next c.form-g.ensures.within_next c.in-To-g.is
 
-pub enclose-requires-3 : goal.enclose-requires-3
-enclose-requires-3 t c =
+pub enclose-requires-2 : goal.enclose-requires-2
+enclose-requires-2 t c =
     (within-next c.form-g.ensures.within_next c.in-To-g.is, (kept_more (kept_more c.requires.1.numbers c.form-f.auto.numbers) c.form-g.auto.numbers, kept_more (kept_more c.requires.1.marks c.form-f.auto.marks) c.form-g.auto.marks))
 
 pub returns : goal.returns
 unfolding scene_upto
 returns t c =
     record {
-      owners_after = c.enclose-3.ensures.owners_after _ _ _ ∙ body-cut _ _ _ _ c.is_round.ensures c.if-is_round.false c.if-kind-le5.false (next-to _ _ _ _ _ _ c.form-f.ensures.owners_after c.in-To.is) (last-held _ [] _ [] [] [] (within-next c.form-f.ensures.within_next c.in-To.is) (kept_more c.requires.1.marks c.form-f.auto.marks) c.last_of-p.ensures) c.if-kind-eq6.false (next-to _ _ _ _ _ _ c.form-g.ensures.owners_after c.in-To-g.is) (last-held _ [] _ [] [] [] (within-next c.form-g.ensures.within_next c.in-To-g.is) (kept_more (kept_more c.requires.1.marks c.form-f.auto.marks) c.form-g.auto.marks) c.last_of.ensures) ∙ form-as _ _ _ _ c.if-depth-eq0.false c.opening_at-o.ensures c.in-Of.is;
-      within_next = c.enclose-3.ensures.within_next;
+      owners_after = c.enclose-2.ensures.os_after _ _ _ ∙ body-cut _ _ _ _ c.is_round.ensures c.if-is_round.false c.if-h-le5.false (next-to _ _ _ _ _ _ c.form-f.ensures.owners_after c.in-To.is) (last-held _ [] _ [] [] [] (within-next c.form-f.ensures.within_next c.in-To.is) (kept_more c.requires.1.marks c.form-f.auto.marks) c.last_of-p.ensures) c.if-h-eq6.false (next-to _ _ _ _ _ _ c.form-g.ensures.owners_after c.in-To-g.is) (last-held _ [] _ [] [] [] (within-next c.form-g.ensures.within_next c.in-To-g.is) (kept_more (kept_more c.requires.1.marks c.form-f.auto.marks) c.form-g.auto.marks) c.last_of.ensures) ∙ form-as _ _ _ _ c.if-depth-eq0.false c.opening_at-o.ensures c.in-Of.is;
+      within_next = c.enclose-2.ensures.within_next;
     }
