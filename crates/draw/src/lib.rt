@@ -58,7 +58,7 @@ fn drawing(
                 return Counts::Refused(Refusal::View);
             }
             let range = draw_ranges::range_within(first, many, n);
-            draw_render::render(
+            draw_render::render_part(
                 threshold,
                 view,
                 numbers,

@@ -149,7 +149,7 @@ fn join(
 
 // The lines of entry i, nested at most `depth` deep, after the n points and m starts of the first
 // vector; there is a vector for each level.
-#[cycle(entry_paths_part_paths)]
+#[cycle(paths)]
 fn entry_paths(
     numbers: &[f64],
     inverses: &[f64],
@@ -264,7 +264,7 @@ fn entry_paths(
 }
 
 // The lines of both parts of a cut, one after the other, from the first place of the first vector on.
-#[cycle(entry_paths_part_paths)]
+#[cycle(paths)]
 fn part_paths(
     numbers: &[f64],
     inverses: &[f64],

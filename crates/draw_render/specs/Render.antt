@@ -73,13 +73,16 @@ staged t v w solid box ids p =
     (λ (q : Paths). next (seen_lines v w.nodes w.order solid box ids w.lines.points w.lines.starts q) (simplified_lines t w.points w.starts)))
     (seen_lines v w.nodes w.order solid box ids w.points w.starts p)
 
--- all six, with the lines of some solids, `part`, while all of `ids` hide; `lined` gives the drawn value of each solid
+-- all six; `lined` gives the drawn value of each solid
+unfoldable pub rendered : Float → View → Places → (ℕ → Lined) → (ℕ → BBox) → List ℕ → Answer Paths
+rendered t v w lined box ids =
+    next (collected_all (args_of v) w.lines lined ids no_paths)
+    (λ (p : Paths). next (staged t v w (λ (i : ℕ). bare (lined i)) box ids p)
+    (λ (s : Paths). answered (mapped (viewport v.width v.height) s)))
+
+-- the same with the lines of some solids only, `part`, while all of `ids` hide
 unfoldable pub rendered_part : Float → View → Places → (ℕ → Lined) → (ℕ → BBox) → List ℕ → List ℕ → Answer Paths
 rendered_part t v w lined box ids part =
     next (collected_all (args_of v) w.lines lined part no_paths)
     (λ (p : Paths). next (staged t v w (λ (i : ℕ). bare (lined i)) box ids p)
     (λ (s : Paths). answered (mapped (viewport v.width v.height) s)))
-
--- the drawing: the lines of all
-unfoldable pub rendered : Float → View → Places → (ℕ → Lined) → (ℕ → BBox) → List ℕ → Answer Paths
-rendered t v w lined box ids = rendered_part t v w lined box ids ids

@@ -162,7 +162,7 @@ fn stages(
 
 // The drawing of the lines of some listed solids, `some` from place `first` on, in `out` and `begins`; the first
 // `count` listed ones hide. `work` and `work_starts` have eight vectors of lines, one after the other.
-pub fn render(
+pub fn render_part(
     threshold: f64,
     view: View,
     numbers: &[f64],
@@ -241,4 +241,57 @@ pub fn render(
             }
         }
     }
+}
+
+// The drawing of the first `count` listed solids, in `out` and `begins`. `work` and `work_starts` have
+// eight vectors of lines, one after the other.
+pub fn render(
+    threshold: f64,
+    view: View,
+    numbers: &[f64],
+    inverses: &[f64],
+    marks: &[u32],
+    points: &[f64],
+    starts: &[usize],
+    owners: &[u32],
+    boxes: &[f64],
+    listed: &[u32],
+    count: usize,
+    out: &mut [f64],
+    begins: &mut [usize],
+    work: &mut [f64],
+    work_starts: &mut [usize],
+    chopped: &mut [f64],
+    chopped_starts: &mut [usize],
+    node_boxes: &mut [f64],
+    node_marks: &mut [u32],
+    order: &mut [u32],
+) -> Counts
+    requires { (lt threshold zero_f ≡ false) × Listed boxes.now listed.now count }
+    ensures { EndsBoth (Render.rendered threshold view (places_in (length work.old / 24 * 3) (length work_starts.old / 8) chopped.old chopped_starts.old node_boxes.old node_marks.old order.old out.old begins.old) (lined_at 8 numbers.now inverses.now marks.now points.now starts.now owners.now) (box_at boxes.now) (take count listed.now)) out.new begins.new result }
+{
+    render_part(
+        threshold,
+        view,
+        numbers,
+        inverses,
+        marks,
+        points,
+        starts,
+        owners,
+        boxes,
+        listed,
+        count,
+        0,
+        count,
+        out,
+        begins,
+        work,
+        work_starts,
+        chopped,
+        chopped_starts,
+        node_boxes,
+        node_marks,
+        order,
+    )
 }

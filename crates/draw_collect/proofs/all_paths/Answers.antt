@@ -10,7 +10,7 @@ use Rattle.draw_collect.proofs.all_paths.Goals as goal
 
 pub loop-i-init : goal.loop-i-init
 loop-i-init c =
-    let args = c.args in let pre = c.requires in collecting-start args.args args.wide args.many _ (take args.count args.listed.now) args.work.now args.begins.now args.chopped.now args.chopped-starts.now pre.1
+    let args = c.args in let pre = c.requires in collecting-start args.args args.wide args.many _ (take args.count args.listed.now) args.work.now args.begins.now args.chopped.now args.chopped_starts.now pre.1
 
 pub offset_bounds-listed-i : goal.offset_bounds-listed-i
 offset_bounds-listed-i c =
@@ -26,23 +26,23 @@ entry_paths-r-requires c =
 
 pub shape_of-work-in-Refused : goal.shape_of-work-in-Refused
 shape_of-work-in-Refused c =
-    c.entry_paths-r.auto.1.1.1.1.1.1.1.1.1.1.1.0 ∙ c.loop-i.invariant.same
+    c.entry_paths-r.auto.work ∙ c.loop-i.invariant.same
 
 pub shape_of-begins-in-Refused : goal.shape_of-begins-in-Refused
 shape_of-begins-in-Refused c =
-    c.entry_paths-r.auto.1.1.1.1.1.1.1.1.1.1.1.1.0 ∙ c.loop-i.invariant.same-starts
+    c.entry_paths-r.auto.begins ∙ c.loop-i.invariant.same-starts
 
 pub shape_of-chopped-in-Refused : goal.shape_of-chopped-in-Refused
 shape_of-chopped-in-Refused c =
-    c.entry_paths-r.auto.1.1.1.1.1.1.1.1.1.1.1.1.1.1.1.0 ∙ c.loop-i.invariant.same-chopped
+    c.entry_paths-r.auto.chopped ∙ c.loop-i.invariant.same-chopped
 
 pub shape_of-chopped_starts-in-Refused : goal.shape_of-chopped_starts-in-Refused
 shape_of-chopped_starts-in-Refused c =
-    c.entry_paths-r.auto.1.1.1.1.1.1.1.1.1.1.1.1.1.1.1.1.0 ∙ c.loop-i.invariant.same-chopped-starts
+    c.entry_paths-r.auto.chopped_starts ∙ c.loop-i.invariant.same-chopped-starts
 
 pub returns-in-Refused : goal.returns-in-Refused
 returns-in-Refused c =
-    let args = c.args in let pre = c.requires in collecting-refused args.args args.wide args.many _ (take args.count args.listed.now) args.work.now args.begins.now args.chopped.now args.chopped-starts.now c.loop-i.work c.loop-i.begins c.loop-i.chopped c.loop-i.chopped-starts c.loop-i.p c.loop-i.q c.loop-i.i c.loop-i.invariant _ (omega (arith, c.loop-i-test.true, pre.0, length-take-le args.count args.listed.now pre.0)) (c.index.ensures.0 ∙ sym (get_or-take args.count args.listed.now c.loop-i.i 0 c.loop-i-test.true)) c.entry_paths-r.new.1.1.1.1.1.1.1.1.1.1.1.0 c.entry_paths-r.new.1.1.1.1.1.1.1.1.1.1.1.1.0 c.stance_of.ensures.0 c.entry_paths-r.ensures c.in-Refused.is
+    let args = c.args in let pre = c.requires in collecting-refused args.args args.wide args.many _ (take args.count args.listed.now) args.work.now args.begins.now args.chopped.now args.chopped_starts.now c.loop-i.work c.loop-i.begins c.loop-i.chopped c.loop-i.chopped_starts c.loop-i.p c.loop-i.q c.loop-i.i c.loop-i.invariant _ (omega (arith, c.loop-i-test.true, pre.0, length-take-le args.count args.listed.now pre.0)) (c.index.ensures.0 ∙ sym (get_or-take args.count args.listed.now c.loop-i.i 0 c.loop-i-test.true)) c.entry_paths-r.new.work c.entry_paths-r.new.begins c.stance_of.ensures.0 c.entry_paths-r.ensures c.in-Refused.is
 
 pub overflow_add-i : goal.overflow_add-i
 overflow_add-i c =
@@ -54,11 +54,11 @@ loop-i-smaller c =
 
 pub loop-i-preserved : goal.loop-i-preserved
 loop-i-preserved c =
-    let args = c.args in let pre = c.requires in collecting-turn args.args args.wide args.many _ (take args.count args.listed.now) args.work.now args.begins.now args.chopped.now args.chopped-starts.now c.loop-i.work c.loop-i.begins c.loop-i.chopped
-    c.loop-i.chopped-starts c.loop-i.p c.loop-i.q c.loop-i.i c.loop-i.invariant _ (omega (arith, c.loop-i-test.true, pre.0, length-take-le args.count args.listed.now pre.0))
-    (c.index.ensures.0 ∙ sym (get_or-take args.count args.listed.now c.loop-i.i 0 c.loop-i-test.true)) c.entry_paths-r.new.1.1.1.1.1.1.1.1.1.1.1.0 c.entry_paths-r.new.1.1.1.1.1.1.1.1.1.1.1.1.0 c.stance_of.ensures.0 c.entry_paths-r.ensures
-    c.in-Both.is _ _ c.entry_paths-r.auto.1.1.1.1.1.1.1.1.1.1.1.0 c.entry_paths-r.auto.1.1.1.1.1.1.1.1.1.1.1.1.0 c.entry_paths-r.auto.1.1.1.1.1.1.1.1.1.1.1.1.1.1.1.0
-    c.entry_paths-r.auto.1.1.1.1.1.1.1.1.1.1.1.1.1.1.1.1.0
+    let args = c.args in let pre = c.requires in collecting-turn args.args args.wide args.many _ (take args.count args.listed.now) args.work.now args.begins.now args.chopped.now args.chopped_starts.now c.loop-i.work c.loop-i.begins c.loop-i.chopped
+    c.loop-i.chopped_starts c.loop-i.p c.loop-i.q c.loop-i.i c.loop-i.invariant _ (omega (arith, c.loop-i-test.true, pre.0, length-take-le args.count args.listed.now pre.0))
+    (c.index.ensures.0 ∙ sym (get_or-take args.count args.listed.now c.loop-i.i 0 c.loop-i-test.true)) c.entry_paths-r.new.work c.entry_paths-r.new.begins c.stance_of.ensures.0 c.entry_paths-r.ensures
+    c.in-Both.is _ _ c.entry_paths-r.auto.work c.entry_paths-r.auto.begins c.entry_paths-r.auto.chopped
+    c.entry_paths-r.auto.chopped_starts
 
 pub shape_of-work : goal.shape_of-work
 shape_of-work c =
@@ -78,4 +78,4 @@ shape_of-chopped_starts c =
 
 pub returns : goal.returns
 returns c =
-    let args = c.args in let pre = c.requires in collecting-end args.args args.wide args.many _ (take args.count args.listed.now) args.work.now args.begins.now args.chopped.now args.chopped-starts.now c.loop-i.work c.loop-i.begins c.loop-i.chopped c.loop-i.chopped-starts c.loop-i.p c.loop-i.q c.loop-i.i c.loop-i.invariant (omega (arith, c.loop-i-test.false, length-take-le args.count args.listed.now pre.0))
+    let args = c.args in let pre = c.requires in collecting-end args.args args.wide args.many _ (take args.count args.listed.now) args.work.now args.begins.now args.chopped.now args.chopped_starts.now c.loop-i.work c.loop-i.begins c.loop-i.chopped c.loop-i.chopped_starts c.loop-i.p c.loop-i.q c.loop-i.i c.loop-i.invariant (omega (arith, c.loop-i-test.false, length-take-le args.count args.listed.now pre.0))

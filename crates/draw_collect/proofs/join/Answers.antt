@@ -49,16 +49,16 @@ sift-d-requires c =
 
 pub append-requires : goal.append-requires
 append-requires c =
-    let args = c.args in let pre = c.requires in join-asks args.wide args.many args.n args.m args.work.now args.begins.now pre.0 args.args _ args.chopped.now args.chopped-starts.now c.in-Both.is c.sift-d.new.1.1.1.1.1.1.0 c.sift-d.new.1.1.1.1.1.1.1.0 c.sift-d.ensures c.sift-d.auto.1.1.1.1.1.1.0 c.sift-d.auto.1.1.1.1.1.1.1.0 c.in-Both-d.is
+    let args = c.args in let pre = c.requires in join-asks args.wide args.many args.n args.m args.work.now args.begins.now pre.0 args.args _ args.chopped.now args.chopped_starts.now c.in-Both.is c.sift-d.new.path c.sift-d.new.begins c.sift-d.ensures c.sift-d.auto.path c.sift-d.auto.begins c.in-Both-d.is
 
 pub returns-in-Refused : goal.returns-in-Refused
 returns-in-Refused c =
-    let args = c.args in let pre = c.requires in join-none args.wide args.many args.n args.m args.work.now args.begins.now pre.0 args.args _ args.chopped.now args.chopped-starts.now _ _ c.in-Refused.is
+    let args = c.args in let pre = c.requires in join-none args.wide args.many args.n args.m args.work.now args.begins.now pre.0 args.args _ args.chopped.now args.chopped_starts.now _ _ c.in-Refused.is
 
 pub returns-in-Refused-d : goal.returns-in-Refused-d
 returns-in-Refused-d c =
-    let args = c.args in let pre = c.requires in join-refused args.wide args.many args.n args.m args.work.now args.begins.now pre.0 args.args _ args.chopped.now args.chopped-starts.now c.in-Both.is c.sift-d.new.1.1.1.1.1.1.0 c.sift-d.new.1.1.1.1.1.1.1.0 c.sift-d.ensures c.sift-d.auto.1.1.1.1.1.1.0 c.sift-d.auto.1.1.1.1.1.1.1.0 _ _ c.in-Refused-d.is
+    let args = c.args in let pre = c.requires in join-refused args.wide args.many args.n args.m args.work.now args.begins.now pre.0 args.args _ args.chopped.now args.chopped_starts.now c.in-Both.is c.sift-d.new.path c.sift-d.new.begins c.sift-d.ensures c.sift-d.auto.path c.sift-d.auto.begins _ _ c.in-Refused-d.is
 
 pub returns-in-Both-d : goal.returns-in-Both-d
 returns-in-Both-d c =
-    let args = c.args in let pre = c.requires in join-appended args.wide args.many args.n args.m args.work.now args.begins.now pre.0 args.args _ args.chopped.now args.chopped-starts.now c.in-Both.is c.sift-d.new.1.1.1.1.1.1.0 c.sift-d.new.1.1.1.1.1.1.1.0 c.sift-d.ensures c.sift-d.auto.1.1.1.1.1.1.0 c.sift-d.auto.1.1.1.1.1.1.1.0 c.in-Both-d.is _ _ c.append.ensures
+    let args = c.args in let pre = c.requires in join-appended args.wide args.many args.n args.m args.work.now args.begins.now pre.0 args.args _ args.chopped.now args.chopped_starts.now c.in-Both.is c.sift-d.new.path c.sift-d.new.begins c.sift-d.ensures c.sift-d.auto.path c.sift-d.auto.begins c.in-Both-d.is _ _ c.append.ensures

@@ -35,7 +35,7 @@ slice_bounds-filter_paths-end c =
 
 pub slice_bounds-filter_paths-end-in-Both : goal.slice_bounds-filter_paths-end-in-Both
 slice_bounds-filter_paths-end-in-Both c =
-    sym (length-take-le _ c.chop_lines-c.new.1.1.1.0 (c.chop_lines-c.ensures.fits _ _ c.in-Both.is).0)
+    sym (length-take-le _ c.chop_lines-c.new.out (c.chop_lines-c.ensures.fits _ _ c.in-Both.is).0)
 
 pub slice_bounds-filter_paths-end-in-Both-2 : goal.slice_bounds-filter_paths-end-in-Both-2
 slice_bounds-filter_paths-end-in-Both-2 c =
@@ -43,12 +43,12 @@ slice_bounds-filter_paths-end-in-Both-2 c =
 
 pub slice_bounds-filter_paths-end-in-Both-3 : goal.slice_bounds-filter_paths-end-in-Both-3
 slice_bounds-filter_paths-end-in-Both-3 c =
-    sym (length-take-le _ c.chop_lines-c.new.1.1.1.1.0 (c.chop_lines-c.ensures.fits _ _ c.in-Both.is).1)
+    sym (length-take-le _ c.chop_lines-c.new.begins (c.chop_lines-c.ensures.fits _ _ c.in-Both.is).1)
 
 pub returns-in-Refused : goal.returns-in-Refused
 returns-in-Refused c =
-    let args = c.args in let pre = c.requires in sift-refused args.args _ args.path.now args.begins.now args.chopped.now args.chopped-starts.now args.n args.m pre.0 _ _ c.chop_lines-c.ensures c.in-Refused.is
+    let args = c.args in let pre = c.requires in sift-refused args.args _ args.path.now args.begins.now args.chopped.now args.chopped_starts.now args.n args.m pre.0 _ _ c.chop_lines-c.ensures c.in-Refused.is
 
 pub returns-in-Both : goal.returns-in-Both
 returns-in-Both c =
-    let args = c.args in let pre = c.requires in sift-filters args.args _ args.path.now args.begins.now args.chopped.now args.chopped-starts.now args.n args.m pre.0 _ _ c.chop_lines-c.ensures c.in-Both.is (c.chop_lines-c.ensures.fits _ _ c.in-Both.is).0 _ _ c.filter_paths.ensures
+    let args = c.args in let pre = c.requires in sift-filters args.args _ args.path.now args.begins.now args.chopped.now args.chopped_starts.now args.n args.m pre.0 _ _ c.chop_lines-c.ensures c.in-Both.is (c.chop_lines-c.ensures.fits _ _ c.in-Both.is).0 _ _ c.filter_paths.ensures

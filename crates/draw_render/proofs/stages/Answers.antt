@@ -2,7 +2,6 @@ use Rattle.draw_render.proofs.Staging.{plain, chop-refused, seen-refused, simpli
 use Rattle.draw_render.specs.Slices.{places_in}
 use Rattle.tree_split.specs.Build.{box_at}
 use Rattle.scene_shape.specs.Shapes.{decode}
-use borrow.Author.Tests.{not-true, not-false}
 use lib.Seq.{length-take-le}
 use lib.ListN.{length, take}
 use native.Mathlib.Omega.{arith}
@@ -28,7 +27,7 @@ slice_bounds-visible_lines-end-then-not-stepping-2 c =
 
 pub slice_bounds-visible_lines-end-then-not-stepping-3 : goal.slice_bounds-visible_lines-end-then-not-stepping-3
 slice_bounds-visible_lines-end-then-not-stepping-3 c =
-    let args = c.args in let pre = c.requires in sym (length-take-le _ args.work-starts.now pre.3)
+    let args = c.args in let pre = c.requires in sym (length-take-le _ args.work_starts.now pre.3)
 
 pub visible_lines-requires : goal.visible_lines-requires
 visible_lines-requires c =
@@ -36,7 +35,7 @@ visible_lines-requires c =
 
 pub returns-then-not-stepping : goal.returns-then-not-stepping
 returns-then-not-stepping c =
-    let args = c.args in let pre = c.requires in plain args.threshold args.view (places_in (length args.work.now) (length args.work-starts.now) args.chopped.now args.chopped-starts.now args.node-boxes.now args.node-marks.now args.order.now args.out.now args.begins.now) (decode 8 args.numbers.now args.inverses.now args.marks.now) (box_at args.boxes.now) (take args.count args.listed.now) args.work.now args.work-starts.now args.n args.m pre.2 c.stepping.ensures (not-true _ c.if-not-stepping.true) _ _ c.visible_lines.ensures
+    let args = c.args in let pre = c.requires in plain args.threshold args.view (places_in (length args.work.now) (length args.work_starts.now) args.chopped.now args.chopped_starts.now args.node_boxes.now args.node_marks.now args.order.now args.out.now args.begins.now) (decode 8 args.numbers.now args.inverses.now args.marks.now) (box_at args.boxes.now) (take args.count args.listed.now) args.work.now args.work_starts.now args.n args.m pre.2 c.stepping.ensures c.if-not-stepping.true _ _ c.visible_lines.ensures
 
 pub slice_bounds-chop_lines-end : goal.slice_bounds-chop_lines-end
 slice_bounds-chop_lines-end c =
@@ -52,7 +51,7 @@ slice_bounds-chop_lines-end-3 c =
 
 pub slice_bounds-chop_lines-end-4 : goal.slice_bounds-chop_lines-end-4
 slice_bounds-chop_lines-end-4 c =
-    let args = c.args in let pre = c.requires in sym (length-take-le _ args.work-starts.now pre.3)
+    let args = c.args in let pre = c.requires in sym (length-take-le _ args.work_starts.now pre.3)
 
 pub overflow_mul-last : goal.overflow_mul-last
 overflow_mul-last c =
@@ -64,7 +63,7 @@ slice_bounds-visible_lines-end-in-Both c =
 
 pub slice_bounds-visible_lines-end-in-Both-2 : goal.slice_bounds-visible_lines-end-in-Both-2
 slice_bounds-visible_lines-end-in-Both-2 c =
-    sym (length-take-le _ c.chop_lines-c.new.1.1.1.0 (c.chop_lines-c.ensures.fits _ _ c.in-Both.is).0)
+    sym (length-take-le _ c.chop_lines-c.new.out (c.chop_lines-c.ensures.fits _ _ c.in-Both.is).0)
 
 pub slice_bounds-visible_lines-end-in-Both-3 : goal.slice_bounds-visible_lines-end-in-Both-3
 slice_bounds-visible_lines-end-in-Both-3 c =
@@ -72,7 +71,7 @@ slice_bounds-visible_lines-end-in-Both-3 c =
 
 pub slice_bounds-visible_lines-end-in-Both-4 : goal.slice_bounds-visible_lines-end-in-Both-4
 slice_bounds-visible_lines-end-in-Both-4 c =
-    sym (length-take-le _ c.chop_lines-c.new.1.1.1.1.0 (c.chop_lines-c.ensures.fits _ _ c.in-Both.is).1)
+    sym (length-take-le _ c.chop_lines-c.new.begins (c.chop_lines-c.ensures.fits _ _ c.in-Both.is).1)
 
 pub visible_lines-d-requires : goal.visible_lines-d-requires
 visible_lines-d-requires c =
@@ -88,7 +87,7 @@ slice_bounds-simplify_lines-end c =
 
 pub slice_bounds-simplify_lines-end-in-Both-d : goal.slice_bounds-simplify_lines-end-in-Both-d
 slice_bounds-simplify_lines-end-in-Both-d c =
-    sym (length-take-le _ c.visible_lines-d.new.1.1.1.1.1.1.1.1.1.0 (c.visible_lines-d.ensures.fits _ _ c.in-Both-d.is).0)
+    sym (length-take-le _ c.visible_lines-d.new.out (c.visible_lines-d.ensures.fits _ _ c.in-Both-d.is).0)
 
 pub slice_bounds-simplify_lines-end-in-Both-d-2 : goal.slice_bounds-simplify_lines-end-in-Both-d-2
 slice_bounds-simplify_lines-end-in-Both-d-2 c =
@@ -96,7 +95,7 @@ slice_bounds-simplify_lines-end-in-Both-d-2 c =
 
 pub slice_bounds-simplify_lines-end-in-Both-d-3 : goal.slice_bounds-simplify_lines-end-in-Both-d-3
 slice_bounds-simplify_lines-end-in-Both-d-3 c =
-    sym (length-take-le _ c.visible_lines-d.new.1.1.1.1.1.1.1.1.1.1.0 (c.visible_lines-d.ensures.fits _ _ c.in-Both-d.is).1)
+    sym (length-take-le _ c.visible_lines-d.new.begins (c.visible_lines-d.ensures.fits _ _ c.in-Both-d.is).1)
 
 pub simplify_lines-requires : goal.simplify_lines-requires
 simplify_lines-requires c =
@@ -104,20 +103,20 @@ simplify_lines-requires c =
 
 pub returns-in-Refused : goal.returns-in-Refused
 returns-in-Refused c =
-    let args = c.args in let pre = c.requires in chop-refused args.threshold args.view (places_in (length args.work.now) (length args.work-starts.now) args.chopped.now args.chopped-starts.now args.node-boxes.now args.node-marks.now args.order.now args.out.now args.begins.now) (decode 8 args.numbers.now args.inverses.now args.marks.now) (box_at args.boxes.now) (take args.count args.listed.now) args.work.now args.work-starts.now args.n args.m pre.2 c.stepping.ensures (not-false _ c.if-not-stepping.false) c.args-2.ensures c.chop_lines-c.new.1.1.1.0 c.chop_lines-c.new.1.1.1.1.0 c.chop_lines-c.ensures c.in-Refused.is _ _
+    let args = c.args in let pre = c.requires in chop-refused args.threshold args.view (places_in (length args.work.now) (length args.work_starts.now) args.chopped.now args.chopped_starts.now args.node_boxes.now args.node_marks.now args.order.now args.out.now args.begins.now) (decode 8 args.numbers.now args.inverses.now args.marks.now) (box_at args.boxes.now) (take args.count args.listed.now) args.work.now args.work_starts.now args.n args.m pre.2 c.stepping.ensures c.if-not-stepping.false c.args-2.ensures c.chop_lines-c.new.out c.chop_lines-c.new.begins c.chop_lines-c.ensures c.in-Refused.is _ _
 
 pub returns-in-Refused-d : goal.returns-in-Refused-d
 returns-in-Refused-d c =
-    let args = c.args in let pre = c.requires in seen-refused args.threshold args.view (places_in (length args.work.now) (length args.work-starts.now) args.chopped.now args.chopped-starts.now args.node-boxes.now args.node-marks.now args.order.now args.out.now args.begins.now) (decode 8 args.numbers.now args.inverses.now args.marks.now) (box_at args.boxes.now) (take args.count args.listed.now) args.work.now args.work-starts.now args.n args.m pre.2 c.stepping.ensures (not-false _ c.if-not-stepping.false) c.args-2.ensures c.chop_lines-c.new.1.1.1.0 c.chop_lines-c.new.1.1.1.1.0 c.chop_lines-c.ensures c.in-Both.is _ _ c.visible_lines-d.ensures c.in-Refused-d.is _ _
+    let args = c.args in let pre = c.requires in seen-refused args.threshold args.view (places_in (length args.work.now) (length args.work_starts.now) args.chopped.now args.chopped_starts.now args.node_boxes.now args.node_marks.now args.order.now args.out.now args.begins.now) (decode 8 args.numbers.now args.inverses.now args.marks.now) (box_at args.boxes.now) (take args.count args.listed.now) args.work.now args.work_starts.now args.n args.m pre.2 c.stepping.ensures c.if-not-stepping.false c.args-2.ensures c.chop_lines-c.new.out c.chop_lines-c.new.begins c.chop_lines-c.ensures c.in-Both.is _ _ c.visible_lines-d.ensures c.in-Refused-d.is _ _
 
 pub shape_of-chopped-in-Both-d : goal.shape_of-chopped-in-Both-d
 shape_of-chopped-in-Both-d c =
-    c.chop_lines-c.auto.1.1.1.0
+    c.chop_lines-c.auto.out
 
 pub shape_of-chopped_starts-in-Both-d : goal.shape_of-chopped_starts-in-Both-d
 shape_of-chopped_starts-in-Both-d c =
-    c.chop_lines-c.auto.1.1.1.1.0
+    c.chop_lines-c.auto.begins
 
 pub returns-in-Both-d : goal.returns-in-Both-d
 returns-in-Both-d c =
-    let args = c.args in let pre = c.requires in simplified args.threshold args.view (places_in (length args.work.now) (length args.work-starts.now) args.chopped.now args.chopped-starts.now args.node-boxes.now args.node-marks.now args.order.now args.out.now args.begins.now) (decode 8 args.numbers.now args.inverses.now args.marks.now) (box_at args.boxes.now) (take args.count args.listed.now) args.work.now args.work-starts.now args.n args.m pre.2 c.stepping.ensures (not-false _ c.if-not-stepping.false) c.args-2.ensures c.chop_lines-c.new.1.1.1.0 c.chop_lines-c.new.1.1.1.1.0 c.chop_lines-c.ensures c.in-Both.is c.visible_lines-d.new.1.1.1.1.1.1.1.1.1.0 c.visible_lines-d.new.1.1.1.1.1.1.1.1.1.1.0 c.visible_lines-d.ensures c.in-Both-d.is _ _ c.simplify_lines.ensures
+    let args = c.args in let pre = c.requires in simplified args.threshold args.view (places_in (length args.work.now) (length args.work_starts.now) args.chopped.now args.chopped_starts.now args.node_boxes.now args.node_marks.now args.order.now args.out.now args.begins.now) (decode 8 args.numbers.now args.inverses.now args.marks.now) (box_at args.boxes.now) (take args.count args.listed.now) args.work.now args.work_starts.now args.n args.m pre.2 c.stepping.ensures c.if-not-stepping.false c.args-2.ensures c.chop_lines-c.new.out c.chop_lines-c.new.begins c.chop_lines-c.ensures c.in-Both.is c.visible_lines-d.new.out c.visible_lines-d.new.begins c.visible_lines-d.ensures c.in-Both-d.is _ _ c.simplify_lines.ensures

@@ -52,7 +52,7 @@ returns-then-k-eq0 c =
 
 pub read_spot-to-requires : goal.read_spot-to-requires
 read_spot-to-requires c =
-    omega (arith, c.if-k-eq0.false, c.loop-left.invariant.upto, c.read_spot-arg-in-loop-left-1.given.0)
+    omega (arith, c.if-k-eq0.false, c.loop-left.invariant.upto, c.read_spot-arg-in-loop-left-1.given)
 
 pub offset_bounds-lefts-k : goal.offset_bounds-lefts-k
 offset_bounds-lefts-k c =

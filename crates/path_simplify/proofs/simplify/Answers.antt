@@ -22,13 +22,13 @@ pub returns-in-Refused : goal.returns-in-Refused
 returns-in-Refused c =
     let args = c.args in
     let w = call_ends args.path.now args.starts.now args.threshold (places args.out.now) (length args.begins.now) (length args.out.now) (length args.begins.now)
-        (finished_as _ _ _ _ (call-refused _ _ _ _ c.threshold_ok.ensures _ c.judge-v.ensures _ _ c.in-Refused.is) refl refl c.finish.ensures) in
+    (finished_as _ _ _ _ (call-refused _ _ _ _ c.threshold_ok.ensures _ c.judge-v.ensures _ _ c.in-Refused.is) refl refl c.finish.ensures) in
     record { finished = w.0; kept = w.1 }
 
 pub returns-in-Fine : goal.returns-in-Fine
 returns-in-Fine c =
     let args = c.args in
     let w = call_ends args.path.now args.starts.now args.threshold (places args.out.now) (length args.begins.now) (length args.out.now) (length args.begins.now)
-        (finished_as _ _ _ _ (c.simplify_paths-r.ensures.is ∙ call-fine _ _ _ _ c.threshold_ok.ensures _ c.judge-v.ensures _ _ c.in-Fine.is)
-          c.simplify_paths-r.auto.out c.simplify_paths-r.auto.begins c.finish-in-Fine.ensures) in
+    (finished_as _ _ _ _ (c.simplify_paths-r.ensures.is ∙ call-fine _ _ _ _ c.threshold_ok.ensures _ c.judge-v.ensures _ _ c.in-Fine.is)
+    c.simplify_paths-r.auto.out c.simplify_paths-r.auto.begins c.finish-in-Fine.ensures) in
     record { finished = w.0; kept = w.1 }
