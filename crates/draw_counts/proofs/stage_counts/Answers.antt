@@ -1,7 +1,6 @@
 use mathlib.Core.Path.{sym, ◌∙◌}
 use mathlib.Core.List.{[]}
 use native.Mathlib.Omega.{arith}
-use borrow.Author.Tests.{not-true, not-false}
 use lib.ListN.{length, take}
 use lib.Seq.{length-take-le}
 use Rattle.tree_split.specs.Build.{box_at}
@@ -30,7 +29,7 @@ slice_bounds-seen_counts-end-then-not-stepping-2 c =
 
 pub slice_bounds-seen_counts-end-then-not-stepping-3 : goal.slice_bounds-seen_counts-end-then-not-stepping-3
 slice_bounds-seen_counts-end-then-not-stepping-3 c =
-    let args = c.args in let pre = c.requires in sym (length-take-le _ args.work-starts.now pre.3)
+    let args = c.args in let pre = c.requires in sym (length-take-le _ args.work_starts.now pre.3)
 
 pub seen_counts-requires : goal.seen_counts-requires
 seen_counts-requires c =
@@ -38,8 +37,8 @@ seen_counts-requires c =
 
 pub returns-then-not-stepping : goal.returns-then-not-stepping
 returns-then-not-stepping c =
-    let args = c.args in let pre = c.requires in let w = places_for (length args.work.now) (length args.work-starts.now) args.chopped.now args.chopped-starts.now args.node-boxes.now args.node-marks.now args.order.now args.out args.begins in
-    plain-counted args.threshold args.view w (blank-places args.out) (blank-starts args.begins) (decode 8 args.numbers.now args.inverses.now args.marks.now) (box_at args.boxes.now) (take args.count args.listed.now) args.work.now args.work-starts.now args.n args.m pre.2 c.stepping.ensures (not-true _ c.if-not-stepping.true) c.seen_counts.ensures
+    let args = c.args in let pre = c.requires in let w = places_for (length args.work.now) (length args.work_starts.now) args.chopped.now args.chopped_starts.now args.node_boxes.now args.node_marks.now args.order.now args.out args.begins in
+    plain-counted args.threshold args.view w (blank-places args.out) (blank-starts args.begins) (decode 8 args.numbers.now args.inverses.now args.marks.now) (box_at args.boxes.now) (take args.count args.listed.now) args.work.now args.work_starts.now args.n args.m pre.2 c.stepping.ensures c.if-not-stepping.true c.seen_counts.ensures
 
 pub slice_bounds-chop_lines-end : goal.slice_bounds-chop_lines-end
 slice_bounds-chop_lines-end c =
@@ -55,7 +54,7 @@ slice_bounds-chop_lines-end-3 c =
 
 pub slice_bounds-chop_lines-end-4 : goal.slice_bounds-chop_lines-end-4
 slice_bounds-chop_lines-end-4 c =
-    let args = c.args in let pre = c.requires in sym (length-take-le _ args.work-starts.now pre.3)
+    let args = c.args in let pre = c.requires in sym (length-take-le _ args.work_starts.now pre.3)
 
 pub overflow_mul-last : goal.overflow_mul-last
 overflow_mul-last c =
@@ -67,7 +66,7 @@ slice_bounds-visible_lines-end c =
 
 pub slice_bounds-visible_lines-end-in-Both : goal.slice_bounds-visible_lines-end-in-Both
 slice_bounds-visible_lines-end-in-Both c =
-    sym (length-take-le _ c.chop_lines-c.new.1.1.1.0 (c.chop_lines-c.ensures.fits _ _ c.in-Both.is).0)
+    sym (length-take-le _ c.chop_lines-c.new.out (c.chop_lines-c.ensures.fits _ _ c.in-Both.is).0)
 
 pub slice_bounds-visible_lines-end-in-Both-2 : goal.slice_bounds-visible_lines-end-in-Both-2
 slice_bounds-visible_lines-end-in-Both-2 c =
@@ -75,7 +74,7 @@ slice_bounds-visible_lines-end-in-Both-2 c =
 
 pub slice_bounds-visible_lines-end-in-Both-3 : goal.slice_bounds-visible_lines-end-in-Both-3
 slice_bounds-visible_lines-end-in-Both-3 c =
-    sym (length-take-le _ c.chop_lines-c.new.1.1.1.1.0 (c.chop_lines-c.ensures.fits _ _ c.in-Both.is).1)
+    sym (length-take-le _ c.chop_lines-c.new.begins (c.chop_lines-c.ensures.fits _ _ c.in-Both.is).1)
 
 pub visible_lines-d-requires : goal.visible_lines-d-requires
 visible_lines-d-requires c =
@@ -91,7 +90,7 @@ slice_bounds-simplified_counts-end c =
 
 pub slice_bounds-simplified_counts-end-in-Both-d : goal.slice_bounds-simplified_counts-end-in-Both-d
 slice_bounds-simplified_counts-end-in-Both-d c =
-    sym (length-take-le _ c.visible_lines-d.new.1.1.1.1.1.1.1.1.1.0 (c.visible_lines-d.ensures.fits _ _ c.in-Both-d.is).0)
+    sym (length-take-le _ c.visible_lines-d.new.out (c.visible_lines-d.ensures.fits _ _ c.in-Both-d.is).0)
 
 pub slice_bounds-simplified_counts-end-in-Both-d-2 : goal.slice_bounds-simplified_counts-end-in-Both-d-2
 slice_bounds-simplified_counts-end-in-Both-d-2 c =
@@ -99,38 +98,38 @@ slice_bounds-simplified_counts-end-in-Both-d-2 c =
 
 pub slice_bounds-simplified_counts-end-in-Both-d-3 : goal.slice_bounds-simplified_counts-end-in-Both-d-3
 slice_bounds-simplified_counts-end-in-Both-d-3 c =
-    sym (length-take-le _ c.visible_lines-d.new.1.1.1.1.1.1.1.1.1.1.0 (c.visible_lines-d.ensures.fits _ _ c.in-Both-d.is).1)
+    sym (length-take-le _ c.visible_lines-d.new.begins (c.visible_lines-d.ensures.fits _ _ c.in-Both-d.is).1)
 
 pub simplified_counts-requires : goal.simplified_counts-requires
 simplified_counts-requires c =
-    let args = c.args in let pre = c.requires in let w = places_for (length args.work.now) (length args.work-starts.now) args.chopped.now args.chopped-starts.now args.node-boxes.now args.node-marks.now args.order.now args.out args.begins in (
-      spare-long args.threshold args.view w (blank-places args.out) (blank-starts args.begins) (decode 8 args.numbers.now args.inverses.now args.marks.now) (box_at args.boxes.now) (take args.count args.listed.now) args.work.now args.work-starts.now args.n args.m pre.2 c.stepping.ensures (not-false _ c.if-not-stepping.false) c.args-2.ensures
-          c.chop_lines-c.new.1.1.1.0 c.chop_lines-c.new.1.1.1.1.0 c.chop_lines-c.ensures c.in-Both.is c.visible_lines-d.new.1.1.1.1.1.1.1.1.1.0 c.visible_lines-d.new.1.1.1.1.1.1.1.1.1.1.0 c.visible_lines-d.ensures c.in-Both-d.is,
+    let args = c.args in let pre = c.requires in let w = places_for (length args.work.now) (length args.work_starts.now) args.chopped.now args.chopped_starts.now args.node_boxes.now args.node_marks.now args.order.now args.out args.begins in (
+      spare-long args.threshold args.view w (blank-places args.out) (blank-starts args.begins) (decode 8 args.numbers.now args.inverses.now args.marks.now) (box_at args.boxes.now) (take args.count args.listed.now) args.work.now args.work_starts.now args.n args.m pre.2 c.stepping.ensures c.if-not-stepping.false c.args-2.ensures
+          c.chop_lines-c.new.out c.chop_lines-c.new.begins c.chop_lines-c.ensures c.in-Both.is c.visible_lines-d.new.out c.visible_lines-d.new.begins c.visible_lines-d.ensures c.in-Both-d.is,
       pre.0,
     )
 
 pub returns-in-Refused : goal.returns-in-Refused
 returns-in-Refused c =
-    let args = c.args in let pre = c.requires in let w = places_for (length args.work.now) (length args.work-starts.now) args.chopped.now args.chopped-starts.now args.node-boxes.now args.node-marks.now args.order.now args.out args.begins in
-    refusal-counted (chop-refused args.threshold args.view w (decode 8 args.numbers.now args.inverses.now args.marks.now) (box_at args.boxes.now) (take args.count args.listed.now) args.work.now args.work-starts.now args.n args.m pre.2 c.stepping.ensures (not-false _ c.if-not-stepping.false) c.args-2.ensures
-    c.chop_lines-c.new.1.1.1.0 c.chop_lines-c.new.1.1.1.1.0 c.chop_lines-c.ensures c.in-Refused.is [] [])
+    let args = c.args in let pre = c.requires in let w = places_for (length args.work.now) (length args.work_starts.now) args.chopped.now args.chopped_starts.now args.node_boxes.now args.node_marks.now args.order.now args.out args.begins in
+    refusal-counted (chop-refused args.threshold args.view w (decode 8 args.numbers.now args.inverses.now args.marks.now) (box_at args.boxes.now) (take args.count args.listed.now) args.work.now args.work_starts.now args.n args.m pre.2 c.stepping.ensures c.if-not-stepping.false c.args-2.ensures
+    c.chop_lines-c.new.out c.chop_lines-c.new.begins c.chop_lines-c.ensures c.in-Refused.is [] [])
 
 pub returns-in-Refused-d : goal.returns-in-Refused-d
 returns-in-Refused-d c =
-    let args = c.args in let pre = c.requires in let w = places_for (length args.work.now) (length args.work-starts.now) args.chopped.now args.chopped-starts.now args.node-boxes.now args.node-marks.now args.order.now args.out args.begins in
-    refusal-counted (seen-refused args.threshold args.view w (decode 8 args.numbers.now args.inverses.now args.marks.now) (box_at args.boxes.now) (take args.count args.listed.now) args.work.now args.work-starts.now args.n args.m pre.2 c.stepping.ensures (not-false _ c.if-not-stepping.false) c.args-2.ensures
-    c.chop_lines-c.new.1.1.1.0 c.chop_lines-c.new.1.1.1.1.0 c.chop_lines-c.ensures c.in-Both.is c.visible_lines-d.new.1.1.1.1.1.1.1.1.1.0 c.visible_lines-d.new.1.1.1.1.1.1.1.1.1.1.0 c.visible_lines-d.ensures c.in-Refused-d.is [] [])
+    let args = c.args in let pre = c.requires in let w = places_for (length args.work.now) (length args.work_starts.now) args.chopped.now args.chopped_starts.now args.node_boxes.now args.node_marks.now args.order.now args.out args.begins in
+    refusal-counted (seen-refused args.threshold args.view w (decode 8 args.numbers.now args.inverses.now args.marks.now) (box_at args.boxes.now) (take args.count args.listed.now) args.work.now args.work_starts.now args.n args.m pre.2 c.stepping.ensures c.if-not-stepping.false c.args-2.ensures
+    c.chop_lines-c.new.out c.chop_lines-c.new.begins c.chop_lines-c.ensures c.in-Both.is c.visible_lines-d.new.out c.visible_lines-d.new.begins c.visible_lines-d.ensures c.in-Refused-d.is [] [])
 
 pub shape_of-chopped-in-Both-d : goal.shape_of-chopped-in-Both-d
 shape_of-chopped-in-Both-d c =
-    c.simplified_counts.auto.1.1.1.0 ∙ c.chop_lines-c.auto.1.1.1.0
+    c.simplified_counts.auto.spare ∙ c.chop_lines-c.auto.out
 
 pub shape_of-chopped_starts-in-Both-d : goal.shape_of-chopped_starts-in-Both-d
 shape_of-chopped_starts-in-Both-d c =
-    c.chop_lines-c.auto.1.1.1.1.0
+    c.chop_lines-c.auto.begins
 
 pub returns-in-Both-d : goal.returns-in-Both-d
 returns-in-Both-d c =
-    let args = c.args in let pre = c.requires in let w = places_for (length args.work.now) (length args.work-starts.now) args.chopped.now args.chopped-starts.now args.node-boxes.now args.node-marks.now args.order.now args.out args.begins in
-    simplified-counted args.threshold args.view w (blank-places args.out) (blank-starts args.begins) (decode 8 args.numbers.now args.inverses.now args.marks.now) (box_at args.boxes.now) (take args.count args.listed.now) args.work.now args.work-starts.now args.n args.m pre.2 c.stepping.ensures (not-false _ c.if-not-stepping.false) c.args-2.ensures
-    c.chop_lines-c.new.1.1.1.0 c.chop_lines-c.new.1.1.1.1.0 c.chop_lines-c.ensures c.in-Both.is c.visible_lines-d.new.1.1.1.1.1.1.1.1.1.0 c.visible_lines-d.new.1.1.1.1.1.1.1.1.1.1.0 c.visible_lines-d.ensures c.in-Both-d.is c.simplified_counts.ensures
+    let args = c.args in let pre = c.requires in let w = places_for (length args.work.now) (length args.work_starts.now) args.chopped.now args.chopped_starts.now args.node_boxes.now args.node_marks.now args.order.now args.out args.begins in
+    simplified-counted args.threshold args.view w (blank-places args.out) (blank-starts args.begins) (decode 8 args.numbers.now args.inverses.now args.marks.now) (box_at args.boxes.now) (take args.count args.listed.now) args.work.now args.work_starts.now args.n args.m pre.2 c.stepping.ensures c.if-not-stepping.false c.args-2.ensures
+    c.chop_lines-c.new.out c.chop_lines-c.new.begins c.chop_lines-c.ensures c.in-Both.is c.visible_lines-d.new.out c.visible_lines-d.new.begins c.visible_lines-d.ensures c.in-Both-d.is c.simplified_counts.ensures

@@ -1,185 +1,24 @@
 use Rattle.floats.specs.Arith.{zero_f}
 use Rattle.draw.proofs.Endings.{zeros-as}
-use borrow.Author.Rules.{rules}
 use Rattle.draw_preview.proofs.preview.Goals as goal
 
-pub returns : goal.returns
-returns c =
-    record {
-      value = ((
-        c.previewing-r.ensures,
-        (
-          zeros-as zero_f c.previewing-r.auto.1.1.1.1.1.1.1.1.1.0 c.clear_work.ensures.zeroed,
-          (
-            zeros-as 0 c.previewing-r.auto.1.1.1.1.1.1.1.1.1.1.0 c.clear_work.ensures.zeroed_2.0,
-            (
-              zeros-as zero_f c.previewing-r.auto.1.1.1.1.1.1.1.1.1.1.1.0 c.clear_work.ensures.zeroed_2.1.0,
-              (
-                zeros-as 0 c.previewing-r.auto.1.1.1.1.1.1.1.1.1.1.1.1.0 c.clear_work.ensures.zeroed_2.1.1.0,
-                (
-                  zeros-as zero_f c.previewing-r.auto.1.1.1.1.1.1.1.1.1.1.1.1.1.0 c.clear_work.ensures.zeroed_2.1.1.1.0,
-                  (
-                    zeros-as 0 c.previewing-r.auto.1.1.1.1.1.1.1.1.1.1.1.1.1.1.0 c.clear_work.ensures.zeroed_2.1.1.1.1.0,
-                    zeros-as 0 c.previewing-r.auto.1.1.1.1.1.1.1.1.1.1.1.1.1.1.1.0 c.clear_work.ensures.zeroed_2.1.1.1.1.1,
-                  ),
-                ),
-              ),
-            ),
-          ),
-        ),
-      )).0;
-      zeroed = ((
-        c.previewing-r.ensures,
-        (
-          zeros-as zero_f c.previewing-r.auto.1.1.1.1.1.1.1.1.1.0 c.clear_work.ensures.zeroed,
-          (
-            zeros-as 0 c.previewing-r.auto.1.1.1.1.1.1.1.1.1.1.0 c.clear_work.ensures.zeroed_2.0,
-            (
-              zeros-as zero_f c.previewing-r.auto.1.1.1.1.1.1.1.1.1.1.1.0 c.clear_work.ensures.zeroed_2.1.0,
-              (
-                zeros-as 0 c.previewing-r.auto.1.1.1.1.1.1.1.1.1.1.1.1.0 c.clear_work.ensures.zeroed_2.1.1.0,
-                (
-                  zeros-as zero_f c.previewing-r.auto.1.1.1.1.1.1.1.1.1.1.1.1.1.0 c.clear_work.ensures.zeroed_2.1.1.1.0,
-                  (
-                    zeros-as 0 c.previewing-r.auto.1.1.1.1.1.1.1.1.1.1.1.1.1.1.0 c.clear_work.ensures.zeroed_2.1.1.1.1.0,
-                    zeros-as 0 c.previewing-r.auto.1.1.1.1.1.1.1.1.1.1.1.1.1.1.1.0 c.clear_work.ensures.zeroed_2.1.1.1.1.1,
-                  ),
-                ),
-              ),
-            ),
-          ),
-        ),
-      )).1;
-      zeroed_2 = ((
-        c.previewing-r.ensures,
-        (
-          zeros-as zero_f c.previewing-r.auto.1.1.1.1.1.1.1.1.1.0 c.clear_work.ensures.zeroed,
-          (
-            zeros-as 0 c.previewing-r.auto.1.1.1.1.1.1.1.1.1.1.0 c.clear_work.ensures.zeroed_2.0,
-            (
-              zeros-as zero_f c.previewing-r.auto.1.1.1.1.1.1.1.1.1.1.1.0 c.clear_work.ensures.zeroed_2.1.0,
-              (
-                zeros-as 0 c.previewing-r.auto.1.1.1.1.1.1.1.1.1.1.1.1.0 c.clear_work.ensures.zeroed_2.1.1.0,
-                (
-                  zeros-as zero_f c.previewing-r.auto.1.1.1.1.1.1.1.1.1.1.1.1.1.0 c.clear_work.ensures.zeroed_2.1.1.1.0,
-                  (
-                    zeros-as 0 c.previewing-r.auto.1.1.1.1.1.1.1.1.1.1.1.1.1.1.0 c.clear_work.ensures.zeroed_2.1.1.1.1.0,
-                    zeros-as 0 c.previewing-r.auto.1.1.1.1.1.1.1.1.1.1.1.1.1.1.1.0 c.clear_work.ensures.zeroed_2.1.1.1.1.1,
-                  ),
-                ),
-              ),
-            ),
-          ),
-        ),
-      )).2;
-      zeroed_3 = ((
-        c.previewing-r.ensures,
-        (
-          zeros-as zero_f c.previewing-r.auto.1.1.1.1.1.1.1.1.1.0 c.clear_work.ensures.zeroed,
-          (
-            zeros-as 0 c.previewing-r.auto.1.1.1.1.1.1.1.1.1.1.0 c.clear_work.ensures.zeroed_2.0,
-            (
-              zeros-as zero_f c.previewing-r.auto.1.1.1.1.1.1.1.1.1.1.1.0 c.clear_work.ensures.zeroed_2.1.0,
-              (
-                zeros-as 0 c.previewing-r.auto.1.1.1.1.1.1.1.1.1.1.1.1.0 c.clear_work.ensures.zeroed_2.1.1.0,
-                (
-                  zeros-as zero_f c.previewing-r.auto.1.1.1.1.1.1.1.1.1.1.1.1.1.0 c.clear_work.ensures.zeroed_2.1.1.1.0,
-                  (
-                    zeros-as 0 c.previewing-r.auto.1.1.1.1.1.1.1.1.1.1.1.1.1.1.0 c.clear_work.ensures.zeroed_2.1.1.1.1.0,
-                    zeros-as 0 c.previewing-r.auto.1.1.1.1.1.1.1.1.1.1.1.1.1.1.1.0 c.clear_work.ensures.zeroed_2.1.1.1.1.1,
-                  ),
-                ),
-              ),
-            ),
-          ),
-        ),
-      )).3;
-      zeroed_4 = ((
-        c.previewing-r.ensures,
-        (
-          zeros-as zero_f c.previewing-r.auto.1.1.1.1.1.1.1.1.1.0 c.clear_work.ensures.zeroed,
-          (
-            zeros-as 0 c.previewing-r.auto.1.1.1.1.1.1.1.1.1.1.0 c.clear_work.ensures.zeroed_2.0,
-            (
-              zeros-as zero_f c.previewing-r.auto.1.1.1.1.1.1.1.1.1.1.1.0 c.clear_work.ensures.zeroed_2.1.0,
-              (
-                zeros-as 0 c.previewing-r.auto.1.1.1.1.1.1.1.1.1.1.1.1.0 c.clear_work.ensures.zeroed_2.1.1.0,
-                (
-                  zeros-as zero_f c.previewing-r.auto.1.1.1.1.1.1.1.1.1.1.1.1.1.0 c.clear_work.ensures.zeroed_2.1.1.1.0,
-                  (
-                    zeros-as 0 c.previewing-r.auto.1.1.1.1.1.1.1.1.1.1.1.1.1.1.0 c.clear_work.ensures.zeroed_2.1.1.1.1.0,
-                    zeros-as 0 c.previewing-r.auto.1.1.1.1.1.1.1.1.1.1.1.1.1.1.1.0 c.clear_work.ensures.zeroed_2.1.1.1.1.1,
-                  ),
-                ),
-              ),
-            ),
-          ),
-        ),
-      )).4;
-      zeroed_5 = ((
-        c.previewing-r.ensures,
-        (
-          zeros-as zero_f c.previewing-r.auto.1.1.1.1.1.1.1.1.1.0 c.clear_work.ensures.zeroed,
-          (
-            zeros-as 0 c.previewing-r.auto.1.1.1.1.1.1.1.1.1.1.0 c.clear_work.ensures.zeroed_2.0,
-            (
-              zeros-as zero_f c.previewing-r.auto.1.1.1.1.1.1.1.1.1.1.1.0 c.clear_work.ensures.zeroed_2.1.0,
-              (
-                zeros-as 0 c.previewing-r.auto.1.1.1.1.1.1.1.1.1.1.1.1.0 c.clear_work.ensures.zeroed_2.1.1.0,
-                (
-                  zeros-as zero_f c.previewing-r.auto.1.1.1.1.1.1.1.1.1.1.1.1.1.0 c.clear_work.ensures.zeroed_2.1.1.1.0,
-                  (
-                    zeros-as 0 c.previewing-r.auto.1.1.1.1.1.1.1.1.1.1.1.1.1.1.0 c.clear_work.ensures.zeroed_2.1.1.1.1.0,
-                    zeros-as 0 c.previewing-r.auto.1.1.1.1.1.1.1.1.1.1.1.1.1.1.1.0 c.clear_work.ensures.zeroed_2.1.1.1.1.1,
-                  ),
-                ),
-              ),
-            ),
-          ),
-        ),
-      )).5;
-      zeroed_6 = ((
-        c.previewing-r.ensures,
-        (
-          zeros-as zero_f c.previewing-r.auto.1.1.1.1.1.1.1.1.1.0 c.clear_work.ensures.zeroed,
-          (
-            zeros-as 0 c.previewing-r.auto.1.1.1.1.1.1.1.1.1.1.0 c.clear_work.ensures.zeroed_2.0,
-            (
-              zeros-as zero_f c.previewing-r.auto.1.1.1.1.1.1.1.1.1.1.1.0 c.clear_work.ensures.zeroed_2.1.0,
-              (
-                zeros-as 0 c.previewing-r.auto.1.1.1.1.1.1.1.1.1.1.1.1.0 c.clear_work.ensures.zeroed_2.1.1.0,
-                (
-                  zeros-as zero_f c.previewing-r.auto.1.1.1.1.1.1.1.1.1.1.1.1.1.0 c.clear_work.ensures.zeroed_2.1.1.1.0,
-                  (
-                    zeros-as 0 c.previewing-r.auto.1.1.1.1.1.1.1.1.1.1.1.1.1.1.0 c.clear_work.ensures.zeroed_2.1.1.1.1.0,
-                    zeros-as 0 c.previewing-r.auto.1.1.1.1.1.1.1.1.1.1.1.1.1.1.1.0 c.clear_work.ensures.zeroed_2.1.1.1.1.1,
-                  ),
-                ),
-              ),
-            ),
-          ),
-        ),
-      )).6;
-      zeroed_7 = ((
-        c.previewing-r.ensures,
-        (
-          zeros-as zero_f c.previewing-r.auto.1.1.1.1.1.1.1.1.1.0 c.clear_work.ensures.zeroed,
-          (
-            zeros-as 0 c.previewing-r.auto.1.1.1.1.1.1.1.1.1.1.0 c.clear_work.ensures.zeroed_2.0,
-            (
-              zeros-as zero_f c.previewing-r.auto.1.1.1.1.1.1.1.1.1.1.1.0 c.clear_work.ensures.zeroed_2.1.0,
-              (
-                zeros-as 0 c.previewing-r.auto.1.1.1.1.1.1.1.1.1.1.1.1.0 c.clear_work.ensures.zeroed_2.1.1.0,
-                (
-                  zeros-as zero_f c.previewing-r.auto.1.1.1.1.1.1.1.1.1.1.1.1.1.0 c.clear_work.ensures.zeroed_2.1.1.1.0,
-                  (
-                    zeros-as 0 c.previewing-r.auto.1.1.1.1.1.1.1.1.1.1.1.1.1.1.0 c.clear_work.ensures.zeroed_2.1.1.1.1.0,
-                    zeros-as 0 c.previewing-r.auto.1.1.1.1.1.1.1.1.1.1.1.1.1.1.1.0 c.clear_work.ensures.zeroed_2.1.1.1.1.1,
-                  ),
-                ),
-              ),
-            ),
-          ),
-        ),
-      )).7;
-    }
+pub returns-clause-zeroed : goal.returns-clause-zeroed
+returns-clause-zeroed c = zeros-as zero_f c.previewing-r.auto.work c.clear_work.ensures.zeroed
+
+pub returns-clause-zeroed_2 : goal.returns-clause-zeroed_2
+returns-clause-zeroed_2 c = zeros-as 0 c.previewing-r.auto.work_starts c.clear_work.ensures.zeroed_2
+
+pub returns-clause-zeroed_3 : goal.returns-clause-zeroed_3
+returns-clause-zeroed_3 c = zeros-as zero_f c.previewing-r.auto.chopped c.clear_work.ensures.zeroed_3
+
+pub returns-clause-zeroed_4 : goal.returns-clause-zeroed_4
+returns-clause-zeroed_4 c = zeros-as 0 c.previewing-r.auto.chopped_starts c.clear_work.ensures.zeroed_4
+
+pub returns-clause-zeroed_5 : goal.returns-clause-zeroed_5
+returns-clause-zeroed_5 c = zeros-as zero_f c.previewing-r.auto.node_boxes c.clear_work.ensures.zeroed_5
+
+pub returns-clause-zeroed_6 : goal.returns-clause-zeroed_6
+returns-clause-zeroed_6 c = zeros-as 0 c.previewing-r.auto.node_marks c.clear_work.ensures.zeroed_6
+
+pub returns-clause-zeroed_7 : goal.returns-clause-zeroed_7
+returns-clause-zeroed_7 c = zeros-as 0 c.previewing-r.auto.order c.clear_work.ensures.zeroed_7

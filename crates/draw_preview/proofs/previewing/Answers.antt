@@ -1,6 +1,5 @@
 use mathlib.Core.List.{[]}
 use Prim.Native.Nat.{◌*◌, ◌/◌}
-use borrow.Author.Tests.{not-true, not-false}
 use lib.ListN.{length}
 use Rattle.scene.specs.Scenes.{scene_of}
 use Rattle.draw.proofs.Drawings.{threshold-fine, scene-refused, view-refused, threshold-refused, scene-listed, drawn-as}
@@ -12,32 +11,32 @@ use Rattle.draw_preview.proofs.previewing.Goals as goal
 pub returns-then-not-is_ok : goal.returns-then-not-is_ok
 returns-then-not-is_ok c =
     let args = c.args in let s = scene_of args.numbers.now args.marks.now args.points.now args.starts.now args.owners.now in
-    let w = places_for (length args.work.now / 24 * 3) (length args.work-starts.now / 8) args.chopped.now args.chopped-starts.now args.node-boxes.now args.node-marks.now args.order.now args.out args.begins in
-    refusal-counted (view-refused args.threshold s _ c.check-v.ensures.verdict args.view w c.in-Accepted.is c.is_ok.ensures (not-true _ c.if-not-is_ok.true) [] [])
+    let w = places_for (length args.work.now / 24 * 3) (length args.work_starts.now / 8) args.chopped.now args.chopped_starts.now args.node_boxes.now args.node_marks.now args.order.now args.out args.begins in
+    refusal-counted (view-refused args.threshold s _ c.check-v.ensures.verdict args.view w c.in-Accepted.is c.is_ok.ensures c.if-not-is_ok.true [] [])
 
 pub returns-then-not-threshold_ok : goal.returns-then-not-threshold_ok
 returns-then-not-threshold_ok c =
     let args = c.args in let s = scene_of args.numbers.now args.marks.now args.points.now args.starts.now args.owners.now in
-    let w = places_for (length args.work.now / 24 * 3) (length args.work-starts.now / 8) args.chopped.now args.chopped-starts.now args.node-boxes.now args.node-marks.now args.order.now args.out args.begins in
-    refusal-counted (threshold-refused args.threshold s _ c.check-v.ensures.verdict args.view w c.in-Accepted.is c.is_ok.ensures (not-false _ c.if-not-is_ok.false) c.threshold_ok.ensures (not-true _ c.if-not-threshold_ok.true) [] [])
+    let w = places_for (length args.work.now / 24 * 3) (length args.work_starts.now / 8) args.chopped.now args.chopped_starts.now args.node_boxes.now args.node_marks.now args.order.now args.out args.begins in
+    refusal-counted (threshold-refused args.threshold s _ c.check-v.ensures.verdict args.view w c.in-Accepted.is c.is_ok.ensures c.if-not-is_ok.false c.threshold_ok.ensures c.if-not-threshold_ok.true [] [])
 
 pub render_counts-requires : goal.render_counts-requires
 render_counts-requires c =
     let args = c.args in let s = scene_of args.numbers.now args.marks.now args.points.now args.starts.now args.owners.now in
-    let w = places_for (length args.work.now / 24 * 3) (length args.work-starts.now / 8) args.chopped.now args.chopped-starts.now args.node-boxes.now args.node-marks.now args.order.now args.out args.begins in (
-      threshold-fine args.threshold c.threshold_ok.ensures (not-false _ c.if-not-threshold_ok.false),
-      scene-listed args.threshold s _ c.check-v.ensures.verdict args.view w c.in-Accepted.is 6144 1024 c.check-v.new.1.1.1.1.1.1.0 c.check-v.ensures.boxes_are c.check-v.new.1.1.1.1.1.1.1.0 c.check-v.ensures.drawn_are,
+    let w = places_for (length args.work.now / 24 * 3) (length args.work_starts.now / 8) args.chopped.now args.chopped_starts.now args.node_boxes.now args.node_marks.now args.order.now args.out args.begins in (
+      threshold-fine args.threshold c.threshold_ok.ensures c.if-not-threshold_ok.false,
+      scene-listed args.threshold s _ c.check-v.ensures.verdict args.view w c.in-Accepted.is 6144 1024 c.check-v.new.boxes c.check-v.ensures.boxes_are c.check-v.new.drawn c.check-v.ensures.drawn_are,
     )
 
 pub returns-in-Refused : goal.returns-in-Refused
 returns-in-Refused c =
     let args = c.args in let s = scene_of args.numbers.now args.marks.now args.points.now args.starts.now args.owners.now in
-    let w = places_for (length args.work.now / 24 * 3) (length args.work-starts.now / 8) args.chopped.now args.chopped-starts.now args.node-boxes.now args.node-marks.now args.order.now args.out args.begins in
+    let w = places_for (length args.work.now / 24 * 3) (length args.work_starts.now / 8) args.chopped.now args.chopped_starts.now args.node_boxes.now args.node_marks.now args.order.now args.out args.begins in
     refusal-counted (scene-refused args.threshold s _ c.check-v.ensures.verdict args.view w c.in-Refused.is [] [])
 
 pub returns-else-not-threshold_ok : goal.returns-else-not-threshold_ok
 returns-else-not-threshold_ok c =
     let args = c.args in let s = scene_of args.numbers.now args.marks.now args.points.now args.starts.now args.owners.now in
-    let w = places_for (length args.work.now / 24 * 3) (length args.work-starts.now / 8) args.chopped.now args.chopped-starts.now args.node-boxes.now args.node-marks.now args.order.now args.out args.begins in
-    as-counted (drawn-as args.threshold s _ c.check-v.ensures.verdict args.view w c.in-Accepted.is 6144 1024 c.check-v.new.1.1.1.1.1.1.0 c.check-v.ensures.boxes_are c.check-v.new.1.1.1.1.1.1.1.0 c.check-v.ensures.drawn_are
-    16384 c.check-v.new.1.1.1.1.1.0 c.check-v.ensures.inverses_are c.is_ok.ensures (not-false _ c.if-not-is_ok.false) c.threshold_ok.ensures (not-false _ c.if-not-threshold_ok.false)) c.render_counts.ensures
+    let w = places_for (length args.work.now / 24 * 3) (length args.work_starts.now / 8) args.chopped.now args.chopped_starts.now args.node_boxes.now args.node_marks.now args.order.now args.out args.begins in
+    as-counted (drawn-as args.threshold s _ c.check-v.ensures.verdict args.view w c.in-Accepted.is 6144 1024 c.check-v.new.boxes c.check-v.ensures.boxes_are c.check-v.new.drawn c.check-v.ensures.drawn_are
+    16384 c.check-v.new.inverses c.check-v.ensures.inverses_are c.is_ok.ensures c.if-not-is_ok.false c.threshold_ok.ensures c.if-not-threshold_ok.false) c.render_counts.ensures
