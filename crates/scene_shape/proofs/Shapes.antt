@@ -21,7 +21,7 @@ use Rattle.scene.proofs.Parts.{entry-placed}
 use Rattle.scene.specs.declared.entry.Entry.{Entry}
 use Rattle.refusals.specs.declared.Refusal.{Refusal}
 use Rattle.refusals.specs.declared.Refusal.TheVariants.{Restarts}
-use Rattle.scene_shape.specs.Shapes.{Shape, read, decode, shape_of, shape_hit, shape_contains, cut_from}
+use Rattle.scene_shape.specs.Shapes.{read, decode, shape_of, shape_hit, cut_from}
 use Rattle.scene_shape.specs.Cuts.{rescaled, both, step, accepted_or, restarted}
 use Rattle.scene_shape.specs.Meetings.{placing, meeting_of, told_by}
 use Rattle.scene_shape.specs.declared.Meeting.{Meeting}

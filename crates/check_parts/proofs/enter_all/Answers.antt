@@ -1,12 +1,9 @@
 use Rattle.check_parts.proofs.Parts.{never, ill-all, ok-more}
-use Rattle.check_parts.specs.Parts.{Known, parts_ok, Flags, named_before}
-use borrow.Author.Tests.{not-true, not-false}
-use lib.ListN.{length}
+use Rattle.check_parts.specs.Parts.{parts_ok, Flags, named_before}
 use native.Mathlib.Nat.{le_antisymm}
 use native.Mathlib.Omega.{arith}
-use mathlib.Core.Bool.{true}
-use mathlib.Core.Path.{◌≡◌, refl, sym, ap, subst, ◌∙◌}
-use Prim.Native.Nat.{ℕ, ◌≤◌, ◌-◌}
+use mathlib.Core.Path.{refl, sym, ap, subst, ◌∙◌}
+use Prim.Native.Nat.{ℕ}
 use Rattle.check_parts.proofs.enter_all.Goals as goal
 
 pub loop-i-init : goal.loop-i-init

@@ -1,8 +1,4 @@
-use Rattle.check_parts.proofs.Owners.{Owned, owned-start, owned-other, owned-falls, owned-turn, owned-end}
-use Prim.Native.Nat.{◌-◌}
-use lib.ListN.{length}
-use borrow.Author.Tests.{not-true, not-false}
-use borrow.Author.Rules.{rules}
+use Rattle.check_parts.proofs.Owners.{owned-start, owned-other, owned-falls, owned-turn, owned-end}
 use Rattle.check_parts.proofs.good_owners.Goals as goal
 
 pub loop-i-init : goal.loop-i-init

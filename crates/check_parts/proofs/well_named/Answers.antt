@@ -1,6 +1,5 @@
 use Rattle.check_parts.proofs.Parts.{known-cleared}
 use native.Mathlib.Omega.{arith}
-use borrow.Author.Rules.{rules}
 use Rattle.check_parts.proofs.well_named.Goals as goal
 
 pub enter_all-requires : goal.enter_all-requires

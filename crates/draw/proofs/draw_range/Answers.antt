@@ -1,55 +1,30 @@
 use Rattle.draw.proofs.Endings.{drawn-finished, zeros-as}
 use Rattle.floats.specs.Arith.{zero_f}
-use mathlib.Core.Path.{◌∙◌}
 use Rattle.draw.proofs.draw_range.Goals as goal
 
--- the calls, each from an end that comes after it
-abbrev cleared : tie.After-slice-known27 → tie.After-clear-work
-cleared c = c.before.before.before.before.before.before.before.before.before.before.before.before.before.before.before.before.before.before.before.before.before
-
-abbrev drawn : tie.After-slice-known27 → tie.After-drawing
-drawn c = c.before.before.before.before.before.before.before.before.before.before.before.before.before.before.before.before.before.before.before.before.before.before.before.before.before.before.before.before.before.before.before.before.before.before.before.before.before.before.before.before.before.before.before.before.before.before.before
-
 pub finish-requires : goal.finish-requires
-finish-requires c =
-    λ n m e. c.drawing-r.ensures.fits n m e
+finish-requires c = c.drawing-r.ensures.fits
 
-pub shape_of-out : goal.shape_of-out
-shape_of-out c =
-    c.finish.auto.0 ∙ c.drawing-r.auto.1.1.1.1.1.1.1.1.1.0
+pub returns-clause-finished : goal.returns-clause-finished
+returns-clause-finished c = drawn-finished c.drawing-r.ensures c.drawing-r.auto.out c.drawing-r.auto.begins c.finish.ensures
 
-pub shape_of-begins : goal.shape_of-begins
-shape_of-begins c =
-    c.finish.auto.1.0 ∙ c.drawing-r.auto.1.1.1.1.1.1.1.1.1.1.0
+pub returns-clause-zeroed : goal.returns-clause-zeroed
+returns-clause-zeroed c = zeros-as zero_f c.drawing-r.auto.work c.clear_work.ensures.zeroed
 
-pub returns : goal.returns
-returns c =
-    record { finished = ((drawn-finished c.drawing-r.ensures c.drawing-r.auto.1.1.1.1.1.1.1.1.1.0 c.drawing-r.auto.1.1.1.1.1.1.1.1.1.1.0 c.finish.ensures, (zeros-as zero_f c.drawing-r.auto.1.1.1.1.1.1.1.1.1.1.1.0 c.clear_work.ensures.zeroed, (zeros-as 0 c.drawing-r.auto.1.1.1.1.1.1.1.1.1.1.1.1.0 c.clear_work.ensures.zeroed_2.0, (zeros-as zero_f c.drawing-r.auto.1.1.1.1.1.1.1.1.1.1.1.1.1.0 c.clear_work.ensures.zeroed_2.1.0, (zeros-as 0 c.drawing-r.auto.1.1.1.1.1.1.1.1.1.1.1.1.1.1.0 c.clear_work.ensures.zeroed_2.1.1.0, (zeros-as zero_f c.drawing-r.auto.1.1.1.1.1.1.1.1.1.1.1.1.1.1.1.0 c.clear_work.ensures.zeroed_2.1.1.1.0, (zeros-as 0 c.drawing-r.auto.1.1.1.1.1.1.1.1.1.1.1.1.1.1.1.1.0 c.clear_work.ensures.zeroed_2.1.1.1.1.0, zeros-as 0 c.drawing-r.auto.1.1.1.1.1.1.1.1.1.1.1.1.1.1.1.1.1.0 c.clear_work.ensures.zeroed_2.1.1.1.1.1)))))))).0; zeroed = ((drawn-finished c.drawing-r.ensures c.drawing-r.auto.1.1.1.1.1.1.1.1.1.0 c.drawing-r.auto.1.1.1.1.1.1.1.1.1.1.0 c.finish.ensures, (zeros-as zero_f c.drawing-r.auto.1.1.1.1.1.1.1.1.1.1.1.0 c.clear_work.ensures.zeroed, (zeros-as 0 c.drawing-r.auto.1.1.1.1.1.1.1.1.1.1.1.1.0 c.clear_work.ensures.zeroed_2.0, (zeros-as zero_f c.drawing-r.auto.1.1.1.1.1.1.1.1.1.1.1.1.1.0 c.clear_work.ensures.zeroed_2.1.0, (zeros-as 0 c.drawing-r.auto.1.1.1.1.1.1.1.1.1.1.1.1.1.1.0 c.clear_work.ensures.zeroed_2.1.1.0, (zeros-as zero_f c.drawing-r.auto.1.1.1.1.1.1.1.1.1.1.1.1.1.1.1.0 c.clear_work.ensures.zeroed_2.1.1.1.0, (zeros-as 0 c.drawing-r.auto.1.1.1.1.1.1.1.1.1.1.1.1.1.1.1.1.0 c.clear_work.ensures.zeroed_2.1.1.1.1.0, zeros-as 0 c.drawing-r.auto.1.1.1.1.1.1.1.1.1.1.1.1.1.1.1.1.1.0 c.clear_work.ensures.zeroed_2.1.1.1.1.1)))))))).1; zeroed_2 = ((drawn-finished c.drawing-r.ensures c.drawing-r.auto.1.1.1.1.1.1.1.1.1.0 c.drawing-r.auto.1.1.1.1.1.1.1.1.1.1.0 c.finish.ensures, (zeros-as zero_f c.drawing-r.auto.1.1.1.1.1.1.1.1.1.1.1.0 c.clear_work.ensures.zeroed, (zeros-as 0 c.drawing-r.auto.1.1.1.1.1.1.1.1.1.1.1.1.0 c.clear_work.ensures.zeroed_2.0, (zeros-as zero_f c.drawing-r.auto.1.1.1.1.1.1.1.1.1.1.1.1.1.0 c.clear_work.ensures.zeroed_2.1.0, (zeros-as 0 c.drawing-r.auto.1.1.1.1.1.1.1.1.1.1.1.1.1.1.0 c.clear_work.ensures.zeroed_2.1.1.0, (zeros-as zero_f c.drawing-r.auto.1.1.1.1.1.1.1.1.1.1.1.1.1.1.1.0 c.clear_work.ensures.zeroed_2.1.1.1.0, (zeros-as 0 c.drawing-r.auto.1.1.1.1.1.1.1.1.1.1.1.1.1.1.1.1.0 c.clear_work.ensures.zeroed_2.1.1.1.1.0, zeros-as 0 c.drawing-r.auto.1.1.1.1.1.1.1.1.1.1.1.1.1.1.1.1.1.0 c.clear_work.ensures.zeroed_2.1.1.1.1.1)))))))).2; zeroed_3 = ((drawn-finished c.drawing-r.ensures c.drawing-r.auto.1.1.1.1.1.1.1.1.1.0 c.drawing-r.auto.1.1.1.1.1.1.1.1.1.1.0 c.finish.ensures, (zeros-as zero_f c.drawing-r.auto.1.1.1.1.1.1.1.1.1.1.1.0 c.clear_work.ensures.zeroed, (zeros-as 0 c.drawing-r.auto.1.1.1.1.1.1.1.1.1.1.1.1.0 c.clear_work.ensures.zeroed_2.0, (zeros-as zero_f c.drawing-r.auto.1.1.1.1.1.1.1.1.1.1.1.1.1.0 c.clear_work.ensures.zeroed_2.1.0, (zeros-as 0 c.drawing-r.auto.1.1.1.1.1.1.1.1.1.1.1.1.1.1.0 c.clear_work.ensures.zeroed_2.1.1.0, (zeros-as zero_f c.drawing-r.auto.1.1.1.1.1.1.1.1.1.1.1.1.1.1.1.0 c.clear_work.ensures.zeroed_2.1.1.1.0, (zeros-as 0 c.drawing-r.auto.1.1.1.1.1.1.1.1.1.1.1.1.1.1.1.1.0 c.clear_work.ensures.zeroed_2.1.1.1.1.0, zeros-as 0 c.drawing-r.auto.1.1.1.1.1.1.1.1.1.1.1.1.1.1.1.1.1.0 c.clear_work.ensures.zeroed_2.1.1.1.1.1)))))))).3; zeroed_4 = ((drawn-finished c.drawing-r.ensures c.drawing-r.auto.1.1.1.1.1.1.1.1.1.0 c.drawing-r.auto.1.1.1.1.1.1.1.1.1.1.0 c.finish.ensures, (zeros-as zero_f c.drawing-r.auto.1.1.1.1.1.1.1.1.1.1.1.0 c.clear_work.ensures.zeroed, (zeros-as 0 c.drawing-r.auto.1.1.1.1.1.1.1.1.1.1.1.1.0 c.clear_work.ensures.zeroed_2.0, (zeros-as zero_f c.drawing-r.auto.1.1.1.1.1.1.1.1.1.1.1.1.1.0 c.clear_work.ensures.zeroed_2.1.0, (zeros-as 0 c.drawing-r.auto.1.1.1.1.1.1.1.1.1.1.1.1.1.1.0 c.clear_work.ensures.zeroed_2.1.1.0, (zeros-as zero_f c.drawing-r.auto.1.1.1.1.1.1.1.1.1.1.1.1.1.1.1.0 c.clear_work.ensures.zeroed_2.1.1.1.0, (zeros-as 0 c.drawing-r.auto.1.1.1.1.1.1.1.1.1.1.1.1.1.1.1.1.0 c.clear_work.ensures.zeroed_2.1.1.1.1.0, zeros-as 0 c.drawing-r.auto.1.1.1.1.1.1.1.1.1.1.1.1.1.1.1.1.1.0 c.clear_work.ensures.zeroed_2.1.1.1.1.1)))))))).4; zeroed_5 = ((drawn-finished c.drawing-r.ensures c.drawing-r.auto.1.1.1.1.1.1.1.1.1.0 c.drawing-r.auto.1.1.1.1.1.1.1.1.1.1.0 c.finish.ensures, (zeros-as zero_f c.drawing-r.auto.1.1.1.1.1.1.1.1.1.1.1.0 c.clear_work.ensures.zeroed, (zeros-as 0 c.drawing-r.auto.1.1.1.1.1.1.1.1.1.1.1.1.0 c.clear_work.ensures.zeroed_2.0, (zeros-as zero_f c.drawing-r.auto.1.1.1.1.1.1.1.1.1.1.1.1.1.0 c.clear_work.ensures.zeroed_2.1.0, (zeros-as 0 c.drawing-r.auto.1.1.1.1.1.1.1.1.1.1.1.1.1.1.0 c.clear_work.ensures.zeroed_2.1.1.0, (zeros-as zero_f c.drawing-r.auto.1.1.1.1.1.1.1.1.1.1.1.1.1.1.1.0 c.clear_work.ensures.zeroed_2.1.1.1.0, (zeros-as 0 c.drawing-r.auto.1.1.1.1.1.1.1.1.1.1.1.1.1.1.1.1.0 c.clear_work.ensures.zeroed_2.1.1.1.1.0, zeros-as 0 c.drawing-r.auto.1.1.1.1.1.1.1.1.1.1.1.1.1.1.1.1.1.0 c.clear_work.ensures.zeroed_2.1.1.1.1.1)))))))).5; zeroed_6 = ((drawn-finished c.drawing-r.ensures c.drawing-r.auto.1.1.1.1.1.1.1.1.1.0 c.drawing-r.auto.1.1.1.1.1.1.1.1.1.1.0 c.finish.ensures, (zeros-as zero_f c.drawing-r.auto.1.1.1.1.1.1.1.1.1.1.1.0 c.clear_work.ensures.zeroed, (zeros-as 0 c.drawing-r.auto.1.1.1.1.1.1.1.1.1.1.1.1.0 c.clear_work.ensures.zeroed_2.0, (zeros-as zero_f c.drawing-r.auto.1.1.1.1.1.1.1.1.1.1.1.1.1.0 c.clear_work.ensures.zeroed_2.1.0, (zeros-as 0 c.drawing-r.auto.1.1.1.1.1.1.1.1.1.1.1.1.1.1.0 c.clear_work.ensures.zeroed_2.1.1.0, (zeros-as zero_f c.drawing-r.auto.1.1.1.1.1.1.1.1.1.1.1.1.1.1.1.0 c.clear_work.ensures.zeroed_2.1.1.1.0, (zeros-as 0 c.drawing-r.auto.1.1.1.1.1.1.1.1.1.1.1.1.1.1.1.1.0 c.clear_work.ensures.zeroed_2.1.1.1.1.0, zeros-as 0 c.drawing-r.auto.1.1.1.1.1.1.1.1.1.1.1.1.1.1.1.1.1.0 c.clear_work.ensures.zeroed_2.1.1.1.1.1)))))))).6; zeroed_7 = ((drawn-finished c.drawing-r.ensures c.drawing-r.auto.1.1.1.1.1.1.1.1.1.0 c.drawing-r.auto.1.1.1.1.1.1.1.1.1.1.0 c.finish.ensures, (zeros-as zero_f c.drawing-r.auto.1.1.1.1.1.1.1.1.1.1.1.0 c.clear_work.ensures.zeroed, (zeros-as 0 c.drawing-r.auto.1.1.1.1.1.1.1.1.1.1.1.1.0 c.clear_work.ensures.zeroed_2.0, (zeros-as zero_f c.drawing-r.auto.1.1.1.1.1.1.1.1.1.1.1.1.1.0 c.clear_work.ensures.zeroed_2.1.0, (zeros-as 0 c.drawing-r.auto.1.1.1.1.1.1.1.1.1.1.1.1.1.1.0 c.clear_work.ensures.zeroed_2.1.1.0, (zeros-as zero_f c.drawing-r.auto.1.1.1.1.1.1.1.1.1.1.1.1.1.1.1.0 c.clear_work.ensures.zeroed_2.1.1.1.0, (zeros-as 0 c.drawing-r.auto.1.1.1.1.1.1.1.1.1.1.1.1.1.1.1.1.0 c.clear_work.ensures.zeroed_2.1.1.1.1.0, zeros-as 0 c.drawing-r.auto.1.1.1.1.1.1.1.1.1.1.1.1.1.1.1.1.1.0 c.clear_work.ensures.zeroed_2.1.1.1.1.1)))))))).7 }
+pub returns-clause-zeroed_2 : goal.returns-clause-zeroed_2
+returns-clause-zeroed_2 c = zeros-as 0 c.drawing-r.auto.work_starts c.clear_work.ensures.zeroed_2
 
-pub shape_of-work : goal.shape_of-work
-shape_of-work c =
-    (cleared c).clear-work.auto.0 ∙ (drawn c).drawing.auto.1.1.1.1.1.1.1.1.1.1.1.0
+pub returns-clause-zeroed_3 : goal.returns-clause-zeroed_3
+returns-clause-zeroed_3 c = zeros-as zero_f c.drawing-r.auto.chopped c.clear_work.ensures.zeroed_3
 
-pub shape_of-work_starts : goal.shape_of-work_starts
-shape_of-work_starts c =
-    (cleared c).clear-work.auto.1.0 ∙ (drawn c).drawing.auto.1.1.1.1.1.1.1.1.1.1.1.1.0
+pub returns-clause-zeroed_4 : goal.returns-clause-zeroed_4
+returns-clause-zeroed_4 c = zeros-as 0 c.drawing-r.auto.chopped_starts c.clear_work.ensures.zeroed_4
 
-pub shape_of-chopped : goal.shape_of-chopped
-shape_of-chopped c =
-    (cleared c).clear-work.auto.1.1.0 ∙ (drawn c).drawing.auto.1.1.1.1.1.1.1.1.1.1.1.1.1.0
+pub returns-clause-zeroed_5 : goal.returns-clause-zeroed_5
+returns-clause-zeroed_5 c = zeros-as zero_f c.drawing-r.auto.node_boxes c.clear_work.ensures.zeroed_5
 
-pub shape_of-chopped_starts : goal.shape_of-chopped_starts
-shape_of-chopped_starts c =
-    (cleared c).clear-work.auto.1.1.1.0 ∙ (drawn c).drawing.auto.1.1.1.1.1.1.1.1.1.1.1.1.1.1.0
+pub returns-clause-zeroed_6 : goal.returns-clause-zeroed_6
+returns-clause-zeroed_6 c = zeros-as 0 c.drawing-r.auto.node_marks c.clear_work.ensures.zeroed_6
 
-pub shape_of-node_boxes : goal.shape_of-node_boxes
-shape_of-node_boxes c =
-    (cleared c).clear-work.auto.1.1.1.1.0 ∙ (drawn c).drawing.auto.1.1.1.1.1.1.1.1.1.1.1.1.1.1.1.0
-
-pub shape_of-node_marks : goal.shape_of-node_marks
-shape_of-node_marks c =
-    (cleared c).clear-work.auto.1.1.1.1.1.0 ∙ (drawn c).drawing.auto.1.1.1.1.1.1.1.1.1.1.1.1.1.1.1.1.0
-
-pub shape_of-order : goal.shape_of-order
-shape_of-order c =
-    (cleared c).clear-work.auto.1.1.1.1.1.1.0 ∙ (drawn c).drawing.auto.1.1.1.1.1.1.1.1.1.1.1.1.1.1.1.1.1.0
+pub returns-clause-zeroed_7 : goal.returns-clause-zeroed_7
+returns-clause-zeroed_7 c = zeros-as 0 c.drawing-r.auto.order c.clear_work.ensures.zeroed_7

@@ -5,67 +5,26 @@ use Rattle.check_parts.specs.Drawn.{drawn}
 use Rattle.draw_render.specs.Slices.{places_in}
 use Rattle.scene.specs.Scenes.{scene_of}
 use lib.ListN.{length, take, drop}
-use borrow.Author.Tests.{not-true, not-false}
 use Prim.Native.Nat.{◌*◌, ◌/◌}
 use borrow.Author.Rules.{rules}
 use Rattle.draw.proofs.drawing.Goals as goal
 
--- the call, from the end
-abbrev rendered : tie.After-slice-known18 → tie.After-render
-rendered c = c.before.before.before.before.before.before.before.before.before.before.before.before.before.before.before.before.before.before
-
 pub returns-then-not-is_ok : goal.returns-then-not-is_ok
 returns-then-not-is_ok c =
-    let args = c.args in part-unseen args.threshold (scene_of args.numbers.now args.marks.now args.points.now args.starts.now args.owners.now) _ c.check-v.ensures.verdict args.view (places_in (length args.work.now / 24 * 3) (length args.work-starts.now / 8) args.chopped.now args.chopped-starts.now args.node-boxes.now args.node-marks.now args.order.now args.out.now args.begins.now) (take args.many (drop args.first (drawn args.marks.now))) c.in-Accepted.is c.is_ok.ensures (not-true _ c.if-not-is_ok.true) _ _
+    let args = c.args in part-unseen args.threshold (scene_of args.numbers.now args.marks.now args.points.now args.starts.now args.owners.now) _ c.check-v.ensures.verdict args.view (places_in (length args.work.now / 24 * 3) (length args.work_starts.now / 8) args.chopped.now args.chopped_starts.now args.node_boxes.now args.node_marks.now args.order.now args.out.now args.begins.now) (take args.many (drop args.first (drawn args.marks.now))) c.in-Accepted.is c.is_ok.ensures c.if-not-is_ok.true _ _
 
 pub returns-then-not-threshold_ok : goal.returns-then-not-threshold_ok
 returns-then-not-threshold_ok c =
-    let args = c.args in part-unsimplified args.threshold (scene_of args.numbers.now args.marks.now args.points.now args.starts.now args.owners.now) _ c.check-v.ensures.verdict args.view (places_in (length args.work.now / 24 * 3) (length args.work-starts.now / 8) args.chopped.now args.chopped-starts.now args.node-boxes.now args.node-marks.now args.order.now args.out.now args.begins.now) (take args.many (drop args.first (drawn args.marks.now))) c.in-Accepted.is c.is_ok.ensures (not-false _ c.if-not-is_ok.false) c.threshold_ok.ensures (not-true _ c.if-not-threshold_ok.true) _ _
+    let args = c.args in part-unsimplified args.threshold (scene_of args.numbers.now args.marks.now args.points.now args.starts.now args.owners.now) _ c.check-v.ensures.verdict args.view (places_in (length args.work.now / 24 * 3) (length args.work_starts.now / 8) args.chopped.now args.chopped_starts.now args.node_boxes.now args.node_marks.now args.order.now args.out.now args.begins.now) (take args.many (drop args.first (drawn args.marks.now))) c.in-Accepted.is c.is_ok.ensures c.if-not-is_ok.false c.threshold_ok.ensures c.if-not-threshold_ok.true _ _
 
-pub render-requires : goal.render-requires
-render-requires c =
-    let args = c.args in (threshold-fine args.threshold c.threshold_ok.ensures (not-false _ c.if-not-threshold_ok.false), scene-listed args.threshold (scene_of args.numbers.now args.marks.now args.points.now args.starts.now args.owners.now) _ c.check-v.ensures.verdict args.view (places_in (length args.work.now / 24 * 3) (length args.work-starts.now / 8) args.chopped.now args.chopped-starts.now args.node-boxes.now args.node-marks.now args.order.now args.out.now args.begins.now) c.in-Accepted.is 6144 1024 c.check-v.new.1.1.1.1.1.1.0 c.check-v.ensures.boxes_are c.check-v.new.1.1.1.1.1.1.1.0 c.check-v.ensures.drawn_are, range-low args.first args.many _ c.range_within-range.ensures)
+pub render_part-requires : goal.render_part-requires
+render_part-requires c =
+    let args = c.args in (threshold-fine args.threshold c.threshold_ok.ensures c.if-not-threshold_ok.false, scene-listed args.threshold (scene_of args.numbers.now args.marks.now args.points.now args.starts.now args.owners.now) _ c.check-v.ensures.verdict args.view (places_in (length args.work.now / 24 * 3) (length args.work_starts.now / 8) args.chopped.now args.chopped_starts.now args.node_boxes.now args.node_marks.now args.order.now args.out.now args.begins.now) c.in-Accepted.is 6144 1024 c.check-v.new.boxes c.check-v.ensures.boxes_are c.check-v.new.drawn c.check-v.ensures.drawn_are, range-low args.first args.many _ c.range_within-range.ensures)
 
 pub returns-in-Refused : goal.returns-in-Refused
 returns-in-Refused c =
-    let args = c.args in part-refused args.threshold (scene_of args.numbers.now args.marks.now args.points.now args.starts.now args.owners.now) _ c.check-v.ensures.verdict args.view (places_in (length args.work.now / 24 * 3) (length args.work-starts.now / 8) args.chopped.now args.chopped-starts.now args.node-boxes.now args.node-marks.now args.order.now args.out.now args.begins.now) (take args.many (drop args.first (drawn args.marks.now))) c.in-Refused.is _ _
+    let args = c.args in part-refused args.threshold (scene_of args.numbers.now args.marks.now args.points.now args.starts.now args.owners.now) _ c.check-v.ensures.verdict args.view (places_in (length args.work.now / 24 * 3) (length args.work_starts.now / 8) args.chopped.now args.chopped_starts.now args.node_boxes.now args.node_marks.now args.order.now args.out.now args.begins.now) (take args.many (drop args.first (drawn args.marks.now))) c.in-Refused.is _ _
 
 pub returns-else-not-threshold_ok : goal.returns-else-not-threshold_ok
 returns-else-not-threshold_ok c =
-    let args = c.args in range-rendered args.threshold (scene_of args.numbers.now args.marks.now args.points.now args.starts.now args.owners.now) _ c.check-v.ensures.verdict args.view (places_in (length args.work.now / 24 * 3) (length args.work-starts.now / 8) args.chopped.now args.chopped-starts.now args.node-boxes.now args.node-marks.now args.order.now args.out.now args.begins.now) args.first args.many c.in-Accepted.is 6144 1024 c.check-v.new.1.1.1.1.1.1.0 c.check-v.ensures.boxes_are c.check-v.new.1.1.1.1.1.1.1.0 c.check-v.ensures.drawn_are 16384 c.check-v.new.1.1.1.1.1.0 c.check-v.ensures.inverses_are c.is_ok.ensures (not-false _ c.if-not-is_ok.false) c.threshold_ok.ensures (not-false _ c.if-not-threshold_ok.false) c.range_within-range.ensures _ _ c.render.ensures
-
-pub shape_of-out : goal.shape_of-out
-shape_of-out c =
-    (rendered c).render.auto.1.1.1.1.1.1.1.1.1.1.1.1.1.0
-
-pub shape_of-begins : goal.shape_of-begins
-shape_of-begins c =
-    (rendered c).render.auto.1.1.1.1.1.1.1.1.1.1.1.1.1.1.0
-
-pub shape_of-work : goal.shape_of-work
-shape_of-work c =
-    (rendered c).render.auto.1.1.1.1.1.1.1.1.1.1.1.1.1.1.1.0
-
-pub shape_of-work_starts : goal.shape_of-work_starts
-shape_of-work_starts c =
-    (rendered c).render.auto.1.1.1.1.1.1.1.1.1.1.1.1.1.1.1.1.0
-
-pub shape_of-chopped : goal.shape_of-chopped
-shape_of-chopped c =
-    (rendered c).render.auto.1.1.1.1.1.1.1.1.1.1.1.1.1.1.1.1.1.0
-
-pub shape_of-chopped_starts : goal.shape_of-chopped_starts
-shape_of-chopped_starts c =
-    (rendered c).render.auto.1.1.1.1.1.1.1.1.1.1.1.1.1.1.1.1.1.1.0
-
-pub shape_of-node_boxes : goal.shape_of-node_boxes
-shape_of-node_boxes c =
-    (rendered c).render.auto.1.1.1.1.1.1.1.1.1.1.1.1.1.1.1.1.1.1.1.0
-
-pub shape_of-node_marks : goal.shape_of-node_marks
-shape_of-node_marks c =
-    (rendered c).render.auto.1.1.1.1.1.1.1.1.1.1.1.1.1.1.1.1.1.1.1.1.0
-
-pub shape_of-order : goal.shape_of-order
-shape_of-order c =
-    (rendered c).render.auto.1.1.1.1.1.1.1.1.1.1.1.1.1.1.1.1.1.1.1.1.1.0
+    let args = c.args in range-rendered args.threshold (scene_of args.numbers.now args.marks.now args.points.now args.starts.now args.owners.now) _ c.check-v.ensures.verdict args.view (places_in (length args.work.now / 24 * 3) (length args.work_starts.now / 8) args.chopped.now args.chopped_starts.now args.node_boxes.now args.node_marks.now args.order.now args.out.now args.begins.now) args.first args.many c.in-Accepted.is 6144 1024 c.check-v.new.boxes c.check-v.ensures.boxes_are c.check-v.new.drawn c.check-v.ensures.drawn_are 16384 c.check-v.new.inverses c.check-v.ensures.inverses_are c.is_ok.ensures c.if-not-is_ok.false c.threshold_ok.ensures c.if-not-threshold_ok.false c.range_within-range.ensures _ _ c.render_part.ensures

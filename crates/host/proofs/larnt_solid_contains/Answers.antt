@@ -1,6 +1,7 @@
 use mathlib.Core.Path.{ap, ◌∙◌}
 use borrow.Author.Rules.{rules}
 use Rattle.scene.specs.Entries.{simple_of}
+use Rattle.rows.specs.Points.{point_of}
 use Rattle.host.proofs.Calls.{inside_is, no-inside}
 use Rattle.host.proofs.larnt_solid_contains.Goals as goal
 
@@ -10,4 +11,4 @@ returns-in-Is c =
 
 pub returns-in-Other : goal.returns-in-Other
 returns-in-Other c =
-    record { answer = (no-inside _ _ (c.simple_of.ensures ∙ ap (simple_of _) c.sixteen.ensures) c.in-Other.is _ _).0; lent = (no-inside _ _ (c.simple_of.ensures ∙ ap (simple_of _) c.sixteen.ensures) c.in-Other.is _ _).1 }
+    record { answer = (no-inside _ _ (c.simple_of.ensures ∙ ap (simple_of _) c.sixteen.ensures) c.in-Other.is (point_of c.args.p.now) c.args.f).0; lent = (no-inside _ _ (c.simple_of.ensures ∙ ap (simple_of _) c.sixteen.ensures) c.in-Other.is (point_of c.args.p.now) c.args.f).1 }

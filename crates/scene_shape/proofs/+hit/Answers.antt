@@ -1,7 +1,7 @@
 use Rattle.std.proofs.Common.{ap, sym, ◌∙◌, arith, ◌<◌}
 use Rattle.scene.proofs.Parts.{entry-none, entry-simple, entry-parts, numbers_fit, inverse-fits, marks-fit}
 use Rattle.solids.specs.Solids.{hit_of}
-use Rattle.scene_shape.proofs.Shapes.{decode_is, falls_below, at_most, met-below, met-hit, cut-refused, cut-missed, cut_inside, cut-spent, cut_again}
+use Rattle.scene_shape.proofs.Shapes.{decode_is, falls_below, met-below, met-hit, cut-refused, cut-missed, cut_inside, cut-spent, cut_again}
 use Rattle.scene_shape.specs.Shapes.{read, shape_of, shape_hit}
 use Rattle.scene_shape.specs.declared.Struck.TheVariants.{At}
 use Rattle.scene_shape.proofs.+hit.Goals as goal
