@@ -1,4 +1,4 @@
-/* The calls that libhost.a exports (`rt staticlib host`), the preview of libhost_preview.a, the draw of some parts
+/* The calls that libhost.a exports (`tools/archives host`), the preview of libhost_preview.a, the draw of some parts
    of libhost_parts.a, the account of libhost_account.a, and at the end those of libhost_text.a, libhost_plotter.a and
    libhost_merge.a. `tools/house` holds these declarations to the crates of these names, type by type. Matrices stand by
    rows.
@@ -221,7 +221,7 @@ uint32_t larnt_draw_with(LARNT_SCENE, const double view[22], double threshold, d
                          uint32_t *node_marks, size_t node_marks_count, uint32_t *order, size_t order_count,
                          size_t *points_out, size_t *paths_out);
 
-/* The preview that libhost_preview.a exports (`rt staticlib host_preview`): the answer of larnt_draw_with and its
+/* The preview that libhost_preview.a exports (`tools/archives host_preview`): the answer of larnt_draw_with and its
    counts, for `out` of out_len numbers and `begins` of begins_len starts, neither of which is lent. It works in what
    a draw works in, and that is zeros afterwards. To learn how many places a draw needs, ask with SIZE_MAX; then lend
    three numbers a point, and one start more than it counts paths: at step 0 a path that vanishes takes a start until it
@@ -232,7 +232,7 @@ uint32_t larnt_preview(LARNT_SCENE, const double view[22], double threshold, siz
                        double *node_boxes, size_t node_boxes_count, uint32_t *node_marks, size_t node_marks_count,
                        uint32_t *order, size_t order_count, size_t *points_out, size_t *paths_out);
 
-/* The draw of some parts that libhost_parts.a exports (`rt staticlib host_parts`): larnt_draw_with with the lines of
+/* The draw of some parts that libhost_parts.a exports (`tools/archives host_parts`): larnt_draw_with with the lines of
    the drawn entries number first, first + 1 and so on alone, `many` of them as far as there are any; all solids of the
    scene hide. Drawn entries are counted from 0, in the order of larnt_check, and any two numbers may be asked for. The
    drawings of consecutive ranges, one after the other, are the whole drawing, bit for bit: its points, and its starts
@@ -246,7 +246,7 @@ uint32_t larnt_draw_range(LARNT_SCENE, const double view[22], double threshold, 
                           size_t node_boxes_count, uint32_t *node_marks, size_t node_marks_count, uint32_t *order,
                           size_t order_count, size_t *points_out, size_t *paths_out);
 
-/* The account of a sheet, in two calls that libhost_account.a exports (`rt staticlib host_account`): the lines that a draw
+/* The account of a sheet, in two calls that libhost_account.a exports (`tools/archives host_account`): the lines that a draw
    puts to its fourth step, the clip and the eye test, and what becomes of their points there.
 
    The lines of the drawn entries number first, first + 1 and so on, `many` of them as far as there are any, as for
@@ -274,7 +274,7 @@ uint32_t larnt_entry_lines(LARNT_SCENE, const double view[22], size_t first, siz
 uint32_t larnt_fates(LARNT_SCENE, LARNT_TREE, const double view[22], const double *tested, size_t tested_count,
                      uint32_t *told, size_t told_count);
 
-/* Canonical text: the calls that libhost_text.a exports (`rt staticlib host_text`).
+/* Canonical text: the calls that libhost_text.a exports (`tools/archives host_text`).
 
    Writes a view and a scene as forms: the view's line, then one line for each drawn entry in order; counts and
    operations in decimal, every other number as # and 16 upper-case digits, a round solid's count of 0 left out. A NaN,
@@ -289,7 +289,7 @@ uint32_t larnt_write(LARNT_SCENE, const double view[22], uint8_t *text, size_t t
    text, and the answer 0 where it is too short for either. */
 size_t larnt_canonical(const uint8_t *text, size_t text_count, uint8_t *out, size_t out_count);
 
-/* The plotter's registers: the calls that libhost_plotter.a exports (`rt staticlib host_plotter`), declared in
+/* The plotter's registers: the calls that libhost_plotter.a exports (`tools/archives host_plotter`), declared in
    crates/host_plotter/src/registers.rt. No machine is behind them, and all state is in what is lent.
 
    pen is where the pen is and target where the last accepted move goes, X and Y in tenths of a millimetre. bytes
@@ -326,7 +326,7 @@ uint32_t larnt_pick(const double *yard, size_t yard_count, const size_t *yard_st
                     const double pen[3], uint8_t *marks, size_t marks_count, bool *of_lines, size_t *path,
                     size_t *from, size_t *end);
 
-/* Two scenes merged into one, of libhost_merge.a (`rt staticlib host_merge`, declared in crates/host_merge/src/lib.rt):
+/* Two scenes merged into one, of libhost_merge.a (`tools/archives host_merge`, declared in crates/host_merge/src/lib.rt):
    the first scene's entries, then the second's with used part, owner and start indices raised; a scene without path
    starts gives no points. The result slices hold the merged scene, then zeros, and the counts are its entries, points
    and paths. Answers 0, or the number of the refusal: 2 to 7 or 14 for the first scene, then for the second, then 2 for

@@ -1,5 +1,5 @@
 //! The calls of libhost.a, libhost_preview.a, libhost_parts.a, libhost_account.a, libhost_merge.a, libhost_text.a and
-//! libhost_plotter.a (`rt staticlib host`, and so on) for Rust; all seven are linked. `tools/house` looks that none is missing; nothing checks their types against
+//! libhost_plotter.a (`tools/archives host`, and so on) for Rust; all seven are linked. `tools/house` looks that none is missing; nothing checks their types against
 //! the crates of these names. Matrices stand by rows; the kinds and the order of their numbers are in larnt.h, and so is
 //! what a scene holds.
 
@@ -916,7 +916,7 @@ pub fn fates(s: Scene, tree: Tree, view: &[f64; 22], tested: &[f64], told: &mut 
     }
 }
 
-/// The plotter's registers, which larnt.h describes: the calls of libhost_plotter.a (`rt staticlib host_plotter`),
+/// The plotter's registers, which larnt.h describes: the calls of libhost_plotter.a (`tools/archives host_plotter`),
 /// declared in crates/host_plotter/src/registers.rt. All are 0 at first.
 #[repr(C)]
 #[derive(Clone, Copy, Debug, Default, PartialEq, Eq)]

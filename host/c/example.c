@@ -1,7 +1,7 @@
 /* Draws a yard with the proved library, as the program `yard` does: forms from standard input, the drawing to
    standard output. From the root of a clone:
 
-       rt staticlib host && rt staticlib host_preview
+       tools/archives host && tools/archives host_preview
        cc -std=c99 -Wall -Wextra -O2 -Ihost host/c/example.c target/staticlib/libhost.a target/staticlib/libhost_preview.a -o target/example
        target/example < examples/silos.yard
 

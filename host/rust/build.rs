@@ -21,7 +21,7 @@ fn main() {
         println!("cargo::rerun-if-changed={}", archive.display());
         if !archive.exists() {
             println!(
-                "cargo::error={} is not there: run `rt staticlib {name}` in the clone, or name the folder that has it in LARNT_STATICLIB",
+                "cargo::error={} is not there: run `tools/archives {name}` in the clone, or name the folder that has it in LARNT_STATICLIB",
                 archive.display()
             );
         }

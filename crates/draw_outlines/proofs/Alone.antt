@@ -37,14 +37,6 @@ from-none xs ss = refl
 pub fit_none : (xs : List Float) (ss : List ℕ) → Fit (Both 0 0) xs ss
 fit_none xs ss = fit-both xs ss 0 0 (omega arith) (omega arith)
 
-is_false : (b : Bool) → not b ≡ true → b ≡ false
-is_false true h = cc
-is_false false h = refl
-
-is_true : (b : Bool) → not b ≡ false → b ≡ true
-is_true true h = refl
-is_true false h = cc
-
 module _ (s : Simple) (eye : Vector) (xs : List Float) (v : View) (room startRoom : ℕ) where
   pub bad-length : (length xs % 16 ≡ 0 → ⊥) → refused Lengths ≡ outline_call s eye xs v room startRoom
   unfolding outline_call
@@ -68,11 +60,11 @@ module _ (s : Simple) (eye : Vector) (xs : List Float) (v : View) (room startRoo
       too-deep h = sym (call-is ∙ rw (e, count, lt-ltb _ _ h))
 
       module _ (few : length xs / 16 ≤ 7) {b : Bool} (ok : b ≡ view_ok v) where
-        pub bad-view : not b ≡ true → refused BadView ≡ outline_call s eye xs v room startRoom
+        pub bad-view : b ≡ false → refused BadView ≡ outline_call s eye xs v room startRoom
         unfolding outline_at
-        bad-view h = sym (call-is ∙ rw (e, count, le-ltb _ _ few, ← ok, is_false b h))
+        bad-view h = sym (call-is ∙ rw (e, count, le-ltb _ _ few, ← ok, h))
 
-        pub outline-is : not b ≡ false → {a : RenderArgs} → a ≡ args_of v → {ms : List Matrix} → ms ≡ matrices_in (length xs / 16) xs → {t : Placement} → t ≡ placement_at a eye ms → (ys : List Float) (ss : List ℕ)
+        pub outline-is : b ≡ true → {a : RenderArgs} → a ≡ args_of v → {ms : List Matrix} → ms ≡ matrices_in (length xs / 16) xs → {t : Placement} → t ≡ placement_at a eye ms → (ys : List Float) (ss : List ℕ)
             → next (told_both (Both 0 0) ys ss) (add_paths room startRoom (outline_of t x)) ≡ outline_call s eye xs v room startRoom
         unfolding outline_at
-        outline-is h ea em et ys ss = sym (call-is ∙ rw (e, count, le-ltb _ _ few, ← ok, is_true b h, et, ea, em, from-none ys ss))
+        outline-is h ea em et ys ss = sym (call-is ∙ rw (e, count, le-ltb _ _ few, ← ok, h, et, ea, em, from-none ys ss))

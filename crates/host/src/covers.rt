@@ -19,8 +19,7 @@ pub fn batch_number(b: Batch) -> u32
 
 // Whether the eye sees a point past the solids of a tree, by a walk that stops at the first solid that falls
 // short: numbers 2 to 9 and 14, then 11 and 12.
-#[unsafe(no_mangle)]
-pub extern "C" fn larnt_covered(
+pub fn larnt_covered(
     numbers: &[f64],
     marks: &[u32],
     points: &[f64],
@@ -53,8 +52,7 @@ pub extern "C" fn larnt_covered(
 
 // The same of many points, three numbers each: a byte a point, 1 yes, 2 no, or the point's number 9, 11 or
 // 12, then zeros. Numbers 2 to 8 and 14, then 13; the slice is then zeros throughout.
-#[unsafe(no_mangle)]
-pub extern "C" fn larnt_covered_all(
+pub fn larnt_covered_all(
     numbers: &[f64],
     marks: &[u32],
     points: &[f64],

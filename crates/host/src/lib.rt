@@ -94,8 +94,7 @@ fn sixteen(n: &[f64; 16]) -> Numbers
 }
 
 // The square root, correctly rounded, and its exact remainder.
-#[unsafe(no_mangle)]
-pub extern "C" fn larnt_sqrt(x: f64, rest: &mut i64) -> f64
+pub fn larnt_sqrt(x: f64, rest: &mut i64) -> f64
     ensures answer { result ≡ sqrt_of x }
     ensures lent { rest.new ≡ rest_of x }
 {
@@ -106,8 +105,7 @@ pub extern "C" fn larnt_sqrt(x: f64, rest: &mut i64) -> f64
 }
 
 // The length of a vector, and the remainder of its root.
-#[unsafe(no_mangle)]
-pub extern "C" fn larnt_length(v: &[f64; 3], rest: &mut i64) -> f64
+pub fn larnt_length(v: &[f64; 3], rest: &mut i64) -> f64
     ensures answer { result ≡ length_of (point_of v.now) }
     ensures lent { rest.new ≡ length_rest (point_of v.now) }
 {
@@ -118,8 +116,7 @@ pub extern "C" fn larnt_length(v: &[f64; 3], rest: &mut i64) -> f64
 }
 
 // The distance of two points, and the remainder of its root.
-#[unsafe(no_mangle)]
-pub extern "C" fn larnt_distance(a: &[f64; 3], b: &[f64; 3], rest: &mut i64) -> f64
+pub fn larnt_distance(a: &[f64; 3], b: &[f64; 3], rest: &mut i64) -> f64
     ensures answer { result ≡ distance_of (point_of a.now) (point_of b.now) }
     ensures lent { rest.new ≡ distance_rest (point_of a.now) (point_of b.now) }
 {
@@ -130,8 +127,7 @@ pub extern "C" fn larnt_distance(a: &[f64; 3], b: &[f64; 3], rest: &mut i64) -> 
 }
 
 // Where a ray (origin, direction) enters and leaves a box (min, max).
-#[unsafe(no_mangle)]
-pub extern "C" fn larnt_box_test(b: &[f64; 6], ray: &[f64; 6], span: &mut [f64; 2])
+pub fn larnt_box_test(b: &[f64; 6], ray: &[f64; 6], span: &mut [f64; 2])
     ensures { span.new ≡ span_row (box_test (box_of_row b.now) (ray_of_row ray.now)) }
 {
     let s = bounds(b).intersect(ray_from(ray));
@@ -139,8 +135,7 @@ pub extern "C" fn larnt_box_test(b: &[f64; 6], ray: &[f64; 6], span: &mut [f64; 
 }
 
 // The projection of a point by a matrix (by rows), over the fourth coordinate.
-#[unsafe(no_mangle)]
-pub extern "C" fn larnt_project(m: &[f64; 16], p: &[f64; 3], projected: &mut [f64; 3])
+pub fn larnt_project(m: &[f64; 16], p: &[f64; 3], projected: &mut [f64; 3])
     ensures { projected.new ≡ point_row (mul_position_w (matrix_of (numbers_of m.now)) (point_of p.now)) }
 {
     let v = scene::entry::matrix_of(sixteen(m)).mul_position_w(point(p));
@@ -148,8 +143,7 @@ pub extern "C" fn larnt_project(m: &[f64; 16], p: &[f64; 3], projected: &mut [f6
 }
 
 // The inverse of a matrix (by rows); answers the determinant that it was divided by.
-#[unsafe(no_mangle)]
-pub extern "C" fn larnt_inverse(m: &[f64; 16], inverse: &mut [f64; 16]) -> f64
+pub fn larnt_inverse(m: &[f64; 16], inverse: &mut [f64; 16]) -> f64
     ensures answer { result ≡ (inverted (matrix_of (numbers_of m.now))).determinant }
     ensures lent { inverse.new ≡ matrix_row (inverted (matrix_of (numbers_of m.now))).inverse }
 {
@@ -163,8 +157,7 @@ pub extern "C" fn larnt_inverse(m: &[f64; 16], inverse: &mut [f64; 16]) -> f64
 }
 
 // The hit that a solid of kinds 1 to 5, 8 or 9 gives a ray. Answers 0, or 3 for any other kind.
-#[unsafe(no_mangle)]
-pub extern "C" fn larnt_solid_hit(
+pub fn larnt_solid_hit(
     kind: u32,
     n: &[f64; 16],
     ray: &[f64; 6],
@@ -191,8 +184,7 @@ pub extern "C" fn larnt_solid_hit(
 }
 
 // The box of a solid of kinds 1 to 5, 8 or 9. Answers 0, or 3 for any other kind.
-#[unsafe(no_mangle)]
-pub extern "C" fn larnt_solid_box(kind: u32, n: &[f64; 16], b: &mut [f64; 6]) -> u32
+pub fn larnt_solid_box(kind: u32, n: &[f64; 16], b: &mut [f64; 6]) -> u32
     ensures answer { result ≡ simple_number (simple_of kind (numbers_of n.now)) }
     ensures lent { b.new ≡ box_numbers (simple_of kind (numbers_of n.now)) }
 {
@@ -210,8 +202,7 @@ pub extern "C" fn larnt_solid_box(kind: u32, n: &[f64; 16], b: &mut [f64; 6]) ->
 }
 
 // Whether a solid of kinds 1 to 5, 8 or 9, widened by f, contains a point. Answers 0, or 3 for any other kind.
-#[unsafe(no_mangle)]
-pub extern "C" fn larnt_solid_contains(
+pub fn larnt_solid_contains(
     kind: u32,
     n: &[f64; 16],
     p: &[f64; 3],
@@ -235,8 +226,7 @@ pub extern "C" fn larnt_solid_contains(
 
 // The check of a scene: numbers 2 to 7 and 14. Of an accepted one `inverses` holds 16 numbers an entry (zeros
 // for what is no placing), `boxes` 6 an entry, `drawn` the drawn entries, `count` of them; then zeros.
-#[unsafe(no_mangle)]
-pub extern "C" fn larnt_check(
+pub fn larnt_check(
     numbers: &[f64],
     marks: &[u32],
     points: &[f64],
@@ -258,8 +248,7 @@ pub extern "C" fn larnt_check(
 
 // The hit that the solid at an entry of a scene gives a ray, with no tree and no other solid: numbers 2
 // to 8, then 11.
-#[unsafe(no_mangle)]
-pub extern "C" fn larnt_own_hit(
+pub fn larnt_own_hit(
     numbers: &[f64],
     marks: &[u32],
     points: &[f64],
@@ -279,8 +268,7 @@ pub extern "C" fn larnt_own_hit(
 }
 
 // Whether the solid at an entry of a scene, widened by f, contains a point: numbers 2 to 7 and 14.
-#[unsafe(no_mangle)]
-pub extern "C" fn larnt_own_contains(
+pub fn larnt_own_contains(
     numbers: &[f64],
     marks: &[u32],
     points: &[f64],

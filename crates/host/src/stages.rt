@@ -78,8 +78,7 @@ pub fn view_from(v: &[f64; 22]) -> View
 // The paths chopped for a view (matrix by rows, eye, width, height, step): numbers 2, 4, 8 and 9, then 13.
 // `out` holds their points and `begins` their starts, then zeros; `points_out` and `paths_out` are how many
 // there are.
-#[unsafe(no_mangle)]
-pub extern "C" fn larnt_chop(
+pub fn larnt_chop(
     view: &[f64; 22],
     points: &[f64],
     starts: &[usize],
@@ -100,8 +99,7 @@ pub extern "C" fn larnt_chop(
 // solid's own coordinates, by the eye there and the placings, innermost first, 16 numbers each by rows: number 2
 // for a length that is no multiple of 16, 3 for any other kind, 4 for more than 7 placings, 8 for the view, then
 // 13. What is filled is as above.
-#[unsafe(no_mangle)]
-pub extern "C" fn larnt_outline(
+pub fn larnt_outline(
     kind: u32,
     n: &[f64; 16],
     eye: &[f64; 3],
@@ -128,8 +126,7 @@ pub extern "C" fn larnt_outline(
 }
 
 // The paths simplified with a threshold: numbers 2, 4, 8 and 9, then 13. What is filled is as above.
-#[unsafe(no_mangle)]
-pub extern "C" fn larnt_simplify(
+pub fn larnt_simplify(
     points: &[f64],
     starts: &[usize],
     threshold: f64,
@@ -149,8 +146,7 @@ pub extern "C" fn larnt_simplify(
 // The scene drawn for a view, simplified with 1e-4: numbers 2 to 8 and 14, then the first of 9 to 13 that the work
 // meets. What is filled is as above; the work slices are zeros afterwards. `work` and `work_starts` are
 // eight equal vectors.
-#[unsafe(no_mangle)]
-pub extern "C" fn larnt_draw(
+pub fn larnt_draw(
     numbers: &[f64],
     marks: &[u32],
     points: &[f64],
@@ -201,8 +197,7 @@ pub extern "C" fn larnt_draw(
 }
 
 // The same simplified with a threshold, which meets 8 where it is not finite or is negative.
-#[unsafe(no_mangle)]
-pub extern "C" fn larnt_draw_with(
+pub fn larnt_draw_with(
     numbers: &[f64],
     marks: &[u32],
     points: &[f64],

@@ -50,8 +50,7 @@ pub fn in_sight(s: Sight) -> bool
 
 // The tree of a scene's drawn entries, of `count` nodes, and then zeros: numbers 2 to 7 and 14, then 13. `node_boxes`
 // holds 6 numbers a node, `node_marks` 3 marks a node, `order` the drawn entries in the leaves' order.
-#[unsafe(no_mangle)]
-pub extern "C" fn larnt_build(
+pub fn larnt_build(
     numbers: &[f64],
     marks: &[u32],
     points: &[f64],
@@ -73,8 +72,7 @@ pub extern "C" fn larnt_build(
 
 // The nearest hit that the solids of a tree give a ray, with the entry whose t last became the best, FFFFFFFF
 // (hexadecimal) where none did: numbers 2 to 8 and 14, then 11 and 12.
-#[unsafe(no_mangle)]
-pub extern "C" fn larnt_intersect(
+pub fn larnt_intersect(
     numbers: &[f64],
     marks: &[u32],
     points: &[f64],
@@ -118,8 +116,7 @@ pub extern "C" fn larnt_intersect(
 }
 
 // Whether the eye sees a point past the solids of a tree: numbers 2 to 9 and 14, then 11 and 12.
-#[unsafe(no_mangle)]
-pub extern "C" fn larnt_visible(
+pub fn larnt_visible(
     numbers: &[f64],
     marks: &[u32],
     points: &[f64],
@@ -152,8 +149,7 @@ pub extern "C" fn larnt_visible(
 
 // The entry that hides a point from the eye past the solids of a tree, FFFFFFFF (hexadecimal) where the point is
 // visible: numbers 2 to 9 and 14, then 11 and 12.
-#[unsafe(no_mangle)]
-pub extern "C" fn larnt_occluder(
+pub fn larnt_occluder(
     numbers: &[f64],
     marks: &[u32],
     points: &[f64],

@@ -12,8 +12,7 @@ ghost use Rattle.host_account.specs.AccountCalls.{FatesTold, lines_call};
 // What becomes of each of many points, three numbers each, at step 4 of a draw: a word a point, then zeros. FFFFFFFF
 // (hexadecimal) is visible, FFFFFFFE clipped away, FFFFFF00 and a number that the point meets, 9, 11 or 12, or the drawn
 // entry that hides it. Numbers 2 to 8 and 14, then 13; the slice is then zeros throughout.
-#[unsafe(no_mangle)]
-pub extern "C" fn larnt_fates(
+pub fn larnt_fates(
     numbers: &[f64],
     marks: &[u32],
     points: &[f64],
@@ -46,8 +45,7 @@ pub extern "C" fn larnt_fates(
 
 // The lines of the drawn entries number first, first + 1 and so on, `many` of them as far as there are any, as a draw
 // for this view puts them to step 4.
-#[unsafe(no_mangle)]
-pub extern "C" fn larnt_entry_lines(
+pub fn larnt_entry_lines(
     numbers: &[f64],
     marks: &[u32],
     points: &[f64],

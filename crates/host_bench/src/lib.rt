@@ -43,8 +43,7 @@ fn point(p: &[f64; 3]) -> Vector
 }
 
 // The nearest hit on the rows of a tree with the entry that it names, given the inverses of the scene's placings.
-#[unsafe(no_mangle)]
-pub extern "C" fn bench_intersect(
+pub fn bench_intersect(
     numbers: &[f64],
     inverses: &[f64],
     marks: &[u32],
@@ -84,8 +83,7 @@ pub extern "C" fn bench_intersect(
 }
 
 // Whether the eye sees a point, the same way.
-#[unsafe(no_mangle)]
-pub extern "C" fn bench_visible(
+pub fn bench_visible(
     numbers: &[f64],
     inverses: &[f64],
     marks: &[u32],
@@ -113,8 +111,7 @@ pub extern "C" fn bench_visible(
 }
 
 // The same by the walk that stops.
-#[unsafe(no_mangle)]
-pub extern "C" fn bench_covered(
+pub fn bench_covered(
     numbers: &[f64],
     inverses: &[f64],
     marks: &[u32],

@@ -41,8 +41,7 @@ fn paths_told(r: Merged) -> usize
 // Two scenes merged into one, which the result slices hold, then zeros, with how many entries, points and paths it
 // has. The first scene's number, then the second's, then 2 for more than 1,024 entries together and 13 for a result
 // slice too short: the slices and the counts are then zeros.
-#[unsafe(no_mangle)]
-pub extern "C" fn larnt_merge(
+pub fn larnt_merge(
     numbers: &[f64],
     marks: &[u32],
     points: &[f64],

@@ -10,8 +10,7 @@ ghost use Rattle.host_parts.specs.PartCalls.{range_call};
 
 // `larnt_draw_with` with the lines of the drawn entries number first, first + 1 and so on alone, `many` of them as far
 // as there are any; all solids of the scene hide.
-#[unsafe(no_mangle)]
-pub extern "C" fn larnt_draw_range(
+pub fn larnt_draw_range(
     numbers: &[f64],
     marks: &[u32],
     points: &[f64],

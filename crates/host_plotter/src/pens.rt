@@ -47,8 +47,7 @@ fn range_told(c: Choice) -> Range
 // The undrawn path nearest to the pen, over a yard and its dimension lines: whether it is one of the lines, its
 // place there, and its first point and the one after its last, in points. Its mark becomes 1. Numbers 2, 4, 9
 // and 15: the rest is then false and 0, and no mark changes.
-#[unsafe(no_mangle)]
-pub extern "C" fn larnt_pick(
+pub fn larnt_pick(
     yard: &[f64],
     yard_starts: &[usize],
     lines: &[f64],

@@ -5,8 +5,8 @@ ghost use Rattle.plotter_registers.specs.Plotter as Plotter;
 use plotter_registers::Registers;
 
 // A write of one byte: 0, or 16 or 17, which change nothing.
-#[unsafe(no_mangle)]
-pub extern "C" fn larnt_plotter_write(r: &mut Registers, at: usize, value: u8) -> u32
+#[tactic(auto, unfolding(plotter_registers::specs::Plotter::write_of))]
+pub fn larnt_plotter_write(r: &mut Registers, at: usize, value: u8) -> u32
     ensures { (result ≡ Plotter.write_number (Plotter.judged r.old at value)) × (r.new ≡ Plotter.after_write r.old at value) }
 {
     let w = (*r).written(at, value);
@@ -15,8 +15,7 @@ pub extern "C" fn larnt_plotter_write(r: &mut Registers, at: usize, value: u8) -
 }
 
 // One step; it changes nothing where the plotter is not busy.
-#[unsafe(no_mangle)]
-pub extern "C" fn larnt_plotter_step(r: &mut Registers)
+pub fn larnt_plotter_step(r: &mut Registers)
     ensures { r.new ≡ Plotter.step_of r.old }
 {
     *r = (*r).stepped();

@@ -9,8 +9,7 @@ ghost use Rattle.host_preview.specs.PreviewCalls.{PreviewTold, preview_call};
 
 // The counts of `larnt_draw_with` for `out` of `out_len` numbers and `begins` of `begins_len` starts, or its
 // number; the work slices are those of a draw, and are zeros afterwards.
-#[unsafe(no_mangle)]
-pub extern "C" fn larnt_preview(
+pub fn larnt_preview(
     numbers: &[f64],
     marks: &[u32],
     points: &[f64],

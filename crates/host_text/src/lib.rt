@@ -70,8 +70,7 @@ fn byte_count(c: Count) -> usize
 
 // The canonical text of a view (matrix by rows, eye, width, height, step) and a scene, then zeros; `count` is how
 // many bytes it has. Numbers 2 to 7 and 14, then 8, then 13; the slice is then zeros throughout and `count` 0.
-#[unsafe(no_mangle)]
-pub extern "C" fn larnt_write(
+pub fn larnt_write(
     numbers: &[f64],
     marks: &[u32],
     points: &[f64],
@@ -91,8 +90,7 @@ pub extern "C" fn larnt_write(
 
 // What the program `canonical` answers a text, then zeros; answers how many bytes of `out` that is, 0 where
 // `out` is too short for any answer.
-#[unsafe(no_mangle)]
-pub extern "C" fn larnt_canonical(text: &[u8], out: &mut [u8]) -> usize
+pub fn larnt_canonical(text: &[u8], out: &mut [u8]) -> usize
     ensures lent { out.new ≡ laid (fitting (length out.old) (restate_of (length out.old) text.now)) (length out.old) }
     ensures part { (result ≤ length out.new) × (take result out.new ≡ shown (fitting (length out.old) (restate_of (length out.old) text.now))) }
 {

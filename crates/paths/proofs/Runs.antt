@@ -165,7 +165,8 @@ module _ (path out₀ : List Float) (from end n : ℕ) where
       onward : push_all (places out₀) (points m out) (slice i end (all_points path))
           ≡ next (push (places out) (points m out) p) (λ (qs : List Vector). push_all (places out₀) qs (slice (i + 1) end (all_points path)))
       unfolding push_all
-      onward = rw (part-cons path i end h.within p l e, ← h.same)
+      onward = rw (part-cons path i end h.within p l e)
+          (ap (λ (k : ℕ). next (push (k / 3) (points m out) p) (λ (qs : List Vector). push_all (places out₀) qs (slice (i + 1) end (all_points path)))) (sym h.same))
 
       pub extending-turn : {q : ℕ} → length out' ≡ length out → r ≡ At q → Extending path out₀ from end n out' (i + 1) q
       extending-turn {q} k t = record {

@@ -27,13 +27,13 @@ use Rattle.plotter_pens.proofs.Sound.{marks-count, found-waits, Found, pick-hold
 
 -- ---- the nearer of two
 module _ (b : NearestPath) (i : ℕ) (d : Float) (found : b.found ≡ true) where
-  pub nearer-stays : not (lt d b.distance) ≡ true → b ≡ nearer_path b i d
+  pub nearer-stays : lt d b.distance ≡ false → b ≡ nearer_path b i d
   unfolding nearer_path
-  nearer-stays h = simp (found, not-true (lt d b.distance) h)
+  nearer-stays h = simp (found, h)
 
-  pub nearer-takes : not (lt d b.distance) ≡ false → record { found = true; place = i; distance = d } ≡ nearer_path b i d
+  pub nearer-takes : lt d b.distance ≡ true → record { found = true; place = i; distance = d } ≡ nearer_path b i d
   unfolding nearer_path
-  nearer-takes h = simp (found, not-false (lt d b.distance) h)
+  nearer-takes h = simp (found, h)
 
 -- ---- a path that is offered
 module _ (d : LentDrawing) (marks : List ℕ) (first : ℕ) (pen : Vector) (b : NearestPath) (k : ℕ) where

@@ -3,11 +3,10 @@ use mathlib.Core.Path.{◌≡◌, refl}
 use mathlib.Core.Bool.{Bool, true, false, or-true}
 use Prim.Native.Nat.{ℕ, ◌<◌}
 use native.Mathlib.Omega.{arith}
-use lib.Dec.{eqb, ltb}
+use lib.Dec.{ltb}
 use borrow.Author.Tests.{ltb-false}
 use Rattle.plotter_registers.specs.Plotter as Plotter
 use Rattle.plotter_registers.specs.declared.Registers.{Registers}
-use Rattle.plotter_registers.specs.declared.WriteAnswer.{WriteAnswer}
 use Rattle.plotter_registers.specs.declared.WriteAnswer.TheVariants.{Accepted, ReadOnly}
 
 past : (r : Registers) (at v : ℕ) → ltb 6 at ≡ true → Plotter.judged r at v ≡ ReadOnly

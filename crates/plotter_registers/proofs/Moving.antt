@@ -2,21 +2,19 @@
 use mathlib.Core.Path.{◌≡◌, refl, sym, ap, ◌∙◌}
 use mathlib.Core.Bool.{Bool, true, false, cond, ◌&&◌, or-true}
 use mathlib.Core.Logic.{◌⊎◌, inl, inr, ⊎_elim}
-use mathlib.Core.List.{List}
 use Prim.Native.Nat.{ℕ, zero, suc, ◌+◌, ◌-◌, ◌*◌, ◌/◌, ◌%◌, ◌<◌, ◌≤◌, max}
-use native.Mathlib.Nat.{mod-lt}
 use native.Mathlib.Omega.{arith}
 use lib.Bits.{bit_and, bit_or, and_step, and_mask, and_shr, and_mod, or_shr, or_mod, and_zero_r}
-use lib.Dec.{eqb, ltb, lit<}
-use lib.ListN.{length, get_or, set, length-set}
+use lib.Dec.{eqb, ltb}
+use lib.ListN.{length, set, length-set}
 use lib.Seq.{get_or-set_same, get_or-set_other}
-use borrow.Author.Tests.{lt-ltb, le-ltb, ltb-true, ltb-false, eq-eqb, ne_eqb, eqb-true, eqb-false}
+use borrow.Author.Tests.{lt-ltb, le-ltb, ltb-true, ltb-false, eqb-true, eqb-false}
 use Rattle.plotter_registers.specs.declared.Position.{Position}
 use Rattle.plotter_registers.specs.declared.Registers.{Registers}
 use Rattle.plotter_registers.specs.declared.WriteAnswer.{WriteAnswer}
 use Rattle.plotter_registers.specs.declared.WriteAnswer.TheVariants.{Accepted, ReadOnly, BadCommand}
-use Rattle.plotter_registers.specs.Plotter.{busy, has_bit, byte_at, home, goal, moving, obeyed, judged, stored, after_write, toward, closer, arrived, moved, step_of, same_position, on_accepted, with_byte}
-use Rattle.plotter_registers.specs.Moves.{steps, apart, larger_distance, Move, destination, duration, BusyUntil, PenArrives, TargetFixed, ChangedOnly}
+use Rattle.plotter_registers.specs.Plotter.{busy, has_bit, byte_at, moving, obeyed, judged, stored, after_write, toward, closer, arrived, moved, step_of, same_position, with_byte}
+use Rattle.plotter_registers.specs.Moves.{steps, apart, larger_distance, Move, destination, BusyUntil, PenArrives, TargetFixed, ChangedOnly}
 
 -- bit 1 of a byte, by weight
 bit-one : (b : ℕ) → bit_and b 2 ≡ (b / 2 % 2) * 2

@@ -1,5 +1,5 @@
 -- What request (xiv) promises of a move, and of what changes: the statements that `../proofs/Moving.antt` and `../proofs/Keeping.antt` prove.
-use Rattle.std.specs.Prelude.{◌≡◌, Bool, true, false, cond, ◌⊎◌, ℕ, zero, suc, ◌+◌, ◌-◌, ◌<◌, ◌≤◌, max, eqb, ltb, length}
+use Rattle.std.specs.Prelude.{◌≡◌, true, false, cond, ◌⊎◌, ℕ, zero, suc, ◌+◌, ◌-◌, ◌<◌, ◌≤◌, max, eqb, ltb, length}
 use Rattle.plotter_registers.specs.declared.Position.{Position}
 use Rattle.plotter_registers.specs.declared.Registers.{Registers}
 use Rattle.plotter_registers.specs.declared.WriteAnswer.TheVariants.{Accepted}

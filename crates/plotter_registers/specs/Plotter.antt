@@ -1,5 +1,5 @@
 -- The plotter's registers of document 02, request (xiv): what a write answers and leaves, and what a step does.
-use Rattle.std.specs.Prelude.{Bool, true, false, not, cond, ◌&&◌, ◌||◌, List, ℕ, ◌+◌, ◌*◌, ◌-◌, eqb, ltb, get_or, set, replicate}
+use Rattle.std.specs.Prelude.{Bool, not, cond, ◌&&◌, ◌||◌, ℕ, ◌+◌, ◌*◌, ◌-◌, eqb, ltb, get_or, set, replicate}
 use Rattle.std.specs.Int.Bits.{bit_and, bit_or}
 use Rattle.plotter_registers.specs.declared.Position.{Position}
 use Rattle.plotter_registers.specs.declared.Registers.{Registers}

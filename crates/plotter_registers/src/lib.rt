@@ -259,6 +259,7 @@ impl Registers {
 }
 
 // A write of one byte to registers that are lent: 0, or the number of the refusal.
+#[tactic(auto, unfolding(crate::specs::Plotter::write_of))]
 pub fn write(r: &mut Registers, at: usize, value: u8) -> u32
     ensures { (result ≡ Plotter.write_number (Plotter.judged r.old at value)) × (r.new ≡ Plotter.after_write r.old at value) }
 {

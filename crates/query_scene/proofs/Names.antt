@@ -1,7 +1,6 @@
 -- The eye test with a name: the ways through it, and that it agrees with the one without. Assumes nothing.
 use Prim.Native.Nat.{ℕ}
 use mathlib.Core.Path.{◌≡◌, refl, sym, ap, subst, ◌∙◌}
-use mathlib.Core.List.{List}
 use mathlib.Core.Bool.{Bool, true, false, cond}
 use native.Mathlib.Omega.{arith}
 use lib.Ieee.{Float, eq, le}
@@ -20,7 +19,6 @@ use Rattle.tree_walk.specs.declared.Nearest.{Nearest}
 use Rattle.tree_walk.specs.declared.Found.{Found}
 use Rattle.tree_walk.specs.declared.Found.TheVariants.{Best, Refused as NotFound}
 use Rattle.tree_sight.specs.Sights.{eye_ray, by_distance, sees}
-use Rattle.tree_sight.specs.declared.Sight.{Sight}
 use Rattle.tree_sight.specs.declared.Sight.TheVariants.{Visible, Hidden, Refused as NotSeen}
 use Rattle.query_scene.specs.declared.NamedSight.{NamedSight}
 use Rattle.query_scene.specs.declared.NamedSight.TheVariants.{Clear, Hidden as HiddenBy, Refused as NotNamed}

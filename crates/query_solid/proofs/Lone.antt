@@ -13,13 +13,12 @@ use Rattle.geometry.specs.declared.hit.Hit.{Hit}
 use Rattle.rows.specs.Rows.{row}
 use Rattle.rows.specs.Entries.{numbers_of}
 use Rattle.rows.specs.declared.Numbers.{Numbers}
-use Rattle.solids.specs.Solids.{hit_of, contains_of}
 use Rattle.solids.specs.declared.solid.Solid.{Solid}
 use Rattle.scene.specs.Entries.{simple_of, is_there}
 use Rattle.scene.specs.declared.entry.Simple.{Simple}
 use Rattle.scene.specs.declared.entry.Simple.TheVariants.{Is, Other}
 use Rattle.scene.proofs.Parts.{entry-simple}
-use Rattle.scene_shape.specs.Shapes.{Shape, simple, decode, shape_of, shape_hit, shape_contains}
+use Rattle.scene_shape.specs.Shapes.{simple, decode, shape_of, shape_hit, shape_contains}
 use Rattle.scene_shape.specs.declared.Struck.{Struck}
 use Rattle.scene_shape.specs.declared.Struck.TheVariants.{At, Refused as NotStruck}
 use Rattle.refusals.specs.declared.Refusal.{Refusal}

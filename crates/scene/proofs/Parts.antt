@@ -15,7 +15,6 @@ use Rattle.solids.specs.declared.solid.Solid.{Solid}
 use Rattle.scene.specs.Entries.{closed_of, simple_of, simple_or, op_of, cut_of, parts_of, composite_of, entry_of, is_there, entry_at, marks_at, numbers_at, matrix_of}
 use Rattle.scene.specs.declared.entry.Simple.{Simple}
 use Rattle.scene.specs.declared.entry.Simple.TheVariants.{Is, Other}
-use Rattle.scene.specs.declared.entry.Op.{Op}
 use Rattle.scene.specs.declared.entry.Parts.{Parts}
 use Rattle.scene.specs.declared.entry.Parts.TheVariants.{Placed as PlacedPart, Cut as CutParts, None as NoParts}
 use Rattle.scene.specs.declared.entry.Entry.{Entry}

@@ -21,7 +21,7 @@ use Rattle.scene.proofs.Parts.{entry-placed}
 use Rattle.scene.specs.declared.entry.Entry.{Entry}
 use Rattle.refusals.specs.declared.Refusal.{Refusal}
 use Rattle.refusals.specs.declared.Refusal.TheVariants.{Restarts}
-use Rattle.scene_shape.specs.Shapes.{Shape, read, decode, shape_of, shape_hit, shape_contains, cut_from}
+use Rattle.scene_shape.specs.Shapes.{read, decode, shape_of, shape_hit, cut_from}
 use Rattle.scene_shape.specs.Cuts.{rescaled, both, step, accepted_or, restarted}
 use Rattle.scene_shape.specs.Meetings.{placing, meeting_of, told_by}
 use Rattle.scene_shape.specs.declared.Meeting.{Meeting}
@@ -45,14 +45,6 @@ and_then p h q = rw (← p, h, q)
 
 pub and-not : {r a : Bool} (b : Bool) → r ≡ a → r ≡ false → false ≡ (a && b)
 and-not b p h = rw (← p, h)
-
-pub not-true : (b : Bool) → not b ≡ true → b ≡ false
-not-true true e = sym e
-not-true false e = refl
-
-pub not-false : (b : Bool) → not b ≡ false → b ≡ true
-not-false true e = refl
-not-false false e = sym e
 
 -- an entry that is met where it stands is no placing, so a placing is met a level down
 pub falls_below : {d u k : ℕ} {p : Parts} → (d < u) ⊎ ((d ≡ u) × (placing p ≡ false)) → p ≡ Placed k → d < u
@@ -100,10 +92,10 @@ module _ (tell : Float → Hit → Hit) (n : ℕ) (a b : Ray → Struck) (inside
     cut_keeps zero q = rw (← ex, ← ey, ← ez, e, q)
     cut_keeps (suc m) q = rw (← ex, ← ey, ← ez, e, q)
 
-    pub cut-missed : {u : Bool} → u ≡ is_ok h → not u ≡ true → {g : Hit} → g ≡ tell sum h → At g ≡ cut_from tell n a b inside sum r
+    pub cut-missed : {u : Bool} → u ≡ is_ok h → u ≡ false → {g : Hit} → g ≡ tell sum h → At g ≡ cut_from tell n a b inside sum r
     cut-missed p q eg = ap At eg ∙ cut_keeps n (rw (← p, q))
 
-    module _ {u w : Bool} {v : Vector} (p : u ≡ is_ok h) (q : not u ≡ false) (pv : v ≡ position r h.t) (pw : w ≡ inside v) where
+    module _ {u w : Bool} {v : Vector} (p : u ≡ is_ok h) (q : u ≡ true) (pv : v ≡ position r h.t) (pw : w ≡ inside v) where
       rejects : (w ≡ false) → (not (is_ok h) || inside (position r h.t)) ≡ false
       rejects f = rw (← p, q, ← pv, ← pw, f)
 

@@ -90,7 +90,7 @@ fn takes_away(op: Op) -> bool
 }
 
 // Whether the solid at entry i, nested at most `depth` deep, contains p, widened by f.
-#[cycle(cut_contains_entry_contains)]
+#[cycle(contains)]
 pub fn entry_contains(
     numbers: &[f64],
     inverses: &[f64],
@@ -134,7 +134,7 @@ pub fn entry_contains(
     }
 }
 
-#[cycle(cut_contains_entry_contains)]
+#[cycle(contains)]
 fn cut_contains(
     numbers: &[f64],
     inverses: &[f64],
@@ -219,7 +219,7 @@ fn told(placed: bool, scale: f64, a: Struck) -> Struck
 }
 
 // The hit of entry i, of which `depth` levels are left, `above` where it was met: a placing is met a level down.
-#[cycle(cut_hit_entry_hit_part_hit)]
+#[cycle(hit)]
 fn part_hit(
     numbers: &[f64],
     inverses: &[f64],
@@ -264,7 +264,7 @@ fn part_hit(
 }
 
 // The hit that the solid at entry i, nested at most `depth` deep, gives a ray.
-#[cycle(cut_hit_entry_hit_part_hit)]
+#[cycle(hit)]
 pub fn entry_hit(
     numbers: &[f64],
     inverses: &[f64],
@@ -291,7 +291,7 @@ pub fn entry_hit(
 }
 
 // The hit of a cut, with so many restarts left, for a ray that starts `sum` beyond the first origin.
-#[cycle(cut_hit_entry_hit_part_hit)]
+#[cycle(hit)]
 fn cut_hit(
     numbers: &[f64],
     inverses: &[f64],

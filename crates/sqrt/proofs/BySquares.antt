@@ -15,7 +15,7 @@ use Rattle.floats.proofs.Rounding.{square-is}
 use Rattle.sqrt.specs.Root.{sqrt_of}
 use Rattle.sqrt.specs.Nearest.{square, sum_num, sum_den, NearestOfAll}
 use Rattle.sqrt.proofs.Monotone.{fitting, sqrt-number, sqrt-nonneg}
-use Rattle.sqrt.proofs.Nearest.{Counted, counted, nearest-of-all}
+use Rattle.sqrt.proofs.Nearest.{counted, nearest-of-all}
 
 -- ---- on whole numbers: x is nx / dx, l is nl / dl and the root nr / dr
 module _ (nx dx nl dl nr dr : ℕ) where

@@ -1,15 +1,15 @@
 -- The defined remainder is the request's: the root and x as multiples of powers of 2 and 4, and what the remainder's sign tells. Assumes nothing.
-use Rattle.std.proofs.Common.{◌≡◌, ℕ, zero, suc, ◌+◌, ◌-◌, ◌*◌, ◌^◌, ◌<◌, ◌≤◌, Bool, true, false, T, ◌↔◌, ℤ, pos, negsuc, ◌-ℤ◌, neg_ℤ, ◌<ℤ◌, sym, refl, ap, ◌∙◌, subst, inl, inr, le_trans, lt_of_lt_of_le, le_of_suc-le-suc, lt_irrefl, mul-le-mul_right, zero-lt-suc, le_antisymm, lt_of_mul-lt-mul_right, mul-lt-mul_of_pos_right, mul-pos, one-mul, lt_of_not-le, mul-one, arith, ltb→lt, lt→ltb, pow_pos, pow_mono, pow-add, shl_lt}
+use Rattle.std.proofs.Common.{◌≡◌, ℕ, zero, suc, ◌+◌, ◌-◌, ◌*◌, ◌^◌, ◌<◌, ◌≤◌, true, false, T, ◌↔◌, ℤ, pos, negsuc, ◌-ℤ◌, neg_ℤ, ◌<ℤ◌, sym, refl, ap, ◌∙◌, subst, inl, inr, le_trans, lt_of_lt_of_le, le_of_suc-le-suc, lt_irrefl, mul-le-mul_right, zero-lt-suc, le_antisymm, lt_of_mul-lt-mul_right, mul-lt-mul_of_pos_right, mul-pos, one-mul, lt_of_not-le, mul-one, arith, ltb→lt, lt→ltb, pow_pos, pow_mono, pow-add, shl_lt}
 use native.Mathlib.Nat.{eq_of_mul-eq-mul_right}
 use lib.Signed.{lt_z_yes, <ℤ_irrefl}
-use lib.Ieee.{Float, nan, inf, fin, binary64, up, down, fits}
+use lib.Ieee.{Float, nan, inf, fin, up, down}
 use lib.Ieee.Fits.{up_pos, down_pos}
 use lib.Ieee.Exact.{HasValue}
 use lib.Ieee.Positive.{num, den, den_pos, positive, value→cross}
 use Rattle.floats.proofs.Order.{le-or-lt}
 use Rattle.sqrt.specs.Root.{nearest_root, dropped, scaled, sqrt_of, rest_of}
 use Rattle.sqrt.specs.Nearest.{square}
-use Rattle.sqrt.specs.Remainder.{Remainder, Told, RootHasRemainder, OneRemainder, ElseNoRemainder, RemainderTells}
+use Rattle.sqrt.specs.Remainder.{RootHasRemainder, OneRemainder, ElseNoRemainder, RemainderTells}
 use Rattle.sqrt.proofs.Rests.{less, more}
 use Rattle.sqrt.proofs.Monotone.{units_of, root-full, sqrt-positive, fits-least}
 use Rattle.sqrt.proofs.Nearest.{scaled-of, drops, root-lt, squared, root-value, square-at}

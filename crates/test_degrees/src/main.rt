@@ -5,6 +5,8 @@
 ghost use Rattle.std.specs.Prelude.{◌≡◌, not, ◌^◌, ◌≤◌, T, nat_abs};
 ghost use Rattle.std.specs.Float.Ieee.{is_nan};
 
+use std::io;
+
 fn magnitude(z: i64) -> u64
     requires { nat_abs z ≤ 2 ^ 53 }
     ensures { result ≡ nat_abs z }
@@ -15,35 +17,35 @@ fn magnitude(z: i64) -> u64
     z as u64
 }
 
-fn print_units(z: i64)
+fn print_units(rt: &impl Print, z: i64) -> io::Result<()>
     requires { nat_abs z ≤ 2 ^ 53 }
 {
     if z < 0 {
-        io::write_all(1, b"-");
+        print!(rt; "-")?;
     }
-    io::print_decimal(1, magnitude(z));
+    print!(rt; "{}", magnitude(z))
 }
 
-fn print_pattern(x: f64)
+fn print_pattern(rt: &impl Print, x: f64) -> io::Result<()>
     requires { T (not (is_nan x)) }
 {
-    io::write_all(1, b" ");
-    io::print_hex(1, f64::to_bits(x), 16);
+    print!(rt; " {:016x}", f64::to_bits(x))
 }
 
-fn print_degree(degrees: usize) {
-    print_units(degrees::cosine_units(degrees));
-    io::write_all(1, b" ");
-    print_units(degrees::sine_units(degrees));
-    print_pattern(degrees::cosine(degrees));
-    print_pattern(degrees::sine(degrees));
-    io::write_all(1, b"\n");
+fn print_degree(rt: &impl Print, degrees: usize) -> io::Result<()> {
+    print_units(rt, degrees::cosine_units(degrees))?;
+    print!(rt; " ")?;
+    print_units(rt, degrees::sine_units(degrees))?;
+    print_pattern(rt, degrees::cosine(degrees))?;
+    print_pattern(rt, degrees::sine(degrees))?;
+    println!(rt; "")
 }
 
-fn main() {
+fn main(rt: HostRuntime) -> io::Result<()> {
     let mut a: usize = 0;
     while a < 360 {
-        print_degree(a);
+        print_degree(&rt, a)?;
         a += 1;
     }
+    Ok(())
 }

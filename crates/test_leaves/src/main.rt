@@ -14,6 +14,7 @@ use geometry::vector::Vector;
 use rows::Numbers;
 use scene::entry::Simple;
 use sqrt::Rooted;
+use std::io;
 
 // What a record gives from word k on: a box, 16 numbers, a kind and 16 numbers.
 fn box_from(s: &[u8], k: usize) -> BBox
@@ -255,11 +256,10 @@ fn wrong(s: &[u8]) -> u64
     n
 }
 
-fn main() {
+fn main(rt: HostRuntime) -> io::Result<()> {
     let mut buffer = [0u8; 147456];
-    let n = io::read_full(0, &mut buffer);
-    io::print_decimal(1, (n / 328) as u64);
-    io::write_all(1, b" calls, ");
-    io::print_decimal(1, wrong(&buffer[..n]));
-    io::write_all(1, b" wrong\n");
+    let n = test_words::read_list(&mut rt.stdin(), &mut buffer);
+    let count = n / 328;
+    let wrong = wrong(&buffer[..n]);
+    println!(rt; "{count} calls, {wrong} wrong")
 }

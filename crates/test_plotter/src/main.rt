@@ -8,6 +8,7 @@ ghost use Rattle.std.specs.Prelude.{◌≤◌, length};
 
 use geometry::vector::Vector;
 use plotter_registers::Registers;
+use std::io;
 
 // The registers, how far the pen went, and what came of it.
 #[derive(Clone, Copy)]
@@ -187,16 +188,12 @@ fn plotted(s: &[u8]) -> Plot {
     tour(&yard, &starts)
 }
 
-fn main() {
+fn main(rt: HostRuntime) -> io::Result<()> {
     let mut buffer = [0u8; 8192];
-    let n = io::read_full(0, &mut buffer);
+    let n = test_words::read_list(&mut rt.stdin(), &mut buffer);
     let p = plotted(&buffer[..n]);
-    io::print_decimal(1, p.paths);
-    io::write_all(1, b" paths, up ");
-    io::print_decimal(1, p.up);
-    io::write_all(1, b", down ");
-    io::print_decimal(1, p.down);
-    io::write_all(1, b", then ");
-    io::print_decimal(1, p.number as u64);
-    io::write_all(1, b"\n");
+    println!(rt;
+        "{} paths, up {}, down {}, then {}",
+        p.paths, p.up, p.down, p.number
+    )
 }

@@ -12,6 +12,7 @@ use geometry::ray::Ray;
 use geometry::vector::Vector;
 use query_scene::{Built, NamedSight};
 use refusals::Refusal;
+use std::io;
 use tree_sight::Sight;
 use tree_walk::{Found, Nearest};
 
@@ -374,7 +375,7 @@ fn one_short(numbers: &[f64], marks: &[u32]) -> u64
     a + b
 }
 
-fn main() {
+fn main(rt: HostRuntime) -> io::Result<()> {
     let cube = [
         -1.0, -1.0, -1.0, 1.0, 1.0, 1.0, 0.0, 0.0, 0.0, 0.0, 0.0, 0.0, 0.0, 0.0, 0.0, 0.0,
     ];
@@ -447,10 +448,6 @@ fn main() {
         Sight::Refused(Refusal::Values),
         NamedSight::Refused(Refusal::Values),
     );
-    io::write_all(1, b"26 questions, ");
-    io::print_decimal(
-        1,
-        one + missed + short + unplaced + nothing + lengths + values,
-    );
-    io::write_all(1, b" wrong\n");
+    let wrong = one + missed + short + unplaced + nothing + lengths + values;
+    println!(rt; "26 questions, {wrong} wrong")
 }

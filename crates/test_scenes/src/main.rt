@@ -9,6 +9,7 @@ ghost use Rattle.test_scenes.specs.Records.{check_right, own_hit_right, own_cont
 use geometry::ray::Ray;
 use geometry::vector::Vector;
 use scene_shape::Struck;
+use std::io;
 
 fn wide(x: u32) -> u64
     ensures { result ≡ x }
@@ -191,11 +192,10 @@ fn wrong(s: &[u8]) -> u64
     n
 }
 
-fn main() {
+fn main(rt: HostRuntime) -> io::Result<()> {
     let mut buffer = [0u8; 131072];
-    let n = io::read_full(0, &mut buffer);
-    io::print_decimal(1, (n / 2048) as u64);
-    io::write_all(1, b" scenes, ");
-    io::print_decimal(1, wrong(&buffer[..n]));
-    io::write_all(1, b" wrong\n");
+    let n = test_words::read_list(&mut rt.stdin(), &mut buffer);
+    let count = n / 2048;
+    let wrong = wrong(&buffer[..n]);
+    println!(rt; "{count} scenes, {wrong} wrong")
 }

@@ -8,6 +8,8 @@ ghost use Rattle.std.specs.Float.{binary64};
 ghost use Rattle.std.specs.Float.Ieee.{to_bits};
 ghost use Rattle.test_sqrt.specs.Records.{root_right, wrong_roots};
 
+use std::io;
+
 // The bit pattern of v.
 fn pattern(v: f64) -> u64
     ensures { result ≡ to_bits binary64 v }
@@ -42,11 +44,10 @@ fn wrong(s: &[u8]) -> u64
     n
 }
 
-fn main() {
+fn main(rt: HostRuntime) -> io::Result<()> {
     let mut buffer = [0u8; 196608];
-    let n = io::read_full(0, &mut buffer);
-    io::print_decimal(1, (n / 24) as u64);
-    io::write_all(1, b" roots, ");
-    io::print_decimal(1, wrong(&buffer[..n]));
-    io::write_all(1, b" wrong\n");
+    let n = test_words::read_list(&mut rt.stdin(), &mut buffer);
+    let count = n / 24;
+    let wrong = wrong(&buffer[..n]);
+    println!(rt; "{count} roots, {wrong} wrong")
 }

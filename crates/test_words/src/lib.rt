@@ -1,5 +1,5 @@
-// The words of 8 bytes of a slice of bytes, most significant byte first: read as numbers, floats, points
-// and rays, compared with answers, and copied to slices; and the count of records that are wrong.
+// A list read from an input, and its words of 8 bytes, most significant byte first: taken as numbers, floats,
+// points and rays, compared with answers, and copied to slices; and the count of records that are wrong.
 #![tactic(auto)]
 
 ghost use Rattle.std.specs.Prelude.{◌≡◌, ◌+◌, ◌*◌, ◌≤◌, ◌<◌, eqb, length, take};
@@ -8,6 +8,34 @@ ghost use Rattle.test_words.specs.Counts.{missed};
 
 use geometry::ray::Ray;
 use geometry::vector::Vector;
+use std::io::Read;
+
+// One read into the list from place n on, and how far the list then goes: no farther at the end of the input
+// or where the read fails.
+fn read_some<R: Read>(input: &mut R, list: &mut [u8], n: usize) -> usize
+    requires { n ≤ length list.old }
+    ensures { (n ≤ result) × (result ≤ length list.old) }
+{
+    match input.read(&mut list[n..]) {
+        Ok(count) => n + count,
+        Err(_) => n,
+    }
+}
+
+// Reads until the slice is full, the input ends or a read fails, and answers how far the list goes.
+pub fn read_list<R: Read>(input: &mut R, list: &mut [u8]) -> usize
+    ensures { (result ≤ length list.new) × (result ≡ length (take result list.new)) }
+{
+    let mut n = 0;
+    while n < list.len() {
+        let m = read_some(input, list, n);
+        if m == n {
+            return n;
+        }
+        n = m;
+    }
+    n
+}
 
 fn wide(x: u8) -> u64
     ensures { (result ≡ x) × (result < 256) }

@@ -5,6 +5,8 @@
 ghost use Rattle.std.specs.Prelude.{◌≡◌, ◌+◌, ◌-◌, ◌*◌, ◌≤◌, length};
 ghost use Rattle.test_yard.specs.Records.{reply_right, right_at, count_of, wrong_texts};
 
+use std::io;
+
 // Whether `yard` answers a text so.
 fn reply_right(text: &[u8], expected: &[u8]) -> bool
     ensures { result ≡ reply_right text.now expected.now }
@@ -62,11 +64,10 @@ fn wrong(s: &[u8]) -> u64
     n
 }
 
-fn main() {
+fn main(rt: HostRuntime) -> io::Result<()> {
     let mut buffer = [0u8; 524288];
-    let n = io::read_full(0, &mut buffer);
-    io::print_decimal(1, count(&buffer[..n]) as u64);
-    io::write_all(1, b" texts, ");
-    io::print_decimal(1, wrong(&buffer[..n]));
-    io::write_all(1, b" wrong\n");
+    let n = test_words::read_list(&mut rt.stdin(), &mut buffer);
+    let count = count(&buffer[..n]);
+    let wrong = wrong(&buffer[..n]);
+    println!(rt; "{count} texts, {wrong} wrong")
 }

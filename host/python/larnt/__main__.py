@@ -313,7 +313,7 @@ def made(options: argparse.Namespace, text: str, sheet: Sheet) -> None:
     for part in of.parts if options.parts else ():
         print(listed(part) + (", not seen from here" if part in unseen else ""))
     if any(path.endswith((".hpgl", ".plt")) for path in options.sheets) and not library.there(library.plotter):
-        notes.append("the pen goes in the drawing's order: its way is picked where libhost_plotter.a is at hand (rt staticlib host_plotter)")
+        notes.append("the pen goes in the drawing's order: its way is picked where libhost_plotter.a is at hand (tools/archives host_plotter)")
     for said in notes:
         note(said)
 

@@ -1,6 +1,6 @@
 """The proved library as a shared object, and the types of its calls (host/larnt.h).
 
-`rt staticlib host` writes the proved archive target/staticlib/libhost.a; the system's C compiler makes a shared
+`tools/archives host` writes the proved archive target/staticlib/libhost.a; the system's C compiler makes a shared
 object of it, once, beside it. LARNT_STATICLIB names another folder with the archive, CC another compiler.
 """
 from __future__ import annotations
@@ -87,7 +87,7 @@ def shared(name: str) -> pathlib.Path:
     """The shared object of the archive libNAME.a; it has the archive's time, and is made anew where that is another."""
     archive, made = folder() / f"lib{name}.a", folder() / f"lib{name}.so"
     if not archive.exists():
-        raise Missing(f"{archive} is not there: run `rt staticlib {name}` in the clone, or name the folder that has it in LARNT_STATICLIB")
+        raise Missing(f"{archive} is not there: run `tools/archives {name}` in the clone, or name the folder that has it in LARNT_STATICLIB")
     time = archive.stat().st_mtime_ns
     if made.exists() and made.stat().st_mtime_ns == time:
         return made
@@ -108,7 +108,7 @@ def loaded(name: str, calls: dict) -> ctypes.CDLL:
     opened = ctypes.CDLL(str(shared(name)))
     for call, types in calls.items():
         if not hasattr(opened, call):
-            raise Missing(f"{folder() / f'lib{name}.a'} has no call {call}: run `rt staticlib {name}` anew")
+            raise Missing(f"{folder() / f'lib{name}.a'} has no call {call}: run `tools/archives {name}` anew")
         function = getattr(opened, call)
         function.argtypes, function.restype = types, ANSWERS.get(call, c_uint32)
     return opened

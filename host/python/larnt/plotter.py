@@ -1,5 +1,5 @@
 """The pen's way over a drawing, and the plotter's registers without a machine, both by the library
-(libhost_plotter.a, `rt staticlib host_plotter`)."""
+(libhost_plotter.a, `tools/archives host_plotter`)."""
 from __future__ import annotations
 
 import operator

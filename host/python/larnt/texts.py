@@ -1,7 +1,7 @@
 """Yards written in canonical form, and one yard made of two: by the proved library, from texts to a text.
 
 The canonical form has one form a line, single spaces, counts in decimal and every other number by its bits. Needs
-libhost_text.a (`rt staticlib host_text`), and to merge libhost_merge.a (`rt staticlib host_merge`).
+libhost_text.a (`tools/archives host_text`), and to merge libhost_merge.a (`tools/archives host_merge`).
 """
 from __future__ import annotations
 

@@ -216,8 +216,8 @@ class Command(unittest.TestCase):
         self.assertIn(b"account: standard input, line 2, column 14: the z1 of this cylinder is missing", done.stderr)
 
     def test_without_the_archive_it_says_what_to_do(self):
-        with mock.patch.object(library, "account", side_effect=Missing("libhost_account.a is not there: run `rt staticlib host_account` in the clone")):
-            self.assertIn("rt staticlib host_account", typed(PLINTH, code=1)[1])
+        with mock.patch.object(library, "account", side_effect=Missing("libhost_account.a is not there: run `tools/archives host_account` in the clone")):
+            self.assertIn("tools/archives host_account", typed(PLINTH, code=1)[1])
 
 
 @unittest.skipUnless(library.there(library.account), "libhost_account.a is not there")

@@ -38,7 +38,7 @@ def changed(rng, text):
     return "".join(tokens)
 
 
-@unittest.skipUnless(YARD.exists(), "the program `yard` is not built (rt check yard)")
+@unittest.skipUnless(YARD.exists(), "the program `yard` is not built (tools/program yard)")
 class AgainstYard(unittest.TestCase):
     def test_texts_with_mistakes(self):
         rng, met = random.Random(1), set()

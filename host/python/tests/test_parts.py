@@ -234,8 +234,8 @@ class Command(unittest.TestCase):
                 self.typed(self.SILOS, self.folder / "a.svg", *(words or []))
             made.append((self.folder / "a.svg").read_bytes())
         self.assertEqual(len(set(made)), 1)
-        with mock.patch.object(library, "parts", side_effect=Missing("run `rt staticlib host_parts`")):
-            self.assertIn("rt staticlib host_parts", self.typed(self.SILOS, self.folder / "b.svg", "--threads", 2, code=1))
+        with mock.patch.object(library, "parts", side_effect=Missing("run `tools/archives host_parts`")):
+            self.assertIn("tools/archives host_parts", self.typed(self.SILOS, self.folder / "b.svg", "--threads", 2, code=1))
 
     def test_it_gives_up_and_writes_nothing(self):
         patch, _ = slow(0.4, 4)

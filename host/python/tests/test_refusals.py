@@ -193,7 +193,7 @@ class NoLibrary(unittest.TestCase):
 
     def test_without_an_archive(self):
         with tempfile.TemporaryDirectory() as empty:
-            self.assertIn("run `rt staticlib host`", self.said(LARNT_STATICLIB=empty))
+            self.assertIn("run `tools/archives host`", self.said(LARNT_STATICLIB=empty))
 
     def test_without_a_compiler(self):
         with tempfile.TemporaryDirectory() as folder:

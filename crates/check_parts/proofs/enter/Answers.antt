@@ -1,7 +1,6 @@
 use Rattle.check_parts.proofs.Parts.{kind_of, first_of, second_of, never, other, before-it, six-no, six-yes, seven-no-first, second-before, seven-no, seven-yes}
 use native.Mathlib.Omega.{arith}
 use mathlib.Core.Path.{ap}
-use borrow.Author.Rules.{rules}
 use Rattle.check_parts.proofs.enter.Goals as goal
 
 pub read_marks-m-requires : goal.read_marks-m-requires

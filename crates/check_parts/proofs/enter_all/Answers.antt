@@ -1,12 +1,9 @@
 use Rattle.check_parts.proofs.Parts.{never, ill-all, ok-more}
-use Rattle.check_parts.specs.Parts.{Known, parts_ok, Flags, named_before}
-use borrow.Author.Tests.{not-true, not-false}
-use lib.ListN.{length}
+use Rattle.check_parts.specs.Parts.{parts_ok, Flags, named_before}
 use native.Mathlib.Nat.{le_antisymm}
 use native.Mathlib.Omega.{arith}
-use mathlib.Core.Bool.{true}
-use mathlib.Core.Path.{◌≡◌, refl, sym, ap, subst, ◌∙◌}
-use Prim.Native.Nat.{ℕ, ◌≤◌, ◌-◌}
+use mathlib.Core.Path.{refl, sym, ap, subst, ◌∙◌}
+use Prim.Native.Nat.{ℕ}
 use Rattle.check_parts.proofs.enter_all.Goals as goal
 
 pub loop-i-init : goal.loop-i-init
@@ -20,15 +17,15 @@ enter-requires c =
 
 pub shape_of-depths-then-not-enter : goal.shape_of-depths-then-not-enter
 shape_of-depths-then-not-enter c =
-    c.enter.auto.1.0 ∙ c.loop-i.invariant.1
+    c.enter.auto.depths ∙ c.loop-i.invariant.1
 
 pub shape_of-named-then-not-enter : goal.shape_of-named-then-not-enter
 shape_of-named-then-not-enter c =
-    c.enter.auto.1.1.0 ∙ c.loop-i.invariant.2
+    c.enter.auto.named ∙ c.loop-i.invariant.2
 
 pub returns-then-not-enter : goal.returns-then-not-enter
 returns-then-not-enter c =
-    record { value = ill-all _ _ _ c.loop-i-test.true c.loop-i.invariant.4 (sym (not-true _ c.if-not-enter.true) ∙ c.enter.ensures.value); flags = never }
+    record { value = ill-all _ _ _ c.loop-i-test.true c.loop-i.invariant.4 (sym c.if-not-enter.true ∙ c.enter.ensures.value); flags = never }
 
 pub overflow_add-i : goal.overflow_add-i
 overflow_add-i c =
@@ -40,7 +37,7 @@ loop-i-smaller c =
 
 pub loop-i-preserved : goal.loop-i-preserved
 loop-i-preserved c =
-    (omega (arith, c.loop-i-test.true), c.enter.auto.1.0 ∙ c.loop-i.invariant.1, c.enter.auto.1.1.0 ∙ c.loop-i.invariant.2, c.enter.ensures.known (not-false _ c.if-not-enter.false), sym (ok-more _ _ c.loop-i.invariant.4 c.enter.ensures.value) ∙ not-false _ c.if-not-enter.false)
+    (omega (arith, c.loop-i-test.true), c.enter.auto.depths ∙ c.loop-i.invariant.1, c.enter.auto.named ∙ c.loop-i.invariant.2, c.enter.ensures.known c.if-not-enter.false, sym (ok-more _ _ c.loop-i.invariant.4 c.enter.ensures.value) ∙ c.if-not-enter.false)
 
 pub shape_of-depths : goal.shape_of-depths
 shape_of-depths c =

@@ -1,12 +1,8 @@
-use Rattle.check_parts.proofs.Parts.{never, ill-all, ok-more}
-use Rattle.check_parts.specs.Parts.{Known, parts_ok, Flags, named_before}
-use borrow.Author.Tests.{not-true, not-false}
+use Rattle.check_parts.specs.Parts.{Known, parts_ok}
 use lib.ListN.{length}
-use native.Mathlib.Nat.{le_antisymm}
-use native.Mathlib.Omega.{arith}
 use mathlib.Core.Bool.{true}
-use mathlib.Core.Path.{◌≡◌, refl, sym, ap, subst, ◌∙◌}
-use Prim.Native.Nat.{ℕ, ◌≤◌, ◌-◌}
+use mathlib.Core.Path.{◌≡◌}
+use Prim.Native.Nat.{◌≤◌, ◌-◌}
 use Rattle.check_parts.proofs.enter_all.Given as goal
 
 abbrev pub invariant-loop-i : goal.invariant-loop-i

@@ -1,8 +1,4 @@
-use Rattle.check_parts.proofs.Owners.{Owned, owned-start, owned-other, owned-falls, owned-turn, owned-end}
-use Prim.Native.Nat.{◌-◌}
-use lib.ListN.{length}
-use borrow.Author.Tests.{not-true, not-false}
-use borrow.Author.Rules.{rules}
+use Rattle.check_parts.proofs.Owners.{owned-start, owned-other, owned-falls, owned-turn, owned-end}
 use Rattle.check_parts.proofs.good_owners.Goals as goal
 
 pub loop-i-init : goal.loop-i-init
@@ -11,15 +7,15 @@ loop-i-init c =
 
 pub returns-then-not-round_entry : goal.returns-then-not-round_entry
 returns-then-not-round_entry c =
-    owned-other _ _ _ c.loop-i.invariant c.loop-i-test.true c.round_entry.ensures (not-true _ c.if-not-round_entry.true)
+    owned-other _ _ _ c.loop-i.invariant c.loop-i-test.true c.round_entry.ensures c.if-not-round_entry.true
 
 pub returns-then-next-owners : goal.returns-then-next-owners
 returns-then-next-owners c =
-    owned-falls _ _ _ c.loop-i.invariant c.loop-i-test.true c.round_entry.ensures (not-false _ c.if-not-round_entry.false) c.next_owner-next.ensures c.if-next-owners.true
+    owned-falls _ _ _ c.loop-i.invariant c.loop-i-test.true c.round_entry.ensures c.if-not-round_entry.false c.next_owner-next.ensures c.if-next-owners.true
 
 pub loop-i-preserved : goal.loop-i-preserved
 loop-i-preserved c =
-    owned-turn _ _ _ c.loop-i.invariant c.loop-i-test.true c.round_entry.ensures (not-false _ c.if-not-round_entry.false) c.next_owner-next.ensures c.if-next-owners.false
+    owned-turn _ _ _ c.loop-i.invariant c.loop-i-test.true c.round_entry.ensures c.if-not-round_entry.false c.next_owner-next.ensures c.if-next-owners.false
 
 pub returns : goal.returns
 returns c =

@@ -1,8 +1,6 @@
-use Rattle.check_parts.proofs.Owners.{Owned, owned-start, owned-other, owned-falls, owned-turn, owned-end}
+use Rattle.check_parts.proofs.Owners.{Owned}
 use Prim.Native.Nat.{◌-◌}
 use lib.ListN.{length}
-use borrow.Author.Tests.{not-true, not-false}
-use borrow.Author.Rules.{rules}
 use Rattle.check_parts.proofs.good_owners.Given as goal
 
 abbrev pub invariant-loop-i : goal.invariant-loop-i

@@ -1,7 +1,5 @@
-use native.Mathlib.Omega.{arith}
 use Prim.Native.Nat.{◌-◌}
-use Rattle.check_parts.proofs.Drawn.{Listed, listed_start, listed-skip, listed-put, listed-end}
-use borrow.Author.Rules.{rules}
+use Rattle.check_parts.proofs.Drawn.{Listed}
 use Rattle.check_parts.proofs.list_unnamed.Given as goal
 
 abbrev pub invariant-loop-i : goal.invariant-loop-i

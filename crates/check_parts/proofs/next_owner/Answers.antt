@@ -1,5 +1,4 @@
 use Rattle.check_parts.proofs.Owners.{next-is, next_last}
-use borrow.Author.Rules.{rules}
 use Rattle.check_parts.proofs.next_owner.Goals as goal
 
 pub returns-then-j-owners : goal.returns-then-j-owners

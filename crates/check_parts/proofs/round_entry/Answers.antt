@@ -1,7 +1,6 @@
 use Rattle.check_parts.specs.Owners.{round_entry}
 use borrow.Author.Tests.{lt-ltb, le-ltb}
 use mathlib.Core.Path.{◌∙◌}
-use borrow.Author.Rules.{rules}
 use Rattle.check_parts.proofs.round_entry.Goals as goal
 
 pub returns-then-i-marks : goal.returns-then-i-marks

@@ -1,8 +1,6 @@
 use mathlib.Core.Path.{refl}
-use Prim.Native.Nat.{◌-◌}
 use native.Mathlib.Omega.{arith}
-use borrow.Author.Rules.{rules}
-use Rattle.degrees.proofs.Reading.{Converted, converted-turn, converted-end, read_small, read_float}
+use Rattle.degrees.proofs.Reading.{converted-turn, converted-end, read_small, read_float}
 use Rattle.degrees.proofs.all_from_units.Goals as goal
 
 pub loop-i-init : goal.loop-i-init

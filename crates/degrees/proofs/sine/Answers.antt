@@ -1,4 +1,3 @@
-use borrow.Author.Rules.{rules}
 use Rattle.degrees.proofs.Rule.{exact-entries}
 use Rattle.degrees.proofs.Reading.{called-small, called-float}
 use Rattle.degrees.proofs.sine.Goals as goal

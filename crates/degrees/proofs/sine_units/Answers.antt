@@ -1,4 +1,3 @@
-use borrow.Author.Rules.{rules}
 use Rattle.degrees.specs.Table.{degree_table}
 use Rattle.degrees.specs.Degrees.{sine_units}
 use Rattle.degrees.proofs.Rule.{exact-entries}

@@ -17,11 +17,11 @@ step-r-requires c =
 
 pub shape_of-out-in-Refused : goal.shape_of-out-in-Refused
 shape_of-out-in-Refused c =
-    c.step-r.auto.1.0 ∙ c.loop-i.invariant.same
+    c.step-r.auto.out ∙ c.loop-i.invariant.same
 
 pub shape_of-begins-in-Refused : goal.shape_of-begins-in-Refused
 shape_of-begins-in-Refused c =
-    c.step-r.auto.1.1.0 ∙ c.loop-i.invariant.same-starts
+    c.step-r.auto.begins ∙ c.loop-i.invariant.same-starts
 
 pub returns-in-Refused : goal.returns-in-Refused
 returns-in-Refused c =
@@ -37,7 +37,7 @@ loop-i-smaller c =
 
 pub loop-i-preserved : goal.loop-i-preserved
 loop-i-preserved c =
-    filtering-turn _ _ _ _ _ _ _ _ _ _ _ _ _ c.loop-i.invariant c.loop-i-test.true _ _ c.read_point-v.ensures c.cut_filter-t.ensures _ _ c.step-r.ensures c.step-r.auto.1.0 c.step-r.auto.1.1.0 c.in-Both.is
+    filtering-turn _ _ _ _ _ _ _ _ _ _ _ _ _ c.loop-i.invariant c.loop-i-test.true _ _ c.read_point-v.ensures c.cut_filter-t.ensures _ _ c.step-r.ensures c.step-r.auto.out c.step-r.auto.begins c.in-Both.is
 
 pub shape_of-out : goal.shape_of-out
 shape_of-out c =

@@ -13,13 +13,13 @@ across-requires c =
 
 pub shape_of-out : goal.shape_of-out
 shape_of-out c =
-    c.across.auto.1.1.1.0 ∙ c.across-c1.auto.1.1.1.0
+    c.across.auto.out ∙ c.across-c1.auto.out
 
 pub shape_of-begins : goal.shape_of-begins
 shape_of-begins c =
-    c.across.auto.1.1.1.1.0 ∙ c.across-c1.auto.1.1.1.1.0
+    c.across.auto.begins ∙ c.across-c1.auto.begins
 
 pub returns : goal.returns
 unfolding faces
 returns c =
-    adds_then _ _ _ _ _ _ _ _ _ c.across-c1.ensures c.across-c1.auto.1.1.1.0 c.across-c1.auto.1.1.1.1.0 c.across.ensures
+    adds_then _ _ _ _ _ _ _ _ _ c.across-c1.ensures c.across-c1.auto.out c.across-c1.auto.begins c.across.ensures

@@ -20,11 +20,11 @@ own_path-r-requires c =
 
 pub shape_of-out-in-Refused : goal.shape_of-out-in-Refused
 shape_of-out-in-Refused c =
-    c.own_path-r.auto.1.1.1.1.1.0 ∙ c.loop-j.invariant.same
+    c.own_path-r.auto.out ∙ c.loop-j.invariant.same
 
 pub shape_of-begins-in-Refused : goal.shape_of-begins-in-Refused
 shape_of-begins-in-Refused c =
-    c.own_path-r.auto.1.1.1.1.1.1.0 ∙ c.loop-j.invariant.same-starts
+    c.own_path-r.auto.begins ∙ c.loop-j.invariant.same-starts
 
 pub returns-in-Refused : goal.returns-in-Refused
 returns-in-Refused c =
@@ -36,7 +36,7 @@ overflow_add-j c =
 
 pub loop-j-preserved : goal.loop-j-preserved
 loop-j-preserved c =
-    adding-turn _ _ _ _ _ _ _ _ _ _ c.loop-j.invariant _ _ (own_turn _ _ _ _ _ c.loop-j-test.true) _ _ c.own_path-r.ensures c.own_path-r.auto.1.1.1.1.1.0 c.own_path-r.auto.1.1.1.1.1.1.0 c.in-Both.is
+    adding-turn _ _ _ _ _ _ _ _ _ _ c.loop-j.invariant _ _ (own_turn _ _ _ _ _ c.loop-j-test.true) _ _ c.own_path-r.ensures c.own_path-r.auto.out c.own_path-r.auto.begins c.in-Both.is
 
 pub shape_of-out : goal.shape_of-out
 shape_of-out c =

@@ -3,7 +3,6 @@ use Rattle.draw_lines.proofs.Owning.{own-none, own-one}
 use Rattle.paths.proofs.Parts.{range-fits, span-slice}
 use Rattle.paths.specs.Ends.{all_points}
 use mathlib.Core.Path.{sym, ap, ◌∙◌}
-use borrow.Author.Tests.{not-true, not-false}
 use mathlib.Core.List.{List, [], ◌∷◌}
 use Rattle.geometry.specs.declared.vector.Vector.{Vector}
 use borrow.Author.Rules.{rules}
@@ -11,7 +10,7 @@ use Rattle.draw_lines.proofs.own_path.Goals as goal
 
 pub returns-then-not-owned : goal.returns-then-not-owned
 returns-then-not-owned c =
-    let args = c.args in let pre = c.requires in add_nothing args.out.now args.begins.now args.n args.m _ (own-none args.i (all_points args.points.now) args.starts.now args.owners.now args.j c.owned.ensures (not-true _ c.if-not-owned.true)) pre.1 pre.2
+    let args = c.args in let pre = c.requires in add_nothing args.out.now args.begins.now args.n args.m _ (own-none args.i (all_points args.points.now) args.starts.now args.owners.now args.j c.owned.ensures c.if-not-owned.true) pre.1 pre.2
 
 pub one_path-requires : goal.one_path-requires
 one_path-requires c =
@@ -19,4 +18,4 @@ one_path-requires c =
 
 pub returns : goal.returns
 returns c =
-    let args = c.args in add-path args.out.now args.begins.now args.n args.m _ _ (own-one args.i (all_points args.points.now) args.starts.now args.owners.now args.j c.owned.ensures (not-false _ c.if-not-owned.false) ∙ ap (λ (p : List Vector). p ∷ []) (sym (span-slice args.points.now args.starts.now args.j c.range_of-p.result c.range_of-p.ensures))) _ _ c.one_path.ensures
+    let args = c.args in add-path args.out.now args.begins.now args.n args.m _ _ (own-one args.i (all_points args.points.now) args.starts.now args.owners.now args.j c.owned.ensures c.if-not-owned.false ∙ ap (λ (p : List Vector). p ∷ []) (sym (span-slice args.points.now args.starts.now args.j c.range_of-p.result c.range_of-p.ensures))) _ _ c.one_path.ensures

@@ -17,11 +17,11 @@ stripe-r-requires c =
 
 pub shape_of-out-in-Refused : goal.shape_of-out-in-Refused
 shape_of-out-in-Refused c =
-    c.stripe-r.auto.1.1.1.1.0 ∙ c.loop-i.invariant.0.same
+    c.stripe-r.auto.out ∙ c.loop-i.invariant.0.same
 
 pub shape_of-begins-in-Refused : goal.shape_of-begins-in-Refused
 shape_of-begins-in-Refused c =
-    c.stripe-r.auto.1.1.1.1.1.0 ∙ c.loop-i.invariant.0.same-starts
+    c.stripe-r.auto.begins ∙ c.loop-i.invariant.0.same-starts
 
 pub returns-in-Refused : goal.returns-in-Refused
 returns-in-Refused c =
@@ -29,7 +29,7 @@ returns-in-Refused c =
 
 pub loop-i-preserved : goal.loop-i-preserved
 loop-i-preserved c =
-    (adding-turn _ _ _ _ _ _ _ _ _ _ c.loop-i.invariant.0 _ _ (stripes-turn _ _ _ _ c.loop-i-test.true) _ _ c.stripe-r.ensures c.stripe-r.auto.1.1.1.1.0 c.stripe-r.auto.1.1.1.1.1.0 c.in-Both.is, omega (arith, c.loop-i-test.true))
+    (adding-turn _ _ _ _ _ _ _ _ _ _ c.loop-i.invariant.0 _ _ (stripes-turn _ _ _ _ c.loop-i-test.true) _ _ c.stripe-r.ensures c.stripe-r.auto.out c.stripe-r.auto.begins c.in-Both.is, omega (arith, c.loop-i-test.true))
 
 pub stripe-requires : goal.stripe-requires
 stripe-requires c =
@@ -37,11 +37,11 @@ stripe-requires c =
 
 pub shape_of-out : goal.shape_of-out
 shape_of-out c =
-    c.stripe.auto.1.1.1.1.0 ∙ c.loop-i.invariant.0.same
+    c.stripe.auto.out ∙ c.loop-i.invariant.0.same
 
 pub shape_of-begins : goal.shape_of-begins
 shape_of-begins c =
-    c.stripe.auto.1.1.1.1.1.0 ∙ c.loop-i.invariant.0.same-starts
+    c.stripe.auto.begins ∙ c.loop-i.invariant.0.same-starts
 
 pub returns : goal.returns
 returns c =

@@ -22,13 +22,13 @@ line-requires c =
 
 pub shape_of-out : goal.shape_of-out
 shape_of-out c =
-    c.line.auto.1.1.1.0 ∙ c.line-c3.auto.1.1.1.0 ∙ c.line-c2.auto.1.1.1.0 ∙ c.line-c1.auto.1.1.1.0
+    c.line.auto.out ∙ c.line-c3.auto.out ∙ c.line-c2.auto.out ∙ c.line-c1.auto.out
 
 pub shape_of-begins : goal.shape_of-begins
 shape_of-begins c =
-    c.line.auto.1.1.1.1.0 ∙ c.line-c3.auto.1.1.1.1.0 ∙ c.line-c2.auto.1.1.1.1.0 ∙ c.line-c1.auto.1.1.1.1.0
+    c.line.auto.begins ∙ c.line-c3.auto.begins ∙ c.line-c2.auto.begins ∙ c.line-c1.auto.begins
 
 pub returns : goal.returns
 unfolding sides
 returns c =
-    let args = c.args in adds-as _ (sides args.min args.max args.s) (adds_then _ _ _ _ _ _ _ _ _ c.line-c1.ensures c.line-c1.auto.1.1.1.0 c.line-c1.auto.1.1.1.1.0 (adds_then _ _ _ _ _ _ _ _ _ c.line-c2.ensures c.line-c2.auto.1.1.1.0 c.line-c2.auto.1.1.1.1.0 (adds_then _ _ _ _ _ _ _ _ _ c.line-c3.ensures c.line-c3.auto.1.1.1.0 c.line-c3.auto.1.1.1.1.0 c.line.ensures))) (rw (c.new.ensures, c.new-2.ensures, c.new-3.ensures, c.new-4.ensures, c.new-5.ensures, c.new-6.ensures, c.new-7.ensures, c.new-8.ensures))
+    let args = c.args in adds-as _ (sides args.min args.max args.s) (adds_then _ _ _ _ _ _ _ _ _ c.line-c1.ensures c.line-c1.auto.out c.line-c1.auto.begins (adds_then _ _ _ _ _ _ _ _ _ c.line-c2.ensures c.line-c2.auto.out c.line-c2.auto.begins (adds_then _ _ _ _ _ _ _ _ _ c.line-c3.ensures c.line-c3.auto.out c.line-c3.auto.begins c.line.ensures))) (rw (c.new.ensures, c.new-2.ensures, c.new-3.ensures, c.new-4.ensures, c.new-5.ensures, c.new-6.ensures, c.new-7.ensures, c.new-8.ensures))

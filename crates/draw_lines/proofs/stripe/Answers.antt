@@ -16,16 +16,16 @@ faces-requires c =
 
 pub shape_of-out-then-i-stripes : goal.shape_of-out-then-i-stripes
 shape_of-out-then-i-stripes c =
-    c.faces.auto.1.1.1.1.0 ∙ c.sides-c.auto.1.1.1.1.0
+    c.faces.auto.out ∙ c.sides-c.auto.out
 
 pub shape_of-begins-then-i-stripes : goal.shape_of-begins-then-i-stripes
 shape_of-begins-then-i-stripes c =
-    c.faces.auto.1.1.1.1.1.0 ∙ c.sides-c.auto.1.1.1.1.1.0
+    c.faces.auto.begins ∙ c.sides-c.auto.begins
 
 pub returns-then-i-stripes : goal.returns-then-i-stripes
 unfolding stripe
 returns-then-i-stripes c =
-    let args = c.args in rw (ne_eqb _ _ c.if-i-stripes.true, ← c.stripe_at-s.ensures) (adds_then _ _ (Both args.n args.m) args.out.now args.begins.now _ _ _ _ c.sides-c.ensures c.sides-c.auto.1.1.1.1.0 c.sides-c.auto.1.1.1.1.1.0 c.faces.ensures).ends
+    let args = c.args in rw (ne_eqb _ _ c.if-i-stripes.true, ← c.stripe_at-s.ensures) (adds_then _ _ (Both args.n args.m) args.out.now args.begins.now _ _ _ _ c.sides-c.ensures c.sides-c.auto.out c.sides-c.auto.begins c.faces.ensures).ends
 
 pub faces-requires-2 : goal.faces-requires-2
 faces-requires-2 c =
@@ -33,11 +33,11 @@ faces-requires-2 c =
 
 pub shape_of-out : goal.shape_of-out
 shape_of-out c =
-    c.faces-2.auto.1.1.1.1.0
+    c.faces-2.auto.out
 
 pub shape_of-begins : goal.shape_of-begins
 shape_of-begins c =
-    c.faces-2.auto.1.1.1.1.1.0
+    c.faces-2.auto.begins
 
 pub returns : goal.returns
 unfolding stripe

@@ -1,5 +1,4 @@
 use Rattle.draw_memory.specs.Memory.{outcome_of}
-use borrow.Author.Rules.{rules}
 use Rattle.draw_memory.proofs.outcome.Goals as goal
 
 pub returns-in-Keep : goal.returns-in-Keep

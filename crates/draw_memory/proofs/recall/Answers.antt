@@ -1,8 +1,5 @@
 use native.Mathlib.Omega.{arith}
-use mathlib.Core.Path.{◌≡◌, refl, sym, ◌∙◌}
-use Prim.Native.Nat.{◌-◌, ◌≤◌}
-use borrow.Author.Rules.{rules}
-use Rattle.draw_memory.specs.Memory.{recalled_from, recalled}
+use mathlib.Core.Path.{refl, sym, ◌∙◌}
 use Rattle.draw_memory.proofs.Memories.{recall-start, recall-found, recall-next, recall-none}
 use Rattle.draw_memory.proofs.recall.Goals as goal
 

@@ -1,9 +1,6 @@
-use native.Mathlib.Omega.{arith}
-use mathlib.Core.Path.{◌≡◌, refl, sym, ◌∙◌}
+use mathlib.Core.Path.{◌≡◌}
 use Prim.Native.Nat.{◌-◌, ◌≤◌}
-use borrow.Author.Rules.{rules}
 use Rattle.draw_memory.specs.Memory.{recalled_from, recalled}
-use Rattle.draw_memory.proofs.Memories.{recall-start, recall-found, recall-next, recall-none}
 use Rattle.draw_memory.proofs.recall.Given as goal
 
 abbrev pub invariant-loop-k : goal.invariant-loop-k

@@ -1,4 +1,3 @@
-use borrow.Author.Rules.{rules}
 use Rattle.draw_memory.proofs.remember.Goals as goal
 
 pub returns : goal.returns

@@ -1,11 +1,9 @@
 use Rattle.draw_memory.proofs.Memories.{one-pattern, same_not, same-not-2, same-by-bits}
 use Rattle.floats.proofs.Patterns.{equals_itself}
 use Rattle.floats.proofs.Tests.{clash}
-use lib.Ieee.{Float, binary64, fits}
 use lib.Dec.{T}
 use borrow.Author.Tests.{eqb-true}
 use mathlib.Core.Path.{sym, subst}
-use borrow.Author.Rules.{rules}
 use Rattle.draw_memory.proofs.same_bits.Goals as goal
 
 pub float_to_bits-result : goal.float_to_bits-result

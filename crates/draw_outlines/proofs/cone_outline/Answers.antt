@@ -12,4 +12,4 @@ returns-then-e-k c =
 pub returns : goal.returns
 unfolding cone_outline
 returns c =
-    let args = c.args in adds-as _ (cone_outline (placement_of args.t) args.r args.h) (adds_then _ _ _ _ _ _ _ _ _ c.ring-c1.ensures c.ring-c1.auto.1.1.1.1.0 c.ring-c1.auto.1.1.1.1.1.0 c.slopes.ensures) (simp (c.level_at.ensures, ← c.eye_square-e.ensures, ← c.cone_side-k.ensures, c.if-e-k.false))
+    let args = c.args in adds-as _ (cone_outline (placement_of args.t) args.r args.h) (adds_then _ _ _ _ _ _ _ _ _ c.ring-c1.ensures c.ring-c1.auto.out c.ring-c1.auto.begins c.slopes.ensures) (simp (c.level_at.ensures, ← c.eye_square-e.ensures, ← c.cone_side-k.ensures, c.if-e-k.false))

@@ -42,7 +42,7 @@ finish-requires-in-Other c =
 
 pub returns-else-not-is_ok : goal.returns-else-not-is_ok
 returns-else-not-is_ok c =
-    let args = c.args in finished_as _ _ _ _ (c.outline-r.ensures.ends.is ∙ outline-is args.solid args.eye args.placings.now args.view _ _ c.if-placings-ne0.false c.in-Is.is c.if-n-gt7.false c.is_ok.ensures c.if-not-is_ok.false c.args-in-Is.ensures c.placings_from.ensures c.stance_at-t.ensures args.out.now args.begins.now) c.outline-r.auto.1.1.1.0 c.outline-r.auto.1.1.1.1.0 c.finish-in-Is.ensures
+    let args = c.args in finished_as _ _ _ _ (c.outline-r.ensures.ends.is ∙ outline-is args.solid args.eye args.placings.now args.view _ _ c.if-placings-ne0.false c.in-Is.is c.if-n-gt7.false c.is_ok.ensures c.if-not-is_ok.false c.args-in-Is.ensures c.placings_from.ensures c.stance_at-t.ensures args.out.now args.begins.now) c.outline-r.auto.out c.outline-r.auto.begins c.finish-in-Is.ensures
 
 pub returns-in-Other : goal.returns-in-Other
 returns-in-Other c =

@@ -6,4 +6,4 @@ use Rattle.draw_outlines.proofs.slopes.Goals as goal
 pub returns : goal.returns
 unfolding slopes
 returns c =
-    let args = c.args in adds-as _ (slopes args.r args.k args.e args.eye args.h) (adds_then _ _ _ _ _ _ _ _ _ c.line-c1.ensures c.line-c1.auto.1.1.1.0 c.line-c1.auto.1.1.1.1.0 c.line.ensures) (rw (c.first_tangent.ensures, c.second_tangent.ensures, c.tangent_root-q.ensures, c.new-apex.ensures))
+    let args = c.args in adds-as _ (slopes args.r args.k args.e args.eye args.h) (adds_then _ _ _ _ _ _ _ _ _ c.line-c1.ensures c.line-c1.auto.out c.line-c1.auto.begins c.line.ensures) (rw (c.first_tangent.ensures, c.second_tangent.ensures, c.tangent_root-q.ensures, c.new-apex.ensures))

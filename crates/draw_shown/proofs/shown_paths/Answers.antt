@@ -13,7 +13,7 @@ returns-then-owns_path c =
 pub returns-then-stripeless : goal.returns-then-stripeless
 returns-then-stripeless c =
     let args = c.args in shows-outline (placement_of args.t) args.detail args.solid (own_paths args.i (paths_of (all_points args.points.now) args.starts.now) args.owners.now) args.out.now args.begins.now args.n args.m _ _ c.solid_paths-c.ensures (c.owns_path.ensures (all_points args.points.now)) c.if-owns_path.false
-    c.stripeless.ensures c.if-stripeless.true c.solid_paths-c.auto.1.1.1.1.1.1.0 c.solid_paths-c.auto.1.1.1.1.1.1.1.0 _ _ c.outline.ensures
+    c.stripeless.ensures c.if-stripeless.true c.solid_paths-c.auto.out c.solid_paths-c.auto.begins _ _ c.outline.ensures
 
 pub returns : goal.returns
 returns c =

@@ -18,14 +18,14 @@ returns-in-Refused c =
 
 pub shape_of-out-in-Both : goal.shape_of-out-in-Both
 shape_of-out-in-Both c =
-    c.handed_paths.auto.1.1.1.1.0 ∙ c.round_striped-c.auto.1.1.0
+    c.handed_paths.auto.out ∙ c.round_striped-c.auto.out
 
 pub shape_of-begins-in-Both : goal.shape_of-begins-in-Both
 shape_of-begins-in-Both c =
-    c.handed_paths.auto.1.1.1.1.1.0 ∙ c.round_striped-c.auto.1.1.1.0
+    c.handed_paths.auto.begins ∙ c.round_striped-c.auto.begins
 
 pub returns-in-Both : goal.returns-in-Both
 returns-in-Both c =
     let args = c.args in let pre = c.requires in joined (round_striped args.flank args.count) (own_paths args.i (paths_of (all_points args.points.now) args.starts.now) args.owners.now)
-    args.out.now args.begins.now args.n args.m pre.0 pre.1 _ _ c.round_striped-c.ensures c.round_striped-c.auto.1.1.0 c.round_striped-c.auto.1.1.1.0 c.in-Both.is
+    args.out.now args.begins.now args.n args.m pre.0 pre.1 _ _ c.round_striped-c.ensures c.round_striped-c.auto.out c.round_striped-c.auto.begins c.in-Both.is
     _ _ c.handed_paths.ensures

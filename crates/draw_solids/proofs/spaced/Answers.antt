@@ -39,11 +39,11 @@ stripe-r-requires c =
 
 pub shape_of-out-in-Refused : goal.shape_of-out-in-Refused
 shape_of-out-in-Refused c =
-    c.stripe-r.auto.1.1.1.0 ∙ c.loop-a.invariant.same
+    c.stripe-r.auto.out ∙ c.loop-a.invariant.same
 
 pub shape_of-begins-in-Refused : goal.shape_of-begins-in-Refused
 shape_of-begins-in-Refused c =
-    c.stripe-r.auto.1.1.1.1.0 ∙ c.loop-a.invariant.same-starts
+    c.stripe-r.auto.begins ∙ c.loop-a.invariant.same-starts
 
 pub returns-in-Refused : goal.returns-in-Refused
 returns-in-Refused c =
@@ -61,7 +61,7 @@ loop-a-smaller c =
 pub loop-a-preserved : goal.loop-a-preserved
 loop-a-preserved c =
     let args = c.args in let pre = c.requires in adding-turn _ _ _ _ _ _ _ _ _ _ c.loop-a.invariant _ _
-    (left-turns args.flank _ args.step pre.0 pre.1 c.loop-a.a c.loop-a-test.true) _ _ c.stripe-r.ensures c.stripe-r.auto.1.1.1.0 c.stripe-r.auto.1.1.1.1.0 c.in-Both.is
+    (left-turns args.flank _ args.step pre.0 pre.1 c.loop-a.a c.loop-a-test.true) _ _ c.stripe-r.ensures c.stripe-r.auto.out c.stripe-r.auto.begins c.in-Both.is
 
 pub shape_of-out : goal.shape_of-out
 shape_of-out c =

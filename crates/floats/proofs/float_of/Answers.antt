@@ -1,4 +1,3 @@
-use borrow.Author.Rules.{rules}
 use Rattle.floats.proofs.Patterns.{no-nan-rest, nan_pattern}
 use Rattle.floats.proofs.float_of.Goals as goal
 

@@ -18,4 +18,4 @@ returns-in-Refused c =
 
 pub returns-in-Fine : goal.returns-in-Fine
 returns-in-Fine c =
-    finished_as _ _ _ _ (c.chop_paths-r.ensures.is ∙ call-fine _ _ _ _ _ _ c.is_ok.ensures _ c.judge-v.ensures _ c.args-in-Fine.ensures c.in-Fine.is) c.chop_paths-r.auto.1.1.1.0 c.chop_paths-r.auto.1.1.1.1.0 c.finish-in-Fine.ensures
+    finished_as _ _ _ _ (c.chop_paths-r.ensures.is ∙ call-fine _ _ _ _ _ _ c.is_ok.ensures _ c.judge-v.ensures _ c.args-in-Fine.ensures c.in-Fine.is) c.chop_paths-r.auto.out c.chop_paths-r.auto.begins c.finish-in-Fine.ensures

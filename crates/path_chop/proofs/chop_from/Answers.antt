@@ -10,7 +10,7 @@ loop-i-init c =
 
 pub shape_of-out-in-Refused : goal.shape_of-out-in-Refused
 shape_of-out-in-Refused c =
-    c.subdivide-r.auto.1.1.1.1.1.0 ∙ c.loop-i.invariant.same
+    c.subdivide-r.auto.out ∙ c.loop-i.invariant.same
 
 pub returns-in-Refused : goal.returns-in-Refused
 returns-in-Refused c =
@@ -18,7 +18,7 @@ returns-in-Refused c =
 
 pub loop-i-preserved : goal.loop-i-preserved
 loop-i-preserved c =
-    chopping-turn _ _ _ _ _ _ _ _ _ _ _ c.loop-i.invariant c.loop-i-test.true _ _ c.read_point-v.ensures c.spot_of-b.ensures _ c.subdivide-r.ensures c.subdivide-r.auto.1.1.1.1.1.0 c.in-At.is
+    chopping-turn _ _ _ _ _ _ _ _ _ _ _ c.loop-i.invariant c.loop-i-test.true _ _ c.read_point-v.ensures c.spot_of-b.ensures _ c.subdivide-r.ensures c.subdivide-r.auto.out c.in-At.is
 
 pub shape_of-out : goal.shape_of-out
 shape_of-out c =

@@ -22,11 +22,11 @@ one_path-r-requires c =
 
 pub shape_of-out-in-Refused : goal.shape_of-out-in-Refused
 shape_of-out-in-Refused c =
-    c.one_path-r.auto.1.1.1.1.1.1.0 ∙ c.loop-i.invariant.same
+    c.one_path-r.auto.out ∙ c.loop-i.invariant.same
 
 pub shape_of-begins-in-Refused : goal.shape_of-begins-in-Refused
 shape_of-begins-in-Refused c =
-    c.one_path-r.auto.1.1.1.1.1.1.1.0 ∙ c.loop-i.invariant.same-starts
+    c.one_path-r.auto.begins ∙ c.loop-i.invariant.same-starts
 
 pub returns-in-Refused : goal.returns-in-Refused
 returns-in-Refused c =
@@ -38,7 +38,7 @@ overflow_add-i c =
 
 pub loop-i-preserved : goal.loop-i-preserved
 loop-i-preserved c =
-    staging-turn _ _ _ _ _ _ _ _ _ _ c.loop-i.invariant c.loop-i-test.true _ c.range_of-p.ensures _ _ c.one_path-r.ensures c.one_path-r.auto.1.1.1.1.1.1.0 c.one_path-r.auto.1.1.1.1.1.1.1.0 c.in-Both.is
+    staging-turn _ _ _ _ _ _ _ _ _ _ c.loop-i.invariant c.loop-i-test.true _ c.range_of-p.ensures _ _ c.one_path-r.ensures c.one_path-r.auto.out c.one_path-r.auto.begins c.in-Both.is
 
 pub shape_of-out : goal.shape_of-out
 shape_of-out c =

@@ -26,4 +26,4 @@ returns-in-Refused c =
 
 pub returns-in-At : goal.returns-in-At
 returns-in-At c =
-    let args = c.args in let pre = c.requires in ends_as (chop-some args.s args.path.now args.from args.end _ _ c.read_point-v.result c.spot_of-a.result c.if-end-from.false pre.1 c.read_point-v.ensures c.spot_of-a.ensures) (run_on (λ (l : ℕ) (o : List Vector). push l o c.read_point-v.result) (λ (l : ℕ) (o : List Vector). chop_from most_halvings args.s l c.spot_of-a.result (slice (args.from + 1) args.end (all_points args.path.now)) o) args.out.now _ args.n c.push-r.ensures _ c.in-At.is c.push-r.auto.0 c.chop_from.ensures)
+    let args = c.args in let pre = c.requires in ends_as (chop-some args.s args.path.now args.from args.end _ _ c.read_point-v.result c.spot_of-a.result c.if-end-from.false pre.1 c.read_point-v.ensures c.spot_of-a.ensures) (run_on (λ (l : ℕ) (o : List Vector). push l o c.read_point-v.result) (λ (l : ℕ) (o : List Vector). chop_from most_halvings args.s l c.spot_of-a.result (slice (args.from + 1) args.end (all_points args.path.now)) o) args.out.now _ args.n c.push-r.ensures _ c.in-At.is c.push-r.auto.out c.chop_from.ensures)

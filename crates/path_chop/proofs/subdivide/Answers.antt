@@ -1,6 +1,5 @@
 use Rattle.path_chop.proofs.Halving.{Subdividing, some_left, subdividing-start, subdividing-room, subdividing-less, subdividing-halved, subdividing-refused, subdividing-end, subdividing-next}
 use Rattle.path_chop.proofs.Waiting.{waiting, turns, turns_of, turns_next}
-use borrow.Author.Tests.{not-true, not-false}
 use Prim.Native.Nat.{◌+◌}
 use mathlib.Core.Path.{◌∙◌}
 use native.Mathlib.Omega.{arith}
@@ -13,11 +12,11 @@ loop-left-init c =
 
 pub overflow_sub-left : goal.overflow_sub-left
 overflow_sub-left c =
-    some_left _ _ _ _ _ c.done.ensures (not-true _ c.if-not-done.true)
+    some_left _ _ _ _ _ c.done.ensures c.if-not-done.true
 
 pub wait-requires : goal.wait-requires
 wait-requires c =
-    subdividing-room _ _ _ _ _ _ _ _ _ _ _ _ _ c.loop-left.invariant _ c.done.ensures (not-true _ c.if-not-done.true) c.wait-arg-1.given.0.1 c.wait-arg-then-not-done-1.given.0.1
+    subdividing-room _ _ _ _ _ _ _ _ _ _ _ _ _ c.loop-left.invariant _ c.done.ensures c.if-not-done.true c.wait-arg-1.given.0.1 c.wait-arg-then-not-done-1.given.0.1
 
 pub overflow_add-k : goal.overflow_add-k
 overflow_add-k c =
@@ -25,11 +24,11 @@ overflow_add-k c =
 
 pub loop-left-smaller-then-not-done : goal.loop-left-smaller-then-not-done
 loop-left-smaller-then-not-done c =
-    subdividing-less _ _ _ _ _ _ _ _ _ _ _ _ _ c.loop-left.invariant _ c.done.ensures (not-true _ c.if-not-done.true) c.wait-arg-1.given.0.1 c.wait-arg-then-not-done-1.given.0.1 _ _ c.wait.ensures.0 c.wait.ensures.1
+    subdividing-less _ _ _ _ _ _ _ _ _ _ _ _ _ c.loop-left.invariant _ c.done.ensures c.if-not-done.true c.wait-arg-1.given.0.1 c.wait-arg-then-not-done-1.given.0.1 _ _ c.wait.ensures.0 c.wait.ensures.1
 
 pub loop-left-preserved-then-not-done : goal.loop-left-preserved-then-not-done
 loop-left-preserved-then-not-done c =
-    subdividing-halved _ _ _ _ _ _ _ _ _ _ _ _ _ c.loop-left.invariant _ c.done.ensures (not-true _ c.if-not-done.true) c.wait-arg-1.given.0.1 c.wait-arg-then-not-done-1.given.0.1 _ _ c.wait.ensures.0 c.wait.ensures.1 _ c.middle-to.ensures
+    subdividing-halved _ _ _ _ _ _ _ _ _ _ _ _ _ c.loop-left.invariant _ c.done.ensures c.if-not-done.true c.wait-arg-1.given.0.1 c.wait-arg-then-not-done-1.given.0.1 _ _ c.wait.ensures.0 c.wait.ensures.1 _ c.middle-to.ensures
 
 pub push-r-requires : goal.push-r-requires
 push-r-requires c =
@@ -37,23 +36,23 @@ push-r-requires c =
 
 pub shape_of-out-in-Refused : goal.shape_of-out-in-Refused
 shape_of-out-in-Refused c =
-    c.push-r.auto.0 ∙ c.loop-left.invariant.same
+    c.push-r.auto.out ∙ c.loop-left.invariant.same
 
 pub returns-in-Refused : goal.returns-in-Refused
 returns-in-Refused c =
-    subdividing-refused _ _ _ _ _ _ _ _ _ _ _ _ _ c.loop-left.invariant _ c.done.ensures (not-false _ c.if-not-done.false) _ c.push-r.ensures c.in-Refused.is
+    subdividing-refused _ _ _ _ _ _ _ _ _ _ _ _ _ c.loop-left.invariant _ c.done.ensures c.if-not-done.false _ c.push-r.ensures c.in-Refused.is
 
 pub shape_of-out-then-k-eq0 : goal.shape_of-out-then-k-eq0
 shape_of-out-then-k-eq0 c =
-    c.push-r.auto.0 ∙ c.loop-left.invariant.same
+    c.push-r.auto.out ∙ c.loop-left.invariant.same
 
 pub returns-then-k-eq0 : goal.returns-then-k-eq0
 returns-then-k-eq0 c =
-    subdividing-end _ _ _ _ _ _ _ _ _ _ _ _ _ c.loop-left.invariant _ c.done.ensures (not-false _ c.if-not-done.false) _ c.push-r.ensures c.in-At.is c.if-k-eq0.true
+    subdividing-end _ _ _ _ _ _ _ _ _ _ _ _ _ c.loop-left.invariant _ c.done.ensures c.if-not-done.false _ c.push-r.ensures c.in-At.is c.if-k-eq0.true
 
 pub read_spot-to-requires : goal.read_spot-to-requires
 read_spot-to-requires c =
-    omega (arith, c.if-k-eq0.false, c.loop-left.invariant.upto, c.read_spot-arg-in-loop-left-1.given.0)
+    omega (arith, c.if-k-eq0.false, c.loop-left.invariant.upto, c.read_spot-arg-in-loop-left-1.given)
 
 pub offset_bounds-lefts-k : goal.offset_bounds-lefts-k
 offset_bounds-lefts-k c =
@@ -69,4 +68,4 @@ loop-left-smaller c =
 
 pub loop-left-preserved : goal.loop-left-preserved
 loop-left-preserved c =
-    subdividing-next _ _ _ _ _ _ _ _ _ _ _ _ _ c.loop-left.invariant _ c.done.ensures (not-false _ c.if-not-done.false) _ c.push-r.ensures c.in-At.is _ c.read_spot-to.ensures (omega (arith, c.if-k-eq0.false)) c.push-r.auto.0
+    subdividing-next _ _ _ _ _ _ _ _ _ _ _ _ _ c.loop-left.invariant _ c.done.ensures c.if-not-done.false _ c.push-r.ensures c.in-At.is _ c.read_spot-to.ensures (omega (arith, c.if-k-eq0.false)) c.push-r.auto.out

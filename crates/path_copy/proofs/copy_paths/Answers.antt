@@ -14,4 +14,4 @@ returns-in-Refused c =
 
 pub returns-in-At : goal.returns-in-At
 returns-in-At c =
-    let args = c.args in all-copied _ _ (paths_with (all_points args.path.now) args.starts.now) c.if-begins-m.false _ (whole _ args.out.now args.path.now c.extend-c.ensures) _ _ c.in-At.is c.copy_starts.auto.1.0 c.copy_starts.ensures
+    let args = c.args in all-copied _ _ (paths_with (all_points args.path.now) args.starts.now) c.if-begins-m.false _ (whole _ args.out.now args.path.now c.extend-c.ensures) _ _ c.in-At.is c.copy_starts.auto.to c.copy_starts.ensures

@@ -6,7 +6,6 @@ use native.Mathlib.Omega.{arith}
 use lib.Seq.{slice}
 use mathlib.Core.Path.{◌∙◌, sym, ap}
 use Prim.Native.Nat.{ℕ, ◌-◌}
-use borrow.Author.Tests.{not-true, not-false}
 use borrow.Author.Rules.{rules}
 use Rattle.path_rdp.proofs.greatest_square.Goals as goal
 
@@ -22,7 +21,7 @@ loop-i-preserved-then-not-q-square c =
     (c.read_point-a.ensures ∙ part-first args.path.now args.from args.end pre.1 (omega (arith, pre.0)))
     (c.read_point-b.ensures ∙ part-last args.path.now args.from args.end pre.1 (omega (arith, pre.0)) ∙ ap (λ (n : ℕ). vertex (slice args.from args.end (all_points args.path.now)) (n - 1)) (sym s))
     (c.read_point-p.ensures ∙ part_at args.path.now args.from args.end pre.1 _ (omega (arith, c.loop-i-test.true)))
-    c.segment_square-q.ensures (not-true _ c.if-not-q-square.true)
+    c.segment_square-q.ensures c.if-not-q-square.true
 
 pub loop-i-preserved : goal.loop-i-preserved
 loop-i-preserved c =
@@ -32,7 +31,7 @@ loop-i-preserved c =
     (c.read_point-a.ensures ∙ part-first args.path.now args.from args.end pre.1 (omega (arith, pre.0)))
     (c.read_point-b.ensures ∙ part-last args.path.now args.from args.end pre.1 (omega (arith, pre.0)) ∙ ap (λ (n : ℕ). vertex (slice args.from args.end (all_points args.path.now)) (n - 1)) (sym s))
     (c.read_point-p.ensures ∙ part_at args.path.now args.from args.end pre.1 _ (omega (arith, c.loop-i-test.true)))
-    c.segment_square-q.ensures (not-false _ c.if-not-q-square.false)
+    c.segment_square-q.ensures c.if-not-q-square.false
 
 pub returns : goal.returns
 returns c =

@@ -11,7 +11,7 @@ use borrow.Author.Rules.{rules}
 use Rattle.path_rdp.proofs.greatest_square.Given as goal
 
 abbrev pub invariant-loop-i : goal.invariant-loop-i
-invariant-loop-i l = Peaking (slice l.from l.end (all_points l.path)) (record { l.index = l.index; l.square = l.square; l.lower = l.lower }) l.i
+invariant-loop-i l = Peaking (slice l.from l.end (all_points l.path)) (record { index = l.index; square = l.square; lower = l.lower }) l.i
 
 abbrev pub decreases-loop-i : goal.decreases-loop-i
 decreases-loop-i l = l.last - l.i

@@ -1,11 +1,10 @@
 use Rattle.path_rdp.proofs.Scanning.{stays}
 use Rattle.path_rdp.specs.Rdp as Rdp
-use borrow.Author.Tests.{not-true}
 use Rattle.path_rdp.proofs.tried.Goals as goal
 
 pub returns-then-not-q-best : goal.returns-then-not-q-best
 returns-then-not-q-best c =
-    record { far = stays _ _ _ _ c.requires (not-true _ c.if-not-q-best.true); root = c.requires }
+    record { far = stays _ _ _ _ c.requires c.if-not-q-best.true; root = c.requires }
 
 pub returns-then-d-f : goal.returns-then-d-f
 unfolding Rdp.farther

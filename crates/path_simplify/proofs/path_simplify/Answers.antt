@@ -7,7 +7,7 @@ use Rattle.path_simplify.proofs.path_simplify.Goals as goal
 
 pub shape_of-out-then-end-from-lt2 : goal.shape_of-out-then-end-from-lt2
 shape_of-out-then-end-from-lt2 c =
-    c.extend.auto.1.1.1.0
+    c.extend.auto.out
 
 pub returns-then-end-from-lt2 : goal.returns-then-end-from-lt2
 returns-then-end-from-lt2 c =
@@ -40,7 +40,7 @@ split-s-requires c =
 
 pub shape_of-out-then-room-m : goal.shape_of-out-then-room-m
 shape_of-out-then-room-m c =
-    c.loop-w.invariant.same ∙ c.wait.auto.0
+    c.loop-w.invariant.same ∙ c.wait.auto.out
 
 pub returns-then-room-m : goal.returns-then-room-m
 returns-then-room-m c =
@@ -87,7 +87,7 @@ write_point-requires-2 c =
 
 pub shape_of-out : goal.shape_of-out
 shape_of-out c =
-    c.write_point-2.auto.0 ∙ c.loop-w.invariant.same ∙ c.wait.auto.0
+    c.write_point-2.auto.xs ∙ c.loop-w.invariant.same ∙ c.wait.auto.out
 
 pub returns : goal.returns
 returns c =

@@ -1,5 +1,7 @@
 use Rattle.path_simplify.proofs.Calls.{call-refused, call-fine, fine-low, call_ends}
 use Rattle.paths.proofs.Closing.{none-counted, finished_as}
+use Rattle.paths.specs.Ends.{places}
+use lib.ListN.{length}
 use mathlib.Core.Path.{refl, ◌∙◌}
 use borrow.Author.Rules.{rules}
 use Rattle.path_simplify.proofs.simplify.Goals as goal
@@ -18,8 +20,15 @@ finish-requires-in-Fine c =
 
 pub returns-in-Refused : goal.returns-in-Refused
 returns-in-Refused c =
-    record { finished = (call_ends _ _ _ _ _ _ _ (finished_as _ _ _ _ (call-refused _ _ _ _ c.threshold_ok.ensures _ c.judge-v.ensures _ _ c.in-Refused.is) refl refl c.finish.ensures)).0; kept = (call_ends _ _ _ _ _ _ _ (finished_as _ _ _ _ (call-refused _ _ _ _ c.threshold_ok.ensures _ c.judge-v.ensures _ _ c.in-Refused.is) refl refl c.finish.ensures)).1 }
+    let args = c.args in
+    let w = call_ends args.path.now args.starts.now args.threshold (places args.out.now) (length args.begins.now) (length args.out.now) (length args.begins.now)
+    (finished_as _ _ _ _ (call-refused _ _ _ _ c.threshold_ok.ensures _ c.judge-v.ensures _ _ c.in-Refused.is) refl refl c.finish.ensures) in
+    record { finished = w.0; kept = w.1 }
 
 pub returns-in-Fine : goal.returns-in-Fine
 returns-in-Fine c =
-    record { finished = (call_ends _ _ _ _ _ _ _ (finished_as _ _ _ _ (c.simplify_paths-r.ensures.is ∙ call-fine _ _ _ _ c.threshold_ok.ensures _ c.judge-v.ensures _ _ c.in-Fine.is) c.simplify_paths-r.auto.1.1.1.0 c.simplify_paths-r.auto.1.1.1.1.0 c.finish-in-Fine.ensures)).0; kept = (call_ends _ _ _ _ _ _ _ (finished_as _ _ _ _ (c.simplify_paths-r.ensures.is ∙ call-fine _ _ _ _ c.threshold_ok.ensures _ c.judge-v.ensures _ _ c.in-Fine.is) c.simplify_paths-r.auto.1.1.1.0 c.simplify_paths-r.auto.1.1.1.1.0 c.finish-in-Fine.ensures)).1 }
+    let args = c.args in
+    let w = call_ends args.path.now args.starts.now args.threshold (places args.out.now) (length args.begins.now) (length args.out.now) (length args.begins.now)
+    (finished_as _ _ _ _ (c.simplify_paths-r.ensures.is ∙ call-fine _ _ _ _ c.threshold_ok.ensures _ c.judge-v.ensures _ _ c.in-Fine.is)
+    c.simplify_paths-r.auto.out c.simplify_paths-r.auto.begins c.finish-in-Fine.ensures) in
+    record { finished = w.0; kept = w.1 }

@@ -1,4 +1,3 @@
-use borrow.Author.Tests.{not-true, not-false}
 use native.Mathlib.Omega.{arith}
 use mathlib.Core.Path.{refl}
 use Rattle.path_rdp.proofs.Scanning.{peak-low}
@@ -20,12 +19,12 @@ settled-f-requires c =
 
 pub returns-then-not-f-threshold : goal.returns-then-not-f-threshold
 returns-then-not-f-threshold c =
-    let args = c.args in let pre = c.requires in split-not args.threshold args.path.now args.a args.b pre.1 c.if-b-a-lt2.false _ c.settled-f.ensures (not-true _ c.if-not-f-threshold.true)
+    let args = c.args in let pre = c.requires in split-not args.threshold args.path.now args.a args.b pre.1 c.if-b-a-lt2.false _ c.settled-f.ensures c.if-not-f-threshold.true
 
 pub overflow_add-result : goal.overflow_add-result
 overflow_add-result c =
-    let args = c.args in let pre = c.requires in omega (arith, c.well_formed.0.0, pre.1, split-inside args.threshold args.path.now args.a args.b pre.1 c.if-b-a-lt2.false _ c.settled-f.ensures pre.2 (not-false _ c.if-not-f-threshold.false))
+    let args = c.args in let pre = c.requires in omega (arith, c.well_formed.0.0, pre.1, split-inside args.threshold args.path.now args.a args.b pre.1 c.if-b-a-lt2.false _ c.settled-f.ensures pre.2 c.if-not-f-threshold.false)
 
 pub returns : goal.returns
 returns c =
-    let args = c.args in let pre = c.requires in split_at args.threshold args.path.now args.a args.b pre.1 c.if-b-a-lt2.false _ c.settled-f.ensures (not-false _ c.if-not-f-threshold.false)
+    let args = c.args in let pre = c.requires in split_at args.threshold args.path.now args.a args.b pre.1 c.if-b-a-lt2.false _ c.settled-f.ensures c.if-not-f-threshold.false

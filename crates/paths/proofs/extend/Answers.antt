@@ -10,7 +10,7 @@ loop-i-init c =
 
 pub shape_of-out-in-Refused : goal.shape_of-out-in-Refused
 shape_of-out-in-Refused c =
-    c.push-r.auto.0 ∙ c.loop-i.invariant.same
+    c.push-r.auto.out ∙ c.loop-i.invariant.same
 
 pub returns-in-Refused : goal.returns-in-Refused
 returns-in-Refused c =
@@ -18,7 +18,7 @@ returns-in-Refused c =
 
 pub loop-i-preserved : goal.loop-i-preserved
 loop-i-preserved c =
-    extending-turn _ _ _ _ _ _ _ _ c.loop-i.invariant _ c.loop-i-test.true c.read_point-p.ensures _ c.push-r.ensures c.push-r.auto.0 c.in-At.is
+    extending-turn _ _ _ _ _ _ _ _ c.loop-i.invariant _ c.loop-i-test.true c.read_point-p.ensures _ c.push-r.ensures c.push-r.auto.out c.in-At.is
 
 pub shape_of-out : goal.shape_of-out
 shape_of-out c =

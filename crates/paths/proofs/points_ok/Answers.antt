@@ -1,4 +1,3 @@
-use borrow.Author.Tests.{not-true, not-false}
 use Rattle.paths.proofs.Judging.{Checking, checking-start, checking-turn, checking-bad, checking-end}
 use Prim.Native.Nat.{◌-◌}
 use borrow.Author.Rules.{rules}
@@ -10,11 +9,11 @@ loop-i-init c =
 
 pub returns-then-not-within_point : goal.returns-then-not-within_point
 returns-then-not-within_point c =
-    checking-bad _ _ c.loop-i.invariant c.loop-i-test.true _ _ c.read_point-p.ensures c.within_point.ensures (not-true _ c.if-not-within_point.true)
+    checking-bad _ _ c.loop-i.invariant c.loop-i-test.true _ _ c.read_point-p.ensures c.within_point.ensures c.if-not-within_point.true
 
 pub loop-i-preserved : goal.loop-i-preserved
 loop-i-preserved c =
-    checking-turn _ _ c.loop-i.invariant c.loop-i-test.true _ _ c.read_point-p.ensures c.within_point.ensures (not-false _ c.if-not-within_point.false)
+    checking-turn _ _ c.loop-i.invariant c.loop-i-test.true _ _ c.read_point-p.ensures c.within_point.ensures c.if-not-within_point.false
 
 pub returns : goal.returns
 returns c =

@@ -11,11 +11,11 @@ loop-i-init c =
 
 pub returns-then-not-is_finite : goal.returns-then-not-is_finite
 returns-then-not-is_finite c =
-    looking-bad _ _ c.loop-i.invariant c.loop-i-test.true _ c.is_finite.ensures (not-true _ c.if-not-is_finite.true)
+    looking-bad _ _ c.loop-i.invariant c.loop-i-test.true _ c.is_finite.ensures c.if-not-is_finite.true
 
 pub loop-i-preserved : goal.loop-i-preserved
 loop-i-preserved c =
-    looking-turn _ _ c.loop-i.invariant c.loop-i-test.true _ c.is_finite.ensures (not-false _ c.if-not-is_finite.false)
+    looking-turn _ _ c.loop-i.invariant c.loop-i-test.true _ c.is_finite.ensures c.if-not-is_finite.false
 
 pub returns : goal.returns
 returns c =

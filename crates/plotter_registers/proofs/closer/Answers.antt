@@ -1,5 +1,4 @@
 use Rattle.plotter_registers.specs.Plotter as Plotter
-use borrow.Author.Rules.{rules}
 use Rattle.plotter_registers.proofs.closer.Goals as goal
 
 pub returns : goal.returns

@@ -1,6 +1,5 @@
 use Rattle.plotter_registers.specs.Plotter as Plotter
 use borrow.Author.Tests.{lt-ltb, le-ltb}
-use borrow.Author.Rules.{rules}
 use Rattle.plotter_registers.proofs.toward.Goals as goal
 
 pub returns-then-at-to : goal.returns-then-at-to

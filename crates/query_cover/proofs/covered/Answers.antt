@@ -8,7 +8,7 @@ use Rattle.query_cover.proofs.covered.Goals as goal
 
 pub returns-then-not-within_point : goal.returns-then-not-within_point
 returns-then-not-within_point c =
-    eye-refused _ _ (sym c.check-v.ensures.verdict ∙ c.in-Accepted.is) _ _ _ _ c.within_point.ensures (not-true _ c.if-not-within_point.true) _
+    eye-refused _ _ (sym c.check-v.ensures.verdict ∙ c.in-Accepted.is) _ _ _ _ c.within_point.ensures c.if-not-within_point.true _
 
 pub returns-in-Refused : goal.returns-in-Refused
 returns-in-Refused c =
@@ -16,4 +16,4 @@ returns-in-Refused c =
 
 pub returns-else-not-within_point : goal.returns-else-not-within_point
 returns-else-not-within_point c =
-    c.sight.ensures ∙ covered-is _ _ (sym c.check-v.ensures.verdict ∙ c.in-Accepted.is) _ _ _ _ c.within_point.ensures (not-false _ c.if-not-within_point.false) _ _ (left_is zero_f _ c.in-Accepted.is _ _ c.check-v.ensures.inverses_are) _
+    c.sight.ensures ∙ covered-is _ _ (sym c.check-v.ensures.verdict ∙ c.in-Accepted.is) _ _ _ _ c.within_point.ensures c.if-not-within_point.false _ _ (left_is zero_f _ c.in-Accepted.is _ _ c.check-v.ensures.inverses_are) _

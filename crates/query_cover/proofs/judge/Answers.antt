@@ -9,11 +9,11 @@ returns-then-n-size c =
 
 pub returns-then-not-ok : goal.returns-then-not-ok
 returns-then-not-ok c =
-    judge-view _ _ _ _ c.if-n-size.false _ c.in-Accepted.is (not-true _ c.if-not-ok.true)
+    judge-view _ _ _ _ c.if-n-size.false _ c.in-Accepted.is c.if-not-ok.true
 
 pub returns-then-room-n : goal.returns-then-room-n
 returns-then-room-n c =
-    judge-room _ _ _ _ c.if-n-size.false _ c.in-Accepted.is (not-false _ c.if-not-ok.false) c.if-room-n.true
+    judge-room _ _ _ _ c.if-n-size.false _ c.in-Accepted.is c.if-not-ok.false c.if-room-n.true
 
 pub returns-in-Refused : goal.returns-in-Refused
 returns-in-Refused c =
@@ -21,4 +21,4 @@ returns-in-Refused c =
 
 pub returns-else-room-n : goal.returns-else-room-n
 returns-else-room-n c =
-    judge-answered _ _ _ _ c.if-n-size.false _ c.in-Accepted.is (not-false _ c.if-not-ok.false) c.if-room-n.false
+    judge-answered _ _ _ _ c.if-n-size.false _ c.in-Accepted.is c.if-not-ok.false c.if-room-n.false

@@ -14,7 +14,7 @@ fill-requires c =
 pub returns-in-Refused : goal.returns-in-Refused
 unfolding sizes_of
 returns-in-Refused c =
-    let args = c.args in merges-refused _ _ _ c.judged-r.ensures c.in-Refused.is (cleared zero_f args.out-numbers.now refl c.clear.ensures) (cleared 0 args.out-marks.now refl c.clear_marks.ensures) (cleared zero_f args.out-points.now refl c.clear-in-Refused.ensures) (cleared 0 args.out-starts.now refl c.clear_starts.ensures) (cleared 0 args.out-owners.now refl c.clear_marks-in-Refused.ensures)
+    let args = c.args in merges-refused _ _ _ c.judged-r.ensures c.in-Refused.is (cleared zero_f args.out_numbers.now refl c.clear.ensures) (cleared 0 args.out_marks.now refl c.clear_marks.ensures) (cleared zero_f args.out_points.now refl c.clear-in-Refused.ensures) (cleared 0 args.out_starts.now refl c.clear_starts.ensures) (cleared 0 args.out_owners.now refl c.clear_marks-in-Refused.ensures)
 
 pub returns-in-Into : goal.returns-in-Into
 unfolding sizes_of

@@ -1,7 +1,5 @@
-use Rattle.query_scene.proofs.Copies.{Copied, copied-start, copied-turn, copied-end}
+use Rattle.query_scene.proofs.Copies.{copied-start, copied-turn, copied-end}
 use native.Mathlib.Omega.{arith}
-use Prim.Native.Nat.{◌-◌}
-use borrow.Author.Rules.{rules}
 use Rattle.query_scene.proofs.copy.Goals as goal
 
 pub loop-i-init : goal.loop-i-init

@@ -1,7 +1,5 @@
-use Rattle.query_scene.proofs.Copies.{Copied, copied-start, copied-turn, copied-end}
-use native.Mathlib.Omega.{arith}
+use Rattle.query_scene.proofs.Copies.{Copied}
 use Prim.Native.Nat.{◌-◌}
-use borrow.Author.Rules.{rules}
 use Rattle.query_scene.proofs.copy.Given as goal
 
 abbrev pub invariant-loop-i : goal.invariant-loop-i

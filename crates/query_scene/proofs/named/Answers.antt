@@ -1,4 +1,3 @@
-use borrow.Author.Rules.{rules}
 use Rattle.query_scene.specs.Queries.{hider_by}
 use Rattle.query_scene.proofs.Names.{named-clear, named-hidden}
 use Rattle.query_scene.proofs.named.Goals as goal

@@ -1,18 +1,16 @@
 use Rattle.query_scene.proofs.Answers.{occluder-refused, eye-unnamed, point-unnamed, occluder-is}
 use Rattle.check_scene.proofs.Accepted.{left_is}
 use Rattle.floats.specs.Arith.{zero_f}
-use borrow.Author.Tests.{not-true, not-false}
 use mathlib.Core.Path.{sym, ◌∙◌}
-use borrow.Author.Rules.{rules}
 use Rattle.query_scene.proofs.occluder.Goals as goal
 
 pub returns-then-not-within_point : goal.returns-then-not-within_point
 returns-then-not-within_point c =
-    eye-unnamed _ _ (sym c.check-v.ensures.verdict ∙ c.in-Accepted.is) _ _ _ _ _ c.within_point.ensures (not-true _ c.if-not-within_point.true)
+    eye-unnamed _ _ (sym c.check-v.ensures.verdict ∙ c.in-Accepted.is) _ _ _ _ _ c.within_point.ensures c.if-not-within_point.true
 
 pub returns-then-not-within_point-2 : goal.returns-then-not-within_point-2
 returns-then-not-within_point-2 c =
-    point-unnamed _ _ (sym c.check-v.ensures.verdict ∙ c.in-Accepted.is) _ _ _ _ _ c.within_point.ensures (not-false _ c.if-not-within_point.false) c.within_point-in-Accepted.ensures (not-true _ c.if-not-within_point-2.true)
+    point-unnamed _ _ (sym c.check-v.ensures.verdict ∙ c.in-Accepted.is) _ _ _ _ _ c.within_point.ensures c.if-not-within_point.false c.within_point-in-Accepted.ensures c.if-not-within_point-2.true
 
 pub returns-in-Refused : goal.returns-in-Refused
 returns-in-Refused c =
@@ -20,4 +18,4 @@ returns-in-Refused c =
 
 pub returns-else-not-within_point-2 : goal.returns-else-not-within_point-2
 returns-else-not-within_point-2 c =
-    occluder-is _ _ (sym c.check-v.ensures.verdict ∙ c.in-Accepted.is) _ _ (left_is zero_f _ c.in-Accepted.is _ _ c.check-v.ensures.inverses_are) _ _ _ _ _ c.within_point.ensures (not-false _ c.if-not-within_point.false) c.within_point-in-Accepted.ensures (not-false _ c.if-not-within_point-2.false) c.hider.ensures
+    occluder-is _ _ (sym c.check-v.ensures.verdict ∙ c.in-Accepted.is) _ _ (left_is zero_f _ c.in-Accepted.is _ _ c.check-v.ensures.inverses_are) _ _ _ _ _ c.within_point.ensures c.if-not-within_point.false c.within_point-in-Accepted.ensures c.if-not-within_point-2.false c.hider.ensures

@@ -5,12 +5,11 @@ use lib.Seq.{length-take-le}
 use lib.ListN.{length, take}
 use native.Mathlib.Omega.{arith}
 use mathlib.Core.Path.{ap, sym}
-use borrow.Author.Rules.{rules}
 use Rattle.query_scene.proofs.plant.Goals as goal
 
 pub returns-then-order-n : goal.returns-then-order-n
 returns-then-order-n c =
-    let args = c.args in let pre = c.requires in crowded (box_at args.boxes.now) (take args.n args.listed.now) (places_of args.node-boxes.now args.node-marks.now) (length args.node-boxes.now) (length args.node-marks.now) (length args.order.now) (omega (arith, c.if-order-n.true, length-take-le args.n args.listed.now pre.0)) c.clear_all.ensures.node_boxes_after c.clear_all.ensures.node_marks_after.0 c.clear_all.ensures.node_marks_after.1
+    let args = c.args in let pre = c.requires in crowded (box_at args.boxes.now) (take args.n args.listed.now) (places_of args.node_boxes.now args.node_marks.now) (length args.node_boxes.now) (length args.node_marks.now) (length args.order.now) (omega (arith, c.if-order-n.true, length-take-le args.n args.listed.now pre.0)) c.clear_all.ensures.node_boxes_after c.clear_all.ensures.node_marks_after c.clear_all.ensures.order_after
 
 pub copy-requires : goal.copy-requires
 copy-requires c =
@@ -18,12 +17,12 @@ copy-requires c =
 
 pub build_tree-o-requires : goal.build_tree-o-requires
 build_tree-o-requires c =
-    let pre = c.requires in (omega (arith, c.if-order-n.false, c.copy.auto.1.1.0), pre.1.0, rw c.copy.ensures pre.1.1)
+    let pre = c.requires in (omega (arith, c.if-order-n.false, c.copy.auto.to), pre.1.0, rw c.copy.ensures pre.1.1)
 
 pub returns-in-Upto : goal.returns-in-Upto
 returns-in-Upto c =
-    let args = c.args in let pre = c.requires in planted-from (box_at args.boxes.now) (take args.n args.listed.now) (places_of args.node-boxes.now args.node-marks.now) (length args.node-boxes.now) (length args.node-marks.now) (length args.order.now) c.copy.ensures c.copy.auto.1.1.0 (omega (arith, c.if-order-n.false, length-take-le args.n args.listed.now pre.0)) c.build_tree-o.ensures (sym (ap built_of c.in-Upto.is))
+    let args = c.args in let pre = c.requires in planted-from (box_at args.boxes.now) (take args.n args.listed.now) (places_of args.node_boxes.now args.node_marks.now) (length args.node_boxes.now) (length args.node_marks.now) (length args.order.now) c.copy.ensures c.copy.auto.to (omega (arith, c.if-order-n.false, length-take-le args.n args.listed.now pre.0)) c.build_tree-o.ensures (sym (ap built_of c.in-Upto.is))
 
 pub returns-in-Full : goal.returns-in-Full
 returns-in-Full c =
-    let args = c.args in let pre = c.requires in planted-from (box_at args.boxes.now) (take args.n args.listed.now) (places_of args.node-boxes.now args.node-marks.now) (length args.node-boxes.now) (length args.node-marks.now) (length args.order.now) c.copy.ensures c.copy.auto.1.1.0 (omega (arith, c.if-order-n.false, length-take-le args.n args.listed.now pre.0)) c.build_tree-o.ensures (sym (ap built_of c.in-Full.is))
+    let args = c.args in let pre = c.requires in planted-from (box_at args.boxes.now) (take args.n args.listed.now) (places_of args.node_boxes.now args.node_marks.now) (length args.node_boxes.now) (length args.node_marks.now) (length args.order.now) c.copy.ensures c.copy.auto.to (omega (arith, c.if-order-n.false, length-take-le args.n args.listed.now pre.0)) c.build_tree-o.ensures (sym (ap built_of c.in-Full.is))

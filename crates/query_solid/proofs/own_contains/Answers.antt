@@ -1,5 +1,4 @@
 use Rattle.query_solid.proofs.Own.{contains-is, contains-refused}
-use borrow.Author.Rules.{rules}
 use Rattle.query_solid.proofs.own_contains.Goals as goal
 
 pub returns-in-Refused : goal.returns-in-Refused

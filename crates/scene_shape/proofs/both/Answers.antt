@@ -1,4 +1,3 @@
-use borrow.Author.Rules.{rules}
 use Rattle.scene_shape.specs.Cuts.{both}
 use Rattle.scene_shape.proofs.both.Goals as goal
 

@@ -1,4 +1,3 @@
-use borrow.Author.Rules.{rules}
 use Rattle.scene_shape.proofs.by_fields.Goals as goal
 
 pub returns-in-At : goal.returns-in-At

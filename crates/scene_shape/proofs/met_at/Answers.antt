@@ -1,5 +1,4 @@
 use Rattle.scene_shape.specs.Meetings.{meeting_of}
-use borrow.Author.Rules.{rules}
 use Rattle.scene_shape.proofs.met_at.Goals as goal
 
 pub returns-in-Placed : goal.returns-in-Placed

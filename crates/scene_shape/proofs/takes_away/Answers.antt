@@ -1,4 +1,3 @@
-use borrow.Author.Rules.{rules}
 use Rattle.scene_shape.specs.Cuts.{takes_away}
 use Rattle.scene_shape.proofs.takes_away.Goals as goal
 

@@ -1,4 +1,3 @@
-use borrow.Author.Rules.{rules}
 use mathlib.Core.Path.{◌∙◌}
 use Rattle.scene_shape.specs.Cuts.{tell_of}
 use Rattle.scene_shape.proofs.tell_of.Goals as goal

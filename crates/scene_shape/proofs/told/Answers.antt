@@ -1,7 +1,6 @@
 use Rattle.scene_shape.proofs.Shapes.{told-refused}
 use Rattle.scene_shape.specs.Meetings.{told_by}
 use Rattle.scene_shape.specs.Cuts.{rescaled}
-use borrow.Author.Rules.{rules}
 use Rattle.scene_shape.proofs.told.Goals as goal
 
 pub returns-in-Refused : goal.returns-in-Refused

@@ -1,5 +1,5 @@
-use Rattle.std.proofs.Common.{◌-◌, ◌^◌, ◌<◌, ⊎_elim, lt_of_lt_of_le, arith, pow_mono}
-use Rattle.sqrt.proofs.Squares.{Turn, turn-0, turn-1, turns-end}
+use Rattle.std.proofs.Common.{◌-◌}
+use Rattle.sqrt.proofs.Squares.{Turn}
 use Rattle.sqrt.proofs.digits.Given as goal
 
 abbrev pub invariant-loop-i : goal.invariant-loop-i

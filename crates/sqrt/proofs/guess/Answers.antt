@@ -1,4 +1,4 @@
-use Rattle.std.proofs.Common.{◌-◌, ◌/◌, arith, rules}
+use Rattle.std.proofs.Common.{◌-◌, ◌/◌, arith}
 use Rattle.floats.proofs.Patterns.{no-nan-bits}
 use Rattle.sqrt.proofs.guess.Goals as goal
 

@@ -3,12 +3,13 @@ use lib.Ieee.{binary64, fits}
 use lib.Ieee.Fits.{mul-fits}
 use Rattle.sqrt.proofs.BySquares.{at-most-below, at-most-above}
 use Rattle.sqrt.proofs.root_at_most.Goals as goal
+use Rattle.sqrt.proofs.root_at_most.Goals.{Start}
 
 -- what owning an `f64` tells: the format holds it
-held_x : (c : goal.Start) → T (fits binary64 c.args.x)
+held_x : (c : Start) → T (fits binary64 c.args.x)
 held_x c = subst T (sym c.well_formed.0.1) tt
 
-held-l : (c : goal.Start) → T (fits binary64 c.args.l)
+held-l : (c : Start) → T (fits binary64 c.args.l)
 held-l c = subst T (sym c.well_formed.1.0.1) tt
 
 pub returns-then-x-l : goal.returns-then-x-l

@@ -1,8 +1,9 @@
-use Rattle.std.proofs.Common.{◌-◌, arith, rules}
+use Rattle.std.proofs.Common.{◌-◌, arith}
 use Rattle.sqrt.proofs.Squares.{Parts, parts, off}
 use Rattle.sqrt.proofs.root_of.Goals as goal
+use Rattle.sqrt.proofs.root_of.Goals.{After-guess-r}
 
-known : (c : goal.After-guess-r) → Parts (c.guess-r.result - 1)
+known : (c : After-guess-r) → Parts (c.guess-r.result - 1)
 known c = parts (c.guess-r.result - 1) (omega arith)
 
 pub overflow_mul-a : goal.overflow_mul-a
@@ -20,7 +21,7 @@ overflow_mul-b c =
 pub returns-then-rest-r : goal.returns-then-rest-r
 returns-then-rest-r c =
     record {
-      sum = off c.args.m (c.guess-r.result - 1) c.wrapping_sub_u64-d.result c.wrapping_sub_u64-e.result c.wrapping_sub_u64-rest.result (omega arith) c.wrapping_sub_u64-d.ensures c.if-d-lt1073741824.true c.wrapping_sub_u64-e.ensures c.if-e-lt1073741824.true c.wrapping_sub_u64-rest.ensures c.if-rest-r.true;
+      sum = off c.args.m (c.guess-r.result - 1) c.wrapping_sub_u64-d.result c.wrapping_sub_u64-e.result c.wrapping_sub_u64-rest.result (omega arith) c.wrapping_sub_u64-d.ensures.value c.if-d-lt1073741824.true c.wrapping_sub_u64-e.ensures.value c.if-e-lt1073741824.true c.wrapping_sub_u64-rest.ensures.value c.if-rest-r.true;
       small = c.if-rest-r.true;
     }
 

@@ -1,4 +1,4 @@
-use Rattle.std.proofs.Common.{◌≡◌, ℕ, ◌+◌, ◌*◌, ◌^◌, ◌<◌, ◌≤◌, ℤ, pos, ◌-ℤ◌, sym, ap, ◌∙◌, subst, ⊎_elim, mul-le-mul, arith, w64, SFits, to_z, rules}
+use Rattle.std.proofs.Common.{◌≡◌, ℕ, ◌+◌, ◌*◌, ◌^◌, ◌<◌, ◌≤◌, ℤ, pos, ◌-ℤ◌, sym, ap, ◌∙◌, subst, mul-le-mul, arith, w64, SFits, to_z}
 use mir.ValLaws.{to_z_pos, to_z-of_z}
 use Rattle.sqrt.specs.Root.{nearest_root}
 use Rattle.sqrt.specs.Floor.{LowRoot}
@@ -6,28 +6,38 @@ use Rattle.sqrt.proofs.Squares.{sq-further}
 use Rattle.sqrt.proofs.Roots.{stays, one_up, two_up}
 use Rattle.sqrt.proofs.Rests.{further, fits-difference}
 use Rattle.sqrt.proofs.rounded.Goals as goal
+use Rattle.sqrt.proofs.rounded.Goals.{then-whole-rest, else-whole-rest, then-whole-rest-2, else-whole-rest-2, Joined-whole-rest-2}
 
-module _ (c : goal.Joined-whole-rest-2) where
+module _ (c : Joined-whole-rest-2) where
   abbrev q : ℕ
   q = c.args.p.whole
 
   abbrev rest : ℕ
-  rest = c.before.before.args.p.rest
+  rest = c.args.p.rest
 
   abbrev k : ℕ
-  k = c.if2.k
+  k = c.if-whole-rest-2.k
 
   abbrev taken-off : ℕ
   taken-off = k * (2 * q + k)
 
   nearest : (n : ℕ) → 0 < n → n < 4 ^ 53 → LowRoot n q rest → q + k ≡ nearest_root n
   nearest n p h f =
-      ⊎_elim (λ u. ap (λ (z : ℕ). q + z) u.1 ∙ two_up n q rest p h f u.0.taken)
-      (λ u. ap (λ (z : ℕ). q + z) u.1 ∙ ⊎_elim (λ w. ap (λ (z : ℕ). q + z) w.1 ∙ one_up n q rest p h f w.0.taken u.0.left) (λ w. ap (λ (z : ℕ). q + z) w.1 ∙ stays n q rest p h f w.0.left) c.before.if1.branch)
-      c.if2.branch
+      elim c.if-whole-rest-2.branch [
+        | then-whole-rest-2 u ↦ ap (λ (z : ℕ). q + z) u.k-is ∙ two_up n q rest p h f u.if-whole-rest-2.true
+        | else-whole-rest-2 u ↦ ap (λ (z : ℕ). q + z) u.k-is
+            ∙ elim c.if-whole-rest.branch [
+              | then-whole-rest w ↦ ap (λ (z : ℕ). q + z) w.k-is ∙ one_up n q rest p h f w.if-whole-rest.true u.if-whole-rest-2.false
+              | else-whole-rest w ↦ ap (λ (z : ℕ). q + z) w.k-is ∙ stays n q rest p h f w.if-whole-rest.false
+            ]
+      ]
 
   few : k ≤ 2
-  few = ⊎_elim (λ u. omega (arith, u.1)) (λ u. ⊎_elim (λ w. omega (arith, u.1, w.1)) (λ w. omega (arith, u.1, w.1)) c.before.if1.branch) c.if2.branch
+  few =
+      elim c.if-whole-rest-2.branch [
+        | then-whole-rest-2 u ↦ omega (arith, u.k-is)
+        | else-whole-rest-2 u ↦ elim c.if-whole-rest.branch [ then-whole-rest w ↦ omega (arith, u.k-is, w.k-is) | else-whole-rest w ↦ omega (arith, u.k-is, w.k-is) ]
+      ]
 
   small : taken-off ≤ 2 * (2 ^ 54 + 2)
   small = let l : 2 * q + k ≤ 2 ^ 54 + 2 = omega (arith, few) in mul-le-mul few l

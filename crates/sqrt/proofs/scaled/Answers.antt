@@ -1,5 +1,4 @@
 use Rattle.floats.proofs.Patterns.{equals_itself}
-use Rattle.std.proofs.Common.{rules}
 use Rattle.sqrt.proofs.scaled.Goals as goal
 
 pub float_to_bits-b : goal.float_to_bits-b

@@ -1,14 +1,15 @@
-use Rattle.std.proofs.Common.{◌≡◌, ℕ, ◌+◌, ◌-◌, ◌*◌, ◌/◌, ◌%◌, ◌^◌, ◌<◌, ◌≤◌, false, sym, ap, ◌∙◌, subst, mul_assoc, arith, pow-add, rules}
+use Rattle.std.proofs.Common.{◌≡◌, ℕ, ◌+◌, ◌-◌, ◌*◌, ◌/◌, ◌%◌, ◌^◌, ◌<◌, ◌≤◌, false, sym, ap, ◌∙◌, subst, mul_assoc, arith, pow-add}
 use lib.Count.{count_leading_zeros}
 use lib.Ieee.{binary64, of_bits}
 use lib.Ieee.Exact.{HasValue}
 use Rattle.sqrt.proofs.Values.{Shifted, shifted, times, low_value, field-value}
 use Rattle.sqrt.proofs.unpack.Goals as goal
+use Rattle.sqrt.proofs.unpack.Goals.{Then-e-eq0}
 
-small : (c : goal.Then-e-eq0) → c.args.b < 2 ^ 52
+small : (c : Then-e-eq0) → c.args.b < 2 ^ 52
 small c = let e : c.args.b / 2 ^ 52 ≡ 0 = c.if-e-eq0.true in omega arith
 
-low : (c : goal.Then-e-eq0) → Shifted c.args.b
+low : (c : Then-e-eq0) → Shifted c.args.b
 low c = shifted c.args.b c.requires.0 (small c)
 
 pub overflow_sub-l : goal.overflow_sub-l

@@ -7,14 +7,11 @@ use Rattle.test_words.specs.Words.{signed_word}
 use Rattle.test_leaves.specs.Records.{rooted_right}
 use Rattle.test_leaves.proofs.rooted_right.Goals as goal
 
--- what owning an `i64` tells: 64 bits hold it
-held : (c : goal.Start) → SFits w64 c.args.r.rest
-held c = search rules
-
 pub returns-then-same : goal.returns-then-same
 unfolding rooted_right
 returns-then-same c =
-    let rest = c.signed.ensures ∙ ap signed_word (to_z-of_z w64 c.args.r.rest (held c.before.before.before.before.before.before.before)) in
+    let held : SFits w64 c.args.r.rest = search rules in
+    let rest = c.signed.ensures ∙ ap signed_word (to_z-of_z w64 c.args.r.rest held) in
     simp (← c.word.ensures, ← c.same.ensures, c.if-same.true, ← rest, ← c.is.ensures)
 
 pub returns-else-same : goal.returns-else-same

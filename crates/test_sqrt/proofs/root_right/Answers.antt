@@ -7,14 +7,11 @@ use Rattle.test_words.specs.Words.{signed_word}
 use Rattle.test_sqrt.specs.Records.{root_right}
 use Rattle.test_sqrt.proofs.root_right.Goals as goal
 
--- what owning an `i64` tells: 64 bits hold it
-held : (c : goal.After-struct_told-1) → SFits w64 c.sqrt-r.result.rest
-held c = search rules
-
 pub returns-then-is : goal.returns-then-is
 unfolding root_right
 returns-then-is c =
-    let rest = c.signed-rest.ensures ∙ ap signed_word (to_z-of_z w64 c.sqrt-r.result.rest (held c.before.before.before.before.before)) in
+    let held : SFits w64 c.sqrt-r.result.rest = search rules in
+    let rest = c.signed-rest.ensures ∙ ap signed_word (to_z-of_z w64 c.sqrt-r.result.rest held) in
     simp (← c.float_at.ensures, ← c.sqrt-r.ensures.0, ← c.sqrt-r.ensures.1, ← c.pattern.ensures, ← rest, ← c.is.ensures, c.if-is.true, ← c.is-then-is.ensures)
 
 pub returns-else-is : goal.returns-else-is

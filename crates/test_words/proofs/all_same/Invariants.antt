@@ -1,7 +1,6 @@
 use Prim.Native.Nat.{◌-◌}
 use lib.ListN.{length}
 use borrow.Author.Rules.{rules}
-use borrow.Author.Tests.{not-true, not-false}
 use Rattle.test_words.proofs.Comparing.{Left, left-start, left-turn, left-falls, left_end}
 use Rattle.test_words.proofs.all_same.Given as goal
 

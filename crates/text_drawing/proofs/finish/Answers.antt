@@ -9,7 +9,7 @@ clear-requires-in-At c =
 
 pub shape_of-text-in-Refused : goal.shape_of-text-in-Refused
 shape_of-text-in-Refused c =
-    c.clear.auto.0
+    c.clear.auto.text
 
 pub returns-in-Refused : goal.returns-in-Refused
 returns-in-Refused c =
@@ -17,7 +17,7 @@ returns-in-Refused c =
 
 pub shape_of-text-in-At : goal.shape_of-text-in-At
 shape_of-text-in-At c =
-    c.clear-in-At.auto.0
+    c.clear-in-At.auto.text
 
 pub returns-in-At : goal.returns-in-At
 returns-in-At c =

@@ -22,8 +22,8 @@ put_paths-requires c =
 
 pub shape_of-text : goal.shape_of-text
 shape_of-text c =
-    c.put_paths.auto.0 ∙ c.put_word-e.auto.0 ∙ c.put_decimal-d.auto.0 ∙ c.put_word-c.auto.0
+    c.put_paths.auto.text ∙ c.put_word-e.auto.text ∙ c.put_decimal-d.auto.text ∙ c.put_word-c.auto.text
 
 pub returns : goal.returns
 returns c =
-    drawing-put (within_none _) _ _ c.put_word-c.ensures c.put_word-c.auto.0 c.put_decimal-d.ensures c.put_decimal-d.auto.0 c.put_word-e.ensures c.put_word-e.auto.0 c.put_paths.ensures c.put_paths.auto.0
+    drawing-put (within_none _) _ _ c.put_word-c.ensures c.put_word-c.auto.text c.put_decimal-d.ensures c.put_decimal-d.auto.text c.put_word-e.ensures c.put_word-e.auto.text c.put_paths.ensures c.put_paths.auto.text

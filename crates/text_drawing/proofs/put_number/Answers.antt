@@ -17,8 +17,8 @@ put_hex-requires c =
 
 pub shape_of-text : goal.shape_of-text
 shape_of-text c =
-    c.put_hex.auto.0 ∙ c.put_byte-e.auto.0 ∙ c.put_byte-d.auto.0
+    c.put_hex.auto.text ∙ c.put_byte-e.auto.text ∙ c.put_byte-d.auto.text
 
 pub returns : goal.returns
 returns c =
-    let pre = c.requires in number_put (pre) _ _ _ c.put_byte-d.ensures c.put_byte-d.auto.0 c.put_byte-e.ensures c.put_byte-e.auto.0 c.bits_of.ensures c.put_hex.ensures c.put_hex.auto.0
+    let pre = c.requires in number_put (pre) _ _ _ c.put_byte-d.ensures c.put_byte-d.auto.text c.put_byte-e.ensures c.put_byte-e.auto.text c.bits_of.ensures c.put_hex.ensures c.put_hex.auto.text

@@ -17,8 +17,8 @@ put_word-requires c =
 
 pub shape_of-text : goal.shape_of-text
 shape_of-text c =
-    c.put_word.auto.0 ∙ c.put_points-e.auto.0 ∙ c.put_word-d.auto.0
+    c.put_word.auto.text ∙ c.put_points-e.auto.text ∙ c.put_word-d.auto.text
 
 pub returns : goal.returns
 returns c =
-    let pre = c.requires in path-put pre.0 _ c.put_word-d.ensures c.put_word-d.auto.0 c.put_points-e.ensures c.put_points-e.auto.0 c.put_word.ensures c.put_word.auto.0
+    let pre = c.requires in path-put pre.0 _ c.put_word-d.ensures c.put_word-d.auto.text c.put_points-e.ensures c.put_points-e.auto.text c.put_word.ensures c.put_word.auto.text

@@ -20,7 +20,7 @@ put_path-d-requires c =
 
 pub loop-i-preserved : goal.loop-i-preserved
 loop-i-preserved c =
-    let args = c.args in paths-turn args.path.now args.starts.now _ c.loop-i-test.true c.range_of-p.ensures c.loop-i.invariant c.put_path-d.ensures c.put_path-d.auto.0
+    let args = c.args in paths-turn args.path.now args.starts.now _ c.loop-i-test.true c.range_of-p.ensures c.loop-i.invariant c.put_path-d.ensures c.put_path-d.auto.text
 
 pub shape_of-text : goal.shape_of-text
 shape_of-text c =

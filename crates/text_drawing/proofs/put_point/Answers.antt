@@ -24,8 +24,8 @@ put_byte-requires c =
 
 pub shape_of-text : goal.shape_of-text
 shape_of-text c =
-    c.put_byte.auto.0 ∙ c.put_number-z.auto.0 ∙ c.put_number-y.auto.0 ∙ c.put_number-x.auto.0 ∙ c.put_byte-d.auto.0
+    c.put_byte.auto.text ∙ c.put_number-z.auto.text ∙ c.put_number-y.auto.text ∙ c.put_number-x.auto.text ∙ c.put_byte-d.auto.text
 
 pub returns : goal.returns
 returns c =
-    let pre = c.requires in point-put (pre) _ c.put_byte-d.ensures c.put_byte-d.auto.0 c.put_number-x.ensures c.put_number-x.auto.0 c.put_number-y.ensures c.put_number-y.auto.0 c.put_number-z.ensures c.put_number-z.auto.0 c.put_byte.ensures c.put_byte.auto.0
+    let pre = c.requires in point-put (pre) _ c.put_byte-d.ensures c.put_byte-d.auto.text c.put_number-x.ensures c.put_number-x.auto.text c.put_number-y.ensures c.put_number-y.auto.text c.put_number-z.ensures c.put_number-z.auto.text c.put_byte.ensures c.put_byte.auto.text

@@ -19,7 +19,7 @@ put_point-d-requires c =
 
 pub loop-i-preserved : goal.loop-i-preserved
 loop-i-preserved c =
-    let args = c.args in let pre = c.requires in (omega (arith, c.loop-i-test.true), points-turn args.path.now _ _ pre.2 c.loop-i-test.true c.read_point.ensures c.loop-i.invariant.1 c.put_point-d.ensures c.put_point-d.auto.0)
+    let args = c.args in let pre = c.requires in (omega (arith, c.loop-i-test.true), points-turn args.path.now _ _ pre.2 c.loop-i-test.true c.read_point.ensures c.loop-i.invariant.1 c.put_point-d.ensures c.put_point-d.auto.text)
 
 pub shape_of-text : goal.shape_of-text
 shape_of-text c =

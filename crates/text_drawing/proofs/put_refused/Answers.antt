@@ -18,8 +18,8 @@ put_word-requires c =
 
 pub shape_of-text : goal.shape_of-text
 shape_of-text c =
-    c.put_word.auto.0 ∙ c.put_decimal-d.auto.0 ∙ c.put_word-c.auto.0
+    c.put_word.auto.text ∙ c.put_decimal-d.auto.text ∙ c.put_word-c.auto.text
 
 pub returns : goal.returns
 returns c =
-    refused-put (within_none _) _ c.put_word-c.ensures c.put_word-c.auto.0 c.put_decimal-d.ensures c.put_decimal-d.auto.0 c.put_word.ensures c.put_word.auto.0
+    refused-put (within_none _) _ c.put_word-c.ensures c.put_word-c.auto.text c.put_decimal-d.ensures c.put_decimal-d.auto.text c.put_word.ensures c.put_word.auto.text

@@ -19,7 +19,7 @@ slice_bounds-put_drawing-end-in-Both c =
 
 pub shape_of-text-in-Refused : goal.shape_of-text-in-Refused
 shape_of-text-in-Refused c =
-    c.put_refused.auto.0
+    c.put_refused.auto.text
 
 pub returns-in-Refused : goal.returns-in-Refused
 returns-in-Refused c =
@@ -27,7 +27,7 @@ returns-in-Refused c =
 
 pub shape_of-text-in-Both : goal.shape_of-text-in-Both
 shape_of-text-in-Both c =
-    c.put_drawing.auto.0
+    c.put_drawing.auto.text
 
 pub returns-in-Both : goal.returns-in-Both
 returns-in-Both c =

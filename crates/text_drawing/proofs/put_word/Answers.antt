@@ -14,7 +14,7 @@ put_byte-d-requires c =
 
 pub loop-i-preserved : goal.loop-i-preserved
 loop-i-preserved c =
-    word-turn _ c.loop-i-test.true c.loop-i.invariant c.put_byte-d.ensures c.put_byte-d.auto.0
+    word-turn _ c.loop-i-test.true c.loop-i.invariant c.put_byte-d.ensures c.put_byte-d.auto.text
 
 pub shape_of-text : goal.shape_of-text
 shape_of-text c =

@@ -9,8 +9,8 @@ finish-requires c =
 
 pub shape_of-text : goal.shape_of-text
 shape_of-text c =
-    c.finish.auto.0 ∙ c.put_text-d.auto.0
+    c.finish.auto.text ∙ c.put_text-d.auto.text
 
 pub returns : goal.returns
 returns c =
-    record { answer = all-answered c.put_text-d.ensures c.put_text-d.auto.0 c.finish.ensures.answer c.finish.ensures.lent; lent = all_laid c.put_text-d.ensures c.put_text-d.auto.0 c.finish.ensures.answer c.finish.ensures.lent }
+    record { answer = all-answered c.put_text-d.ensures c.put_text-d.auto.text c.finish.ensures.answer c.finish.ensures.lent; lent = all_laid c.put_text-d.ensures c.put_text-d.auto.text c.finish.ensures.answer c.finish.ensures.lent }

@@ -17,8 +17,8 @@ put_byte-requires c =
 
 pub shape_of-text : goal.shape_of-text
 shape_of-text c =
-    c.put_byte.auto.0 ∙ c.put_numbers-b.auto.0 ∙ c.put_word-a.auto.0
+    c.put_byte.auto.text ∙ c.put_numbers-b.auto.text ∙ c.put_word-a.auto.text
 
 pub returns : goal.returns
 returns c =
-    writes-on _ c.put_word-a.ensures c.put_word-a.auto.0 (writes-on _ c.put_numbers-b.ensures c.put_numbers-b.auto.0 c.put_byte.ensures)
+    writes-on _ c.put_word-a.ensures c.put_word-a.auto.text (writes-on _ c.put_numbers-b.ensures c.put_numbers-b.auto.text c.put_byte.ensures)

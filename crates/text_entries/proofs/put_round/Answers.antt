@@ -26,9 +26,9 @@ put_byte-requires c =
 
 pub shape_of-text : goal.shape_of-text
 shape_of-text c =
-    c.put_byte.auto.0 ∙ c.put_lines-e.auto.0 ∙ c.put_stripes-d.auto.0 ∙ c.put_numbers-b.auto.0 ∙ c.put_round_word-a.auto.0
+    c.put_byte.auto.text ∙ c.put_lines-e.auto.text ∙ c.put_stripes-d.auto.text ∙ c.put_numbers-b.auto.text ∙ c.put_round_word-a.auto.text
 
 pub returns : goal.returns
 unfolding form_text
 returns c =
-    writes-on _ c.put_round_word-a.ensures c.put_round_word-a.auto.0 (writes-on _ c.put_numbers-b.ensures c.put_numbers-b.auto.0 (writes-on _ c.put_stripes-d.ensures c.put_stripes-d.auto.0 (writes-on _ c.put_lines-e.ensures c.put_lines-e.auto.0 c.put_byte.ensures)))
+    writes-on _ c.put_round_word-a.ensures c.put_round_word-a.auto.text (writes-on _ c.put_numbers-b.ensures c.put_numbers-b.auto.text (writes-on _ c.put_stripes-d.ensures c.put_stripes-d.auto.text (writes-on _ c.put_lines-e.ensures c.put_lines-e.auto.text c.put_byte.ensures)))

@@ -9,7 +9,7 @@ put_word-requires c =
 
 pub shape_of-text-then-kind-eq1 : goal.shape_of-text-then-kind-eq1
 shape_of-text-then-kind-eq1 c =
-    c.put_word.auto.0
+    c.put_word.auto.text
 
 pub returns-then-kind-eq1 : goal.returns-then-kind-eq1
 unfolding round_word
@@ -22,7 +22,7 @@ put_word-requires-then-kind-eq2 c =
 
 pub shape_of-text-then-kind-eq2 : goal.shape_of-text-then-kind-eq2
 shape_of-text-then-kind-eq2 c =
-    c.put_word-then-kind-eq2.auto.0
+    c.put_word-then-kind-eq2.auto.text
 
 pub returns-then-kind-eq2 : goal.returns-then-kind-eq2
 unfolding round_word
@@ -35,7 +35,7 @@ put_word-requires-then-kind-eq3 c =
 
 pub shape_of-text-then-kind-eq3 : goal.shape_of-text-then-kind-eq3
 shape_of-text-then-kind-eq3 c =
-    c.put_word-then-kind-eq3.auto.0
+    c.put_word-then-kind-eq3.auto.text
 
 pub returns-then-kind-eq3 : goal.returns-then-kind-eq3
 unfolding round_word
@@ -48,7 +48,7 @@ put_word-requires-then-kind-eq8 c =
 
 pub shape_of-text-then-kind-eq8 : goal.shape_of-text-then-kind-eq8
 shape_of-text-then-kind-eq8 c =
-    c.put_word-then-kind-eq8.auto.0
+    c.put_word-then-kind-eq8.auto.text
 
 pub returns-then-kind-eq8 : goal.returns-then-kind-eq8
 unfolding round_word
@@ -61,7 +61,7 @@ put_word-requires-2 c =
 
 pub shape_of-text : goal.shape_of-text
 shape_of-text c =
-    c.put_word-2.auto.0
+    c.put_word-2.auto.text
 
 pub returns : goal.returns
 unfolding round_word

@@ -18,7 +18,7 @@ put_round-requires c =
 
 pub shape_of-text-then-is_round : goal.shape_of-text-then-is_round
 shape_of-text-then-is_round c =
-    c.put_round.auto.0
+    c.put_round.auto.text
 
 pub returns-then-is_round : goal.returns-then-is_round
 returns-then-is_round c =
@@ -34,7 +34,7 @@ put_cube-requires c =
 
 pub shape_of-text-then-kind-eq4 : goal.shape_of-text-then-kind-eq4
 shape_of-text-then-kind-eq4 c =
-    c.put_cube.auto.0
+    c.put_cube.auto.text
 
 pub returns-then-kind-eq4 : goal.returns-then-kind-eq4
 returns-then-kind-eq4 c =
@@ -50,7 +50,7 @@ put_triangle-requires c =
 
 pub shape_of-text-then-kind-eq5 : goal.shape_of-text-then-kind-eq5
 shape_of-text-then-kind-eq5 c =
-    c.put_triangle.auto.0
+    c.put_triangle.auto.text
 
 pub returns-then-kind-eq5 : goal.returns-then-kind-eq5
 returns-then-kind-eq5 c =

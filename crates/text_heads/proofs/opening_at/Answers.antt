@@ -29,4 +29,4 @@ returns-in_default-t c =
 
 pub returns : goal.returns
 returns c =
-    opening_of _ _ c.kind_at-h.ensures c.in-Count.is c.detail_at-d.ensures c.in-Count-d.is c.measures.ensures.0 _ c.numbers_at-s.ensures.result_after c.in-To.is c.stripes_at-t.ensures c.measures.ensures.1 c.numbers_at-s.auto.1.1.1.0 c.numbers_at-s.ensures.row_unchanged c.in-Count-t.is c.read_numbers-row.ensures
+    opening_of _ _ c.kind_at-h.ensures c.in-Count.is c.detail_at-d.ensures c.in-Count-d.is c.measures.ensures.0 _ c.numbers_at-s.ensures.result_after c.in-To.is c.stripes_at-t.ensures c.measures.ensures.1 c.numbers_at-s.auto.row c.numbers_at-s.ensures.row_unchanged c.in-Count-t.is c.read_numbers-row.ensures

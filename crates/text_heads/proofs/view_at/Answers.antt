@@ -21,8 +21,8 @@ returns-in_default-c c =
 
 pub view_of-requires : goal.view_of-requires
 view_of-requires c =
-    c.numbers_at-s.auto.1.1.1.0
+    c.numbers_at-s.auto.row
 
 pub returns : goal.returns
 returns c =
-    view-seen _ _ c.named_at-h.ensures c.in-To.is _ c.numbers_at-s.ensures.result_after c.in-To-s.is c.close_at-c.ensures c.numbers_at-s.auto.1.1.1.0 c.in-To-c.is c.view_of.ensures
+    view-seen _ _ c.named_at-h.ensures c.in-To.is _ c.numbers_at-s.ensures.result_after c.in-To-s.is c.close_at-c.ensures c.numbers_at-s.auto.row c.in-To-c.is c.view_of.ensures

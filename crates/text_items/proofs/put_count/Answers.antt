@@ -13,8 +13,8 @@ put_decimal-requires c =
 
 pub shape_of-text : goal.shape_of-text
 shape_of-text c =
-    c.put_decimal.auto.0 ∙ c.put_byte-d.auto.0
+    c.put_decimal.auto.text ∙ c.put_byte-d.auto.text
 
 pub returns : goal.returns
 returns c =
-    count-put _ c.put_byte-d.ensures c.put_byte-d.auto.0 c.put_decimal.ensures
+    count-put _ c.put_byte-d.ensures c.put_byte-d.auto.text c.put_decimal.ensures

@@ -42,8 +42,8 @@ put_byte-requires c =
 
 pub shape_of-text : goal.shape_of-text
 shape_of-text c =
-    c.put_byte.auto.0 ∙ c.put_numbers-f.auto.0 ∙ c.put_word-d.auto.0
+    c.put_byte.auto.text ∙ c.put_numbers-f.auto.text ∙ c.put_word-d.auto.text
 
 pub returns : goal.returns
 returns c =
-    let args = c.args in let pre = c.requires in line-put pre.0 _ _ (line-numbers args.points.now args.end pre.2 args.from pre.1) c.put_word-d.ensures c.put_word-d.auto.0 c.put_numbers-f.ensures c.put_numbers-f.auto.0 c.put_byte.ensures c.put_byte.auto.0
+    let args = c.args in let pre = c.requires in line-put pre.0 _ _ (line-numbers args.points.now args.end pre.2 args.from pre.1) c.put_word-d.ensures c.put_word-d.auto.text c.put_numbers-f.ensures c.put_numbers-f.auto.text c.put_byte.ensures c.put_byte.auto.text

@@ -19,7 +19,7 @@ put_own_line-d-requires c =
 
 pub loop-j-preserved : goal.loop-j-preserved
 loop-j-preserved c =
-    let args = c.args in lines-turn args.i (all_points args.points.now) args.starts.now args.owners.now c.loop-j.j c.loop-j-test.true c.loop-j.invariant c.put_own_line-d.ensures c.put_own_line-d.auto.0
+    let args = c.args in lines-turn args.i (all_points args.points.now) args.starts.now args.owners.now c.loop-j.j c.loop-j-test.true c.loop-j.invariant c.put_own_line-d.ensures c.put_own_line-d.auto.text
 
 pub shape_of-text : goal.shape_of-text
 shape_of-text c =

@@ -18,7 +18,7 @@ put_bits-d-requires c =
 
 pub loop-i-preserved : goal.loop-i-preserved
 loop-i-preserved c =
-    let args = c.args in items-turn hex_text nan args.xs.now _ c.loop-i-test.true c.loop-i.invariant c.put_bits-d.ensures c.put_bits-d.auto.0
+    let args = c.args in items-turn hex_text nan args.xs.now _ c.loop-i-test.true c.loop-i.invariant c.put_bits-d.ensures c.put_bits-d.auto.text
 
 pub shape_of-text : goal.shape_of-text
 shape_of-text c =

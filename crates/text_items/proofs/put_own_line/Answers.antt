@@ -25,7 +25,7 @@ put_line-requires c =
 
 pub shape_of-text : goal.shape_of-text
 shape_of-text c =
-    c.put_line.auto.0
+    c.put_line.auto.text
 
 pub returns : goal.returns
 returns c =

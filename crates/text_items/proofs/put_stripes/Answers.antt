@@ -12,7 +12,7 @@ put_count-requires c =
 
 pub shape_of-text : goal.shape_of-text
 shape_of-text c =
-    c.put_count.auto.0
+    c.put_count.auto.text
 
 pub returns : goal.returns
 returns c =

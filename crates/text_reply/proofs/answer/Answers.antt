@@ -12,4 +12,4 @@ returns-in-At c =
 
 pub returns-in-Refused : goal.returns-in-Refused
 returns-in-Refused c =
-    let args = c.args in record { whole = (shown-whole args.text.now (length args.out.now) _ c.reply-r.new.1.0 (shown-none (length args.out.now) c.reply-r.new.1.0 (fitting (length args.out.now) (reply_of args.text.now)) c.reply-r.ensures.answer c.in-Refused.is) c.reply-r.ensures.lent).0; lent = (shown-whole args.text.now (length args.out.now) _ c.reply-r.new.1.0 (shown-none (length args.out.now) c.reply-r.new.1.0 (fitting (length args.out.now) (reply_of args.text.now)) c.reply-r.ensures.answer c.in-Refused.is) c.reply-r.ensures.lent).1; part = (shown-whole args.text.now (length args.out.now) _ c.reply-r.new.1.0 (shown-none (length args.out.now) c.reply-r.new.1.0 (fitting (length args.out.now) (reply_of args.text.now)) c.reply-r.ensures.answer c.in-Refused.is) c.reply-r.ensures.lent).2 }
+    let args = c.args in record { whole = (shown-whole args.text.now (length args.out.now) _ c.reply-r.new.out (shown-none (length args.out.now) c.reply-r.new.out (fitting (length args.out.now) (reply_of args.text.now)) c.reply-r.ensures.answer c.in-Refused.is) c.reply-r.ensures.lent).0; lent = (shown-whole args.text.now (length args.out.now) _ c.reply-r.new.out (shown-none (length args.out.now) c.reply-r.new.out (fitting (length args.out.now) (reply_of args.text.now)) c.reply-r.ensures.answer c.in-Refused.is) c.reply-r.ensures.lent).1; part = (shown-whole args.text.now (length args.out.now) _ c.reply-r.new.out (shown-none (length args.out.now) c.reply-r.new.out (fitting (length args.out.now) (reply_of args.text.now)) c.reply-r.ensures.answer c.in-Refused.is) c.reply-r.ensures.lent).2 }

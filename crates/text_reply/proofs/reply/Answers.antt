@@ -62,8 +62,8 @@ slice_bounds-drawn-end-in-Scene-4 c =
 
 pub returns-in-Refused : goal.returns-in-Refused
 returns-in-Refused c =
-    let args = c.args in record { answer = (wrote_as (length args.out.now) _ _ (reply-refused args.text.now _ c.read-r.new.1.0 c.read-r.new.1.1.0 c.read-r.new.1.1.1.0 c.read-r.new.1.1.1.1.0 c.read-r.new.1.1.1.1.1.0 c.read-r.ensures.numbers_after.1.1.1.1.1.0 c.in-Refused.is) c.write_refused.ensures).0; lent = (wrote_as (length args.out.now) _ _ (reply-refused args.text.now _ c.read-r.new.1.0 c.read-r.new.1.1.0 c.read-r.new.1.1.1.0 c.read-r.new.1.1.1.1.0 c.read-r.new.1.1.1.1.1.0 c.read-r.ensures.numbers_after.1.1.1.1.1.0 c.in-Refused.is) c.write_refused.ensures).1 }
+    let args = c.args in record { answer = (wrote_as (length args.out.now) _ _ (reply-refused args.text.now _ c.read-r.new.numbers c.read-r.new.marks c.read-r.new.points c.read-r.new.starts c.read-r.new.owners c.read-r.ensures.numbers_after.1.1.1.1.1.0 c.in-Refused.is) c.write_refused.ensures).0; lent = (wrote_as (length args.out.now) _ _ (reply-refused args.text.now _ c.read-r.new.numbers c.read-r.new.marks c.read-r.new.points c.read-r.new.starts c.read-r.new.owners c.read-r.ensures.numbers_after.1.1.1.1.1.0 c.in-Refused.is) c.write_refused.ensures).1 }
 
 pub returns-in-Scene : goal.returns-in-Scene
 returns-in-Scene c =
-    let args = c.args in record { answer = (wrote_as (length args.out.now) _ _ (reply-drawn args.text.now _ c.read-r.new.1.0 c.read-r.new.1.1.0 c.read-r.new.1.1.1.0 c.read-r.new.1.1.1.1.0 c.read-r.new.1.1.1.1.1.0 c.read-r.ensures.numbers_after.1.1.1.1.1.0 _ _ _ _ c.in-Scene.is) c.drawn.ensures).0; lent = (wrote_as (length args.out.now) _ _ (reply-drawn args.text.now _ c.read-r.new.1.0 c.read-r.new.1.1.0 c.read-r.new.1.1.1.0 c.read-r.new.1.1.1.1.0 c.read-r.new.1.1.1.1.1.0 c.read-r.ensures.numbers_after.1.1.1.1.1.0 _ _ _ _ c.in-Scene.is) c.drawn.ensures).1 }
+    let args = c.args in record { answer = (wrote_as (length args.out.now) _ _ (reply-drawn args.text.now _ c.read-r.new.numbers c.read-r.new.marks c.read-r.new.points c.read-r.new.starts c.read-r.new.owners c.read-r.ensures.numbers_after.1.1.1.1.1.0 _ _ _ _ c.in-Scene.is) c.drawn.ensures).0; lent = (wrote_as (length args.out.now) _ _ (reply-drawn args.text.now _ c.read-r.new.numbers c.read-r.new.marks c.read-r.new.points c.read-r.new.starts c.read-r.new.owners c.read-r.ensures.numbers_after.1.1.1.1.1.0 _ _ _ _ c.in-Scene.is) c.drawn.ensures).1 }

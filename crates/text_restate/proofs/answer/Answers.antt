@@ -11,4 +11,4 @@ returns-in-At c =
 
 pub returns-in-Refused : goal.returns-in-Refused
 returns-in-Refused c =
-    let args = c.args in record { lent = c.restate-r.ensures.lent; part = shown-none (length args.out.now) c.restate-r.new.1.0 (fitting (length args.out.now) (restate_of (length args.out.now) args.text.now)) c.restate-r.ensures.answer c.in-Refused.is }
+    let args = c.args in record { lent = c.restate-r.ensures.lent; part = shown-none (length args.out.now) c.restate-r.new.out (fitting (length args.out.now) (restate_of (length args.out.now) args.text.now)) c.restate-r.ensures.answer c.in-Refused.is }

@@ -7,7 +7,7 @@ use Rattle.text_restate.proofs.restated.Goals as goal
 
 pub shape_of-out-in-At : goal.shape_of-out-in-At
 shape_of-out-in-At c =
-    c.write-c.auto.1.1.1.1.1.1.0
+    c.write-c.auto.text
 
 pub returns-in-At : goal.returns-in-At
 returns-in-At c =
@@ -15,8 +15,8 @@ returns-in-At c =
 
 pub shape_of-out-in-Refused : goal.shape_of-out-in-Refused
 shape_of-out-in-Refused c =
-    c.write_refused.auto.1.0 ∙ c.write-c.auto.1.1.1.1.1.1.0
+    c.write_refused.auto.text ∙ c.write-c.auto.text
 
 pub returns-in-Refused : goal.returns-in-Refused
 returns-in-Refused c =
-    let args = c.args in record { answer = (wrote-there c.write-c.auto.1.1.1.1.1.1.0 (number_put (scene_of args.numbers.now args.marks.now args.points.now args.starts.now args.owners.now) args.view (length args.out.now) c.write-c.ensures.answer c.in-Refused.is c.number.ensures) c.write_refused.ensures).0; lent = (wrote-there c.write-c.auto.1.1.1.1.1.1.0 (number_put (scene_of args.numbers.now args.marks.now args.points.now args.starts.now args.owners.now) args.view (length args.out.now) c.write-c.ensures.answer c.in-Refused.is c.number.ensures) c.write_refused.ensures).1 }
+    let args = c.args in record { answer = (wrote-there c.write-c.auto.text (number_put (scene_of args.numbers.now args.marks.now args.points.now args.starts.now args.owners.now) args.view (length args.out.now) c.write-c.ensures.answer c.in-Refused.is c.number.ensures) c.write_refused.ensures).0; lent = (wrote-there c.write-c.auto.text (number_put (scene_of args.numbers.now args.marks.now args.points.now args.starts.now args.owners.now) args.view (length args.out.now) c.write-c.ensures.answer c.in-Refused.is c.number.ensures) c.write_refused.ensures).1 }

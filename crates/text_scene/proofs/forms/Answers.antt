@@ -1,7 +1,6 @@
 use Rattle.text_scene.proofs.Texts.{Formed, formed-start, formed-end, formed-no, formed-more, formed-turn, line-lies}
 use Rattle.text_forms.proofs.Forms.{within-next, sized-kept}
 use Rattle.text_heads.specs.Cursors.{WithinNext}
-use borrow.Author.Tests.{not-true, not-false}
 use lib.ListN.{length}
 use native.Mathlib.Omega.{arith}
 use mathlib.Core.Path.{◌∙◌}
@@ -60,23 +59,23 @@ form-f-requires c =
 
 pub shape_of-numbers-in_default-f : goal.shape_of-numbers-in_default-f
 shape_of-numbers-in_default-f c =
-    c.form-f.auto.1.1.1.0 ∙ c.loop-a.invariant.long-ns
+    c.form-f.auto.numbers ∙ c.loop-a.invariant.long-ns
 
 pub shape_of-marks-in_default-f : goal.shape_of-marks-in_default-f
 shape_of-marks-in_default-f c =
-    c.form-f.auto.1.1.1.1.0 ∙ c.loop-a.invariant.long-ms
+    c.form-f.auto.marks ∙ c.loop-a.invariant.long-ms
 
 pub shape_of-points-in_default-f : goal.shape_of-points-in_default-f
 shape_of-points-in_default-f c =
-    c.form-f.auto.1.1.1.1.1.0 ∙ c.loop-a.invariant.long-ps
+    c.form-f.auto.points ∙ c.loop-a.invariant.long-ps
 
 pub shape_of-starts-in_default-f : goal.shape_of-starts-in_default-f
 shape_of-starts-in_default-f c =
-    c.form-f.auto.1.1.1.1.1.1.0 ∙ c.loop-a.invariant.long-ss
+    c.form-f.auto.starts ∙ c.loop-a.invariant.long-ss
 
 pub shape_of-owners-in_default-f : goal.shape_of-owners-in_default-f
 shape_of-owners-in_default-f c =
-    c.form-f.auto.1.1.1.1.1.1.1.0 ∙ c.loop-a.invariant.long-os
+    c.form-f.auto.owners ∙ c.loop-a.invariant.long-os
 
 pub returns-in_default-f : goal.returns-in_default-f
 unfolding WithinNext
@@ -97,28 +96,28 @@ slice_bounds-is_over-end c =
 
 pub shape_of-numbers-then-not-is_over : goal.shape_of-numbers-then-not-is_over
 shape_of-numbers-then-not-is_over c =
-    c.form-f.auto.1.1.1.0 ∙ c.loop-a.invariant.long-ns
+    c.form-f.auto.numbers ∙ c.loop-a.invariant.long-ns
 
 pub shape_of-marks-then-not-is_over : goal.shape_of-marks-then-not-is_over
 shape_of-marks-then-not-is_over c =
-    c.form-f.auto.1.1.1.1.0 ∙ c.loop-a.invariant.long-ms
+    c.form-f.auto.marks ∙ c.loop-a.invariant.long-ms
 
 pub shape_of-points-then-not-is_over : goal.shape_of-points-then-not-is_over
 shape_of-points-then-not-is_over c =
-    c.form-f.auto.1.1.1.1.1.0 ∙ c.loop-a.invariant.long-ps
+    c.form-f.auto.points ∙ c.loop-a.invariant.long-ps
 
 pub shape_of-starts-then-not-is_over : goal.shape_of-starts-then-not-is_over
 shape_of-starts-then-not-is_over c =
-    c.form-f.auto.1.1.1.1.1.1.0 ∙ c.loop-a.invariant.long-ss
+    c.form-f.auto.starts ∙ c.loop-a.invariant.long-ss
 
 pub shape_of-owners-then-not-is_over : goal.shape_of-owners-then-not-is_over
 shape_of-owners-then-not-is_over c =
-    c.form-f.auto.1.1.1.1.1.1.1.0 ∙ c.loop-a.invariant.long-os
+    c.form-f.auto.owners ∙ c.loop-a.invariant.long-os
 
 pub returns-then-not-is_over : goal.returns-then-not-is_over
 unfolding WithinNext
 returns-then-not-is_over c =
-    record { owners_after = formed-more _ _ _ _ _ _ _ _ _ _ _ _ _ _ c.loop-a.invariant c.next_line-l.ensures.at_value c.in-At.is _ _ _ _ _ c.form-f.result c.form-f.ensures.owners_after c.in-To.is c.is_over.ensures (not-true _ c.if-not-is_over.true); within_next = tt }
+    record { owners_after = formed-more _ _ _ _ _ _ _ _ _ _ _ _ _ _ c.loop-a.invariant c.next_line-l.ensures.at_value c.in-At.is _ _ _ _ _ c.form-f.result c.form-f.ensures.owners_after c.in-To.is c.is_over.ensures c.if-not-is_over.true; within_next = tt }
 
 pub overflow_add-i : goal.overflow_add-i
 overflow_add-i c =
@@ -130,4 +129,4 @@ loop-a-smaller c =
 
 pub loop-a-preserved : goal.loop-a-preserved
 loop-a-preserved c =
-    formed-turn _ _ _ _ _ _ _ _ _ _ _ _ _ _ c.loop-a.invariant c.next_line-l.ensures.at_value c.in-At.is _ _ _ _ _ c.form-f.result c.form-f.ensures.owners_after c.in-To.is c.is_over.ensures (not-false _ c.if-not-is_over.false) (within-next c.form-f.ensures.within_next c.in-To.is) c.form-f.auto.1.1.1.0 c.form-f.auto.1.1.1.1.0 c.form-f.auto.1.1.1.1.1.0 c.form-f.auto.1.1.1.1.1.1.0 c.form-f.auto.1.1.1.1.1.1.1.0
+    formed-turn _ _ _ _ _ _ _ _ _ _ _ _ _ _ c.loop-a.invariant c.next_line-l.ensures.at_value c.in-At.is _ _ _ _ _ c.form-f.result c.form-f.ensures.owners_after c.in-To.is c.is_over.ensures c.if-not-is_over.false (within-next c.form-f.ensures.within_next c.in-To.is) c.form-f.auto.numbers c.form-f.auto.marks c.form-f.auto.points c.form-f.auto.starts c.form-f.auto.owners

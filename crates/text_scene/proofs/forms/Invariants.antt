@@ -1,7 +1,6 @@
 use Rattle.text_scene.proofs.Texts.{Formed, formed-start, formed-end, formed-no, formed-more, formed-turn, line-lies}
 use Rattle.text_forms.proofs.Forms.{within-next, sized-kept}
 use Rattle.text_heads.specs.Cursors.{WithinNext}
-use borrow.Author.Tests.{not-true, not-false}
 use lib.ListN.{length}
 use native.Mathlib.Omega.{arith}
 use mathlib.Core.Path.{◌∙◌}

@@ -1,6 +1,5 @@
 use Rattle.text_scene.proofs.Texts.{Skipped, skipped-start, skipped-turn, skipped-line, skipped-over}
 use Rattle.text_scene.specs.Readings.{LineWithin}
-use borrow.Author.Tests.{not-true, not-false}
 use lib.ListN.{length}
 use native.Mathlib.Omega.{arith}
 use Prim.Native.Nat.{◌+◌, ◌-◌}
@@ -30,7 +29,7 @@ slice_bounds-is_over-end c =
 pub returns-then-not-is_over : goal.returns-then-not-is_over
 unfolding LineWithin
 returns-then-not-is_over c =
-    record { at_value = skipped-line _ _ _ c.loop-a.invariant _ c.line_end-e.ensures.1.1 c.is_over.ensures (not-true _ c.if-not-is_over.true); line_within = (c.loop-a.invariant.from, (c.line_end-e.ensures.0, c.line_end-e.ensures.1.0)) }
+    record { at_value = skipped-line _ _ _ c.loop-a.invariant _ c.line_end-e.ensures.1.1 c.is_over.ensures c.if-not-is_over.true; line_within = (c.loop-a.invariant.from, (c.line_end-e.ensures.0, c.line_end-e.ensures.1.0)) }
 
 pub overflow_add-a : goal.overflow_add-a
 overflow_add-a c =
@@ -42,7 +41,7 @@ loop-a-smaller c =
 
 pub loop-a-preserved : goal.loop-a-preserved
 loop-a-preserved c =
-    skipped-turn _ _ _ c.loop-a.invariant _ c.line_end-e.ensures.1.1 c.is_over.ensures c.line_end-e.ensures.0 (not-false _ c.if-not-is_over.false)
+    skipped-turn _ _ _ c.loop-a.invariant _ c.line_end-e.ensures.1.1 c.is_over.ensures c.line_end-e.ensures.0 c.if-not-is_over.false
 
 pub returns : goal.returns
 unfolding LineWithin

@@ -1,6 +1,5 @@
 use Rattle.text_scene.proofs.Texts.{Skipped, skipped-start, skipped-turn, skipped-line, skipped-over}
 use Rattle.text_scene.specs.Readings.{LineWithin}
-use borrow.Author.Tests.{not-true, not-false}
 use lib.ListN.{length}
 use native.Mathlib.Omega.{arith}
 use Prim.Native.Nat.{◌+◌, ◌-◌}

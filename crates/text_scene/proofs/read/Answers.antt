@@ -39,235 +39,30 @@ clear_marks-requires-in-Scene c =
 pub returns-in-Scene : goal.returns-in-Scene
 unfolding WithinReading
 returns-in-Scene c =
-    let fits = fits-within c.yard-r.result c.yard-r.new.1.0 c.yard-r.new.1.1.0 c.yard-r.new.1.1.1.0 c.yard-r.new.1.1.1.1.0 c.yard-r.new.1.1.1.1.1.0 c.yard-r.ensures.within_reading c.clear-arg-1.given.0.1 c.clear_marks-arg-1.given.0.1 c.clear-arg-in-Scene-1.given.0.1 c.clear_starts-arg-1.given.0.1 c.clear_marks-arg-in-Scene-1.given.0.1 in record {
-      value = ((
-        read_answer _ _ _ _ _ _ _ _ _ _ c.yard-r.ensures.owners_after c.in-Scene.is fits,
-        (
-          read-numbers _ _ _ _ _ _ _ _ _ _ c.yard-r.ensures.owners_after c.in-Scene.is fits _ c.clear-arg-1.given.0.1 c.clear.ensures,
-          (
-            read-marks _ _ _ _ _ _ _ _ _ _ c.yard-r.ensures.owners_after c.in-Scene.is fits _ c.clear_marks-arg-1.given.0.1 c.clear_marks.ensures,
-            (
-              read-points _ _ _ _ _ _ _ _ _ _ c.yard-r.ensures.owners_after c.in-Scene.is fits _ c.clear-arg-in-Scene-1.given.0.1 c.clear-in-Scene.ensures,
-              (
-                read-starts _ _ _ _ _ _ _ _ _ _ c.yard-r.ensures.owners_after c.in-Scene.is fits _ c.clear_starts-arg-1.given.0.1 c.clear_starts.ensures,
-                (
-                  read-owners _ _ _ _ _ _ _ _ _ _ c.yard-r.ensures.owners_after c.in-Scene.is fits _ c.clear_marks-arg-in-Scene-1.given.0.1 c.clear_marks-in-Scene.ensures,
-                  (
-                    read_held _ _ _ _ _ _ _ _ _ _ c.yard-r.ensures.owners_after c.in-Scene.is fits _ _ _ _ _ c.clear.ensures c.clear_marks.ensures c.clear-in-Scene.ensures c.clear_starts.ensures c.clear_marks-in-Scene.ensures,
-                    (
-                      held_fits _ _ _ _ _ _ _ _ _ _ c.yard-r.ensures.owners_after c.in-Scene.is fits _ _ _ _ _ c.clear.auto.0 c.clear_marks.auto.0 c.clear-in-Scene.auto.0 c.clear_starts.auto.0 c.clear_marks-in-Scene.auto.0,
-                      read-within c.yard-r.ensures.within_reading c.in-Scene.is,
-                    ),
-                  ),
-                ),
-              ),
-            ),
-          ),
-        ),
-      )).0;
-      numbers_after = ((
-        read_answer _ _ _ _ _ _ _ _ _ _ c.yard-r.ensures.owners_after c.in-Scene.is fits,
-        (
-          read-numbers _ _ _ _ _ _ _ _ _ _ c.yard-r.ensures.owners_after c.in-Scene.is fits _ c.clear-arg-1.given.0.1 c.clear.ensures,
-          (
-            read-marks _ _ _ _ _ _ _ _ _ _ c.yard-r.ensures.owners_after c.in-Scene.is fits _ c.clear_marks-arg-1.given.0.1 c.clear_marks.ensures,
-            (
-              read-points _ _ _ _ _ _ _ _ _ _ c.yard-r.ensures.owners_after c.in-Scene.is fits _ c.clear-arg-in-Scene-1.given.0.1 c.clear-in-Scene.ensures,
-              (
-                read-starts _ _ _ _ _ _ _ _ _ _ c.yard-r.ensures.owners_after c.in-Scene.is fits _ c.clear_starts-arg-1.given.0.1 c.clear_starts.ensures,
-                (
-                  read-owners _ _ _ _ _ _ _ _ _ _ c.yard-r.ensures.owners_after c.in-Scene.is fits _ c.clear_marks-arg-in-Scene-1.given.0.1 c.clear_marks-in-Scene.ensures,
-                  (
-                    read_held _ _ _ _ _ _ _ _ _ _ c.yard-r.ensures.owners_after c.in-Scene.is fits _ _ _ _ _ c.clear.ensures c.clear_marks.ensures c.clear-in-Scene.ensures c.clear_starts.ensures c.clear_marks-in-Scene.ensures,
-                    (
-                      held_fits _ _ _ _ _ _ _ _ _ _ c.yard-r.ensures.owners_after c.in-Scene.is fits _ _ _ _ _ c.clear.auto.0 c.clear_marks.auto.0 c.clear-in-Scene.auto.0 c.clear_starts.auto.0 c.clear_marks-in-Scene.auto.0,
-                      read-within c.yard-r.ensures.within_reading c.in-Scene.is,
-                    ),
-                  ),
-                ),
-              ),
-            ),
-          ),
-        ),
-      )).1;
-      marks_after = ((
-        read_answer _ _ _ _ _ _ _ _ _ _ c.yard-r.ensures.owners_after c.in-Scene.is fits,
-        (
-          read-numbers _ _ _ _ _ _ _ _ _ _ c.yard-r.ensures.owners_after c.in-Scene.is fits _ c.clear-arg-1.given.0.1 c.clear.ensures,
-          (
-            read-marks _ _ _ _ _ _ _ _ _ _ c.yard-r.ensures.owners_after c.in-Scene.is fits _ c.clear_marks-arg-1.given.0.1 c.clear_marks.ensures,
-            (
-              read-points _ _ _ _ _ _ _ _ _ _ c.yard-r.ensures.owners_after c.in-Scene.is fits _ c.clear-arg-in-Scene-1.given.0.1 c.clear-in-Scene.ensures,
-              (
-                read-starts _ _ _ _ _ _ _ _ _ _ c.yard-r.ensures.owners_after c.in-Scene.is fits _ c.clear_starts-arg-1.given.0.1 c.clear_starts.ensures,
-                (
-                  read-owners _ _ _ _ _ _ _ _ _ _ c.yard-r.ensures.owners_after c.in-Scene.is fits _ c.clear_marks-arg-in-Scene-1.given.0.1 c.clear_marks-in-Scene.ensures,
-                  (
-                    read_held _ _ _ _ _ _ _ _ _ _ c.yard-r.ensures.owners_after c.in-Scene.is fits _ _ _ _ _ c.clear.ensures c.clear_marks.ensures c.clear-in-Scene.ensures c.clear_starts.ensures c.clear_marks-in-Scene.ensures,
-                    (
-                      held_fits _ _ _ _ _ _ _ _ _ _ c.yard-r.ensures.owners_after c.in-Scene.is fits _ _ _ _ _ c.clear.auto.0 c.clear_marks.auto.0 c.clear-in-Scene.auto.0 c.clear_starts.auto.0 c.clear_marks-in-Scene.auto.0,
-                      read-within c.yard-r.ensures.within_reading c.in-Scene.is,
-                    ),
-                  ),
-                ),
-              ),
-            ),
-          ),
-        ),
-      )).2;
-      points_after = ((
-        read_answer _ _ _ _ _ _ _ _ _ _ c.yard-r.ensures.owners_after c.in-Scene.is fits,
-        (
-          read-numbers _ _ _ _ _ _ _ _ _ _ c.yard-r.ensures.owners_after c.in-Scene.is fits _ c.clear-arg-1.given.0.1 c.clear.ensures,
-          (
-            read-marks _ _ _ _ _ _ _ _ _ _ c.yard-r.ensures.owners_after c.in-Scene.is fits _ c.clear_marks-arg-1.given.0.1 c.clear_marks.ensures,
-            (
-              read-points _ _ _ _ _ _ _ _ _ _ c.yard-r.ensures.owners_after c.in-Scene.is fits _ c.clear-arg-in-Scene-1.given.0.1 c.clear-in-Scene.ensures,
-              (
-                read-starts _ _ _ _ _ _ _ _ _ _ c.yard-r.ensures.owners_after c.in-Scene.is fits _ c.clear_starts-arg-1.given.0.1 c.clear_starts.ensures,
-                (
-                  read-owners _ _ _ _ _ _ _ _ _ _ c.yard-r.ensures.owners_after c.in-Scene.is fits _ c.clear_marks-arg-in-Scene-1.given.0.1 c.clear_marks-in-Scene.ensures,
-                  (
-                    read_held _ _ _ _ _ _ _ _ _ _ c.yard-r.ensures.owners_after c.in-Scene.is fits _ _ _ _ _ c.clear.ensures c.clear_marks.ensures c.clear-in-Scene.ensures c.clear_starts.ensures c.clear_marks-in-Scene.ensures,
-                    (
-                      held_fits _ _ _ _ _ _ _ _ _ _ c.yard-r.ensures.owners_after c.in-Scene.is fits _ _ _ _ _ c.clear.auto.0 c.clear_marks.auto.0 c.clear-in-Scene.auto.0 c.clear_starts.auto.0 c.clear_marks-in-Scene.auto.0,
-                      read-within c.yard-r.ensures.within_reading c.in-Scene.is,
-                    ),
-                  ),
-                ),
-              ),
-            ),
-          ),
-        ),
-      )).3;
-      starts_after = ((
-        read_answer _ _ _ _ _ _ _ _ _ _ c.yard-r.ensures.owners_after c.in-Scene.is fits,
-        (
-          read-numbers _ _ _ _ _ _ _ _ _ _ c.yard-r.ensures.owners_after c.in-Scene.is fits _ c.clear-arg-1.given.0.1 c.clear.ensures,
-          (
-            read-marks _ _ _ _ _ _ _ _ _ _ c.yard-r.ensures.owners_after c.in-Scene.is fits _ c.clear_marks-arg-1.given.0.1 c.clear_marks.ensures,
-            (
-              read-points _ _ _ _ _ _ _ _ _ _ c.yard-r.ensures.owners_after c.in-Scene.is fits _ c.clear-arg-in-Scene-1.given.0.1 c.clear-in-Scene.ensures,
-              (
-                read-starts _ _ _ _ _ _ _ _ _ _ c.yard-r.ensures.owners_after c.in-Scene.is fits _ c.clear_starts-arg-1.given.0.1 c.clear_starts.ensures,
-                (
-                  read-owners _ _ _ _ _ _ _ _ _ _ c.yard-r.ensures.owners_after c.in-Scene.is fits _ c.clear_marks-arg-in-Scene-1.given.0.1 c.clear_marks-in-Scene.ensures,
-                  (
-                    read_held _ _ _ _ _ _ _ _ _ _ c.yard-r.ensures.owners_after c.in-Scene.is fits _ _ _ _ _ c.clear.ensures c.clear_marks.ensures c.clear-in-Scene.ensures c.clear_starts.ensures c.clear_marks-in-Scene.ensures,
-                    (
-                      held_fits _ _ _ _ _ _ _ _ _ _ c.yard-r.ensures.owners_after c.in-Scene.is fits _ _ _ _ _ c.clear.auto.0 c.clear_marks.auto.0 c.clear-in-Scene.auto.0 c.clear_starts.auto.0 c.clear_marks-in-Scene.auto.0,
-                      read-within c.yard-r.ensures.within_reading c.in-Scene.is,
-                    ),
-                  ),
-                ),
-              ),
-            ),
-          ),
-        ),
-      )).4;
-      owners_after = ((
-        read_answer _ _ _ _ _ _ _ _ _ _ c.yard-r.ensures.owners_after c.in-Scene.is fits,
-        (
-          read-numbers _ _ _ _ _ _ _ _ _ _ c.yard-r.ensures.owners_after c.in-Scene.is fits _ c.clear-arg-1.given.0.1 c.clear.ensures,
-          (
-            read-marks _ _ _ _ _ _ _ _ _ _ c.yard-r.ensures.owners_after c.in-Scene.is fits _ c.clear_marks-arg-1.given.0.1 c.clear_marks.ensures,
-            (
-              read-points _ _ _ _ _ _ _ _ _ _ c.yard-r.ensures.owners_after c.in-Scene.is fits _ c.clear-arg-in-Scene-1.given.0.1 c.clear-in-Scene.ensures,
-              (
-                read-starts _ _ _ _ _ _ _ _ _ _ c.yard-r.ensures.owners_after c.in-Scene.is fits _ c.clear_starts-arg-1.given.0.1 c.clear_starts.ensures,
-                (
-                  read-owners _ _ _ _ _ _ _ _ _ _ c.yard-r.ensures.owners_after c.in-Scene.is fits _ c.clear_marks-arg-in-Scene-1.given.0.1 c.clear_marks-in-Scene.ensures,
-                  (
-                    read_held _ _ _ _ _ _ _ _ _ _ c.yard-r.ensures.owners_after c.in-Scene.is fits _ _ _ _ _ c.clear.ensures c.clear_marks.ensures c.clear-in-Scene.ensures c.clear_starts.ensures c.clear_marks-in-Scene.ensures,
-                    (
-                      held_fits _ _ _ _ _ _ _ _ _ _ c.yard-r.ensures.owners_after c.in-Scene.is fits _ _ _ _ _ c.clear.auto.0 c.clear_marks.auto.0 c.clear-in-Scene.auto.0 c.clear_starts.auto.0 c.clear_marks-in-Scene.auto.0,
-                      read-within c.yard-r.ensures.within_reading c.in-Scene.is,
-                    ),
-                  ),
-                ),
-              ),
-            ),
-          ),
-        ),
-      )).5;
-      owners_after_2 = ((
-        read_answer _ _ _ _ _ _ _ _ _ _ c.yard-r.ensures.owners_after c.in-Scene.is fits,
-        (
-          read-numbers _ _ _ _ _ _ _ _ _ _ c.yard-r.ensures.owners_after c.in-Scene.is fits _ c.clear-arg-1.given.0.1 c.clear.ensures,
-          (
-            read-marks _ _ _ _ _ _ _ _ _ _ c.yard-r.ensures.owners_after c.in-Scene.is fits _ c.clear_marks-arg-1.given.0.1 c.clear_marks.ensures,
-            (
-              read-points _ _ _ _ _ _ _ _ _ _ c.yard-r.ensures.owners_after c.in-Scene.is fits _ c.clear-arg-in-Scene-1.given.0.1 c.clear-in-Scene.ensures,
-              (
-                read-starts _ _ _ _ _ _ _ _ _ _ c.yard-r.ensures.owners_after c.in-Scene.is fits _ c.clear_starts-arg-1.given.0.1 c.clear_starts.ensures,
-                (
-                  read-owners _ _ _ _ _ _ _ _ _ _ c.yard-r.ensures.owners_after c.in-Scene.is fits _ c.clear_marks-arg-in-Scene-1.given.0.1 c.clear_marks-in-Scene.ensures,
-                  (
-                    read_held _ _ _ _ _ _ _ _ _ _ c.yard-r.ensures.owners_after c.in-Scene.is fits _ _ _ _ _ c.clear.ensures c.clear_marks.ensures c.clear-in-Scene.ensures c.clear_starts.ensures c.clear_marks-in-Scene.ensures,
-                    (
-                      held_fits _ _ _ _ _ _ _ _ _ _ c.yard-r.ensures.owners_after c.in-Scene.is fits _ _ _ _ _ c.clear.auto.0 c.clear_marks.auto.0 c.clear-in-Scene.auto.0 c.clear_starts.auto.0 c.clear_marks-in-Scene.auto.0,
-                      read-within c.yard-r.ensures.within_reading c.in-Scene.is,
-                    ),
-                  ),
-                ),
-              ),
-            ),
-          ),
-        ),
-      )).6;
-      reading_fits = ((
-        read_answer _ _ _ _ _ _ _ _ _ _ c.yard-r.ensures.owners_after c.in-Scene.is fits,
-        (
-          read-numbers _ _ _ _ _ _ _ _ _ _ c.yard-r.ensures.owners_after c.in-Scene.is fits _ c.clear-arg-1.given.0.1 c.clear.ensures,
-          (
-            read-marks _ _ _ _ _ _ _ _ _ _ c.yard-r.ensures.owners_after c.in-Scene.is fits _ c.clear_marks-arg-1.given.0.1 c.clear_marks.ensures,
-            (
-              read-points _ _ _ _ _ _ _ _ _ _ c.yard-r.ensures.owners_after c.in-Scene.is fits _ c.clear-arg-in-Scene-1.given.0.1 c.clear-in-Scene.ensures,
-              (
-                read-starts _ _ _ _ _ _ _ _ _ _ c.yard-r.ensures.owners_after c.in-Scene.is fits _ c.clear_starts-arg-1.given.0.1 c.clear_starts.ensures,
-                (
-                  read-owners _ _ _ _ _ _ _ _ _ _ c.yard-r.ensures.owners_after c.in-Scene.is fits _ c.clear_marks-arg-in-Scene-1.given.0.1 c.clear_marks-in-Scene.ensures,
-                  (
-                    read_held _ _ _ _ _ _ _ _ _ _ c.yard-r.ensures.owners_after c.in-Scene.is fits _ _ _ _ _ c.clear.ensures c.clear_marks.ensures c.clear-in-Scene.ensures c.clear_starts.ensures c.clear_marks-in-Scene.ensures,
-                    (
-                      held_fits _ _ _ _ _ _ _ _ _ _ c.yard-r.ensures.owners_after c.in-Scene.is fits _ _ _ _ _ c.clear.auto.0 c.clear_marks.auto.0 c.clear-in-Scene.auto.0 c.clear_starts.auto.0 c.clear_marks-in-Scene.auto.0,
-                      read-within c.yard-r.ensures.within_reading c.in-Scene.is,
-                    ),
-                  ),
-                ),
-              ),
-            ),
-          ),
-        ),
-      )).7;
-      within_reading = ((
-        read_answer _ _ _ _ _ _ _ _ _ _ c.yard-r.ensures.owners_after c.in-Scene.is fits,
-        (
-          read-numbers _ _ _ _ _ _ _ _ _ _ c.yard-r.ensures.owners_after c.in-Scene.is fits _ c.clear-arg-1.given.0.1 c.clear.ensures,
-          (
-            read-marks _ _ _ _ _ _ _ _ _ _ c.yard-r.ensures.owners_after c.in-Scene.is fits _ c.clear_marks-arg-1.given.0.1 c.clear_marks.ensures,
-            (
-              read-points _ _ _ _ _ _ _ _ _ _ c.yard-r.ensures.owners_after c.in-Scene.is fits _ c.clear-arg-in-Scene-1.given.0.1 c.clear-in-Scene.ensures,
-              (
-                read-starts _ _ _ _ _ _ _ _ _ _ c.yard-r.ensures.owners_after c.in-Scene.is fits _ c.clear_starts-arg-1.given.0.1 c.clear_starts.ensures,
-                (
-                  read-owners _ _ _ _ _ _ _ _ _ _ c.yard-r.ensures.owners_after c.in-Scene.is fits _ c.clear_marks-arg-in-Scene-1.given.0.1 c.clear_marks-in-Scene.ensures,
-                  (
-                    read_held _ _ _ _ _ _ _ _ _ _ c.yard-r.ensures.owners_after c.in-Scene.is fits _ _ _ _ _ c.clear.ensures c.clear_marks.ensures c.clear-in-Scene.ensures c.clear_starts.ensures c.clear_marks-in-Scene.ensures,
-                    (
-                      held_fits _ _ _ _ _ _ _ _ _ _ c.yard-r.ensures.owners_after c.in-Scene.is fits _ _ _ _ _ c.clear.auto.0 c.clear_marks.auto.0 c.clear-in-Scene.auto.0 c.clear_starts.auto.0 c.clear_marks-in-Scene.auto.0,
-                      read-within c.yard-r.ensures.within_reading c.in-Scene.is,
-                    ),
-                  ),
-                ),
-              ),
-            ),
-          ),
-        ),
-      )).8;
+    let fits = fits-within c.yard-r.result c.yard-r.new.numbers c.yard-r.new.marks c.yard-r.new.points c.yard-r.new.starts c.yard-r.new.owners c.yard-r.ensures.within_reading c.clear-arg-1.given.0.1 c.clear_marks-arg-1.given.0.1 c.clear-arg-in-Scene-1.given.0.1 c.clear_starts-arg-1.given.0.1 c.clear_marks-arg-in-Scene-1.given.0.1 in
+    record {
+      value = read_answer _ _ _ _ _ _ _ _ _ _ c.yard-r.ensures.owners_after c.in-Scene.is fits;
+      numbers_after = read-numbers _ _ _ _ _ _ _ _ _ _ c.yard-r.ensures.owners_after c.in-Scene.is fits _ c.clear-arg-1.given.0.1 c.clear.ensures;
+      marks_after = read-marks _ _ _ _ _ _ _ _ _ _ c.yard-r.ensures.owners_after c.in-Scene.is fits _ c.clear_marks-arg-1.given.0.1 c.clear_marks.ensures;
+      points_after = read-points _ _ _ _ _ _ _ _ _ _ c.yard-r.ensures.owners_after c.in-Scene.is fits _ c.clear-arg-in-Scene-1.given.0.1 c.clear-in-Scene.ensures;
+      starts_after = read-starts _ _ _ _ _ _ _ _ _ _ c.yard-r.ensures.owners_after c.in-Scene.is fits _ c.clear_starts-arg-1.given.0.1 c.clear_starts.ensures;
+      owners_after = read-owners _ _ _ _ _ _ _ _ _ _ c.yard-r.ensures.owners_after c.in-Scene.is fits _ c.clear_marks-arg-in-Scene-1.given.0.1 c.clear_marks-in-Scene.ensures;
+      owners_after_2 = read_held _ _ _ _ _ _ _ _ _ _ c.yard-r.ensures.owners_after c.in-Scene.is fits _ _ _ _ _ c.clear.ensures c.clear_marks.ensures c.clear-in-Scene.ensures c.clear_starts.ensures c.clear_marks-in-Scene.ensures;
+      reading_fits = held_fits _ _ _ _ _ _ _ _ _ _ c.yard-r.ensures.owners_after c.in-Scene.is fits _ _ _ _ _ c.clear.auto.xs c.clear_marks.auto.xs c.clear-in-Scene.auto.xs c.clear_starts.auto.xs c.clear_marks-in-Scene.auto.xs;
+      within_reading = read-within c.yard-r.ensures.within_reading c.in-Scene.is;
     }
 
 pub returns-in-Refused : goal.returns-in-Refused
 unfolding WithinReading
 returns-in-Refused c =
-    record { value = ((refused-answer _ _ _ _ _ _ c.yard-r.ensures.owners_after c.in-Refused.is, (refused-numbers _ _ _ _ _ _ c.yard-r.ensures.owners_after c.in-Refused.is _ c.clear-arg-in-Refused-1.given.0.1 c.clear-in-Refused.ensures, (refused-marks _ _ _ _ _ _ c.yard-r.ensures.owners_after c.in-Refused.is _ c.clear_marks-arg-in-Refused-1.given.0.1 c.clear_marks-in-Refused.ensures, (refused-points _ _ _ _ _ _ c.yard-r.ensures.owners_after c.in-Refused.is _ c.clear-arg-in-Refused-2-1.given.0.1 c.clear-in-Refused-2.ensures, (refused-starts _ _ _ _ _ _ c.yard-r.ensures.owners_after c.in-Refused.is _ c.clear_starts-arg-in-Refused-1.given.0.1 c.clear_starts-in-Refused.ensures, (refused-owners _ _ _ _ _ _ c.yard-r.ensures.owners_after c.in-Refused.is _ c.clear_marks-arg-in-Refused-2-1.given.0.1 c.clear_marks-in-Refused-2.ensures, (refused-held _ _ _ _ _ _ c.yard-r.ensures.owners_after c.in-Refused.is _ _ _ _ _, (refused-fits _ _ _ _ _, tt))))))))).0; numbers_after = ((refused-answer _ _ _ _ _ _ c.yard-r.ensures.owners_after c.in-Refused.is, (refused-numbers _ _ _ _ _ _ c.yard-r.ensures.owners_after c.in-Refused.is _ c.clear-arg-in-Refused-1.given.0.1 c.clear-in-Refused.ensures, (refused-marks _ _ _ _ _ _ c.yard-r.ensures.owners_after c.in-Refused.is _ c.clear_marks-arg-in-Refused-1.given.0.1 c.clear_marks-in-Refused.ensures, (refused-points _ _ _ _ _ _ c.yard-r.ensures.owners_after c.in-Refused.is _ c.clear-arg-in-Refused-2-1.given.0.1 c.clear-in-Refused-2.ensures, (refused-starts _ _ _ _ _ _ c.yard-r.ensures.owners_after c.in-Refused.is _ c.clear_starts-arg-in-Refused-1.given.0.1 c.clear_starts-in-Refused.ensures, (refused-owners _ _ _ _ _ _ c.yard-r.ensures.owners_after c.in-Refused.is _ c.clear_marks-arg-in-Refused-2-1.given.0.1 c.clear_marks-in-Refused-2.ensures, (refused-held _ _ _ _ _ _ c.yard-r.ensures.owners_after c.in-Refused.is _ _ _ _ _, (refused-fits _ _ _ _ _, tt))))))))).1; marks_after = ((refused-answer _ _ _ _ _ _ c.yard-r.ensures.owners_after c.in-Refused.is, (refused-numbers _ _ _ _ _ _ c.yard-r.ensures.owners_after c.in-Refused.is _ c.clear-arg-in-Refused-1.given.0.1 c.clear-in-Refused.ensures, (refused-marks _ _ _ _ _ _ c.yard-r.ensures.owners_after c.in-Refused.is _ c.clear_marks-arg-in-Refused-1.given.0.1 c.clear_marks-in-Refused.ensures, (refused-points _ _ _ _ _ _ c.yard-r.ensures.owners_after c.in-Refused.is _ c.clear-arg-in-Refused-2-1.given.0.1 c.clear-in-Refused-2.ensures, (refused-starts _ _ _ _ _ _ c.yard-r.ensures.owners_after c.in-Refused.is _ c.clear_starts-arg-in-Refused-1.given.0.1 c.clear_starts-in-Refused.ensures, (refused-owners _ _ _ _ _ _ c.yard-r.ensures.owners_after c.in-Refused.is _ c.clear_marks-arg-in-Refused-2-1.given.0.1 c.clear_marks-in-Refused-2.ensures, (refused-held _ _ _ _ _ _ c.yard-r.ensures.owners_after c.in-Refused.is _ _ _ _ _, (refused-fits _ _ _ _ _, tt))))))))).2; points_after = ((refused-answer _ _ _ _ _ _ c.yard-r.ensures.owners_after c.in-Refused.is, (refused-numbers _ _ _ _ _ _ c.yard-r.ensures.owners_after c.in-Refused.is _ c.clear-arg-in-Refused-1.given.0.1 c.clear-in-Refused.ensures, (refused-marks _ _ _ _ _ _ c.yard-r.ensures.owners_after c.in-Refused.is _ c.clear_marks-arg-in-Refused-1.given.0.1 c.clear_marks-in-Refused.ensures, (refused-points _ _ _ _ _ _ c.yard-r.ensures.owners_after c.in-Refused.is _ c.clear-arg-in-Refused-2-1.given.0.1 c.clear-in-Refused-2.ensures, (refused-starts _ _ _ _ _ _ c.yard-r.ensures.owners_after c.in-Refused.is _ c.clear_starts-arg-in-Refused-1.given.0.1 c.clear_starts-in-Refused.ensures, (refused-owners _ _ _ _ _ _ c.yard-r.ensures.owners_after c.in-Refused.is _ c.clear_marks-arg-in-Refused-2-1.given.0.1 c.clear_marks-in-Refused-2.ensures, (refused-held _ _ _ _ _ _ c.yard-r.ensures.owners_after c.in-Refused.is _ _ _ _ _, (refused-fits _ _ _ _ _, tt))))))))).3; starts_after = ((refused-answer _ _ _ _ _ _ c.yard-r.ensures.owners_after c.in-Refused.is, (refused-numbers _ _ _ _ _ _ c.yard-r.ensures.owners_after c.in-Refused.is _ c.clear-arg-in-Refused-1.given.0.1 c.clear-in-Refused.ensures, (refused-marks _ _ _ _ _ _ c.yard-r.ensures.owners_after c.in-Refused.is _ c.clear_marks-arg-in-Refused-1.given.0.1 c.clear_marks-in-Refused.ensures, (refused-points _ _ _ _ _ _ c.yard-r.ensures.owners_after c.in-Refused.is _ c.clear-arg-in-Refused-2-1.given.0.1 c.clear-in-Refused-2.ensures, (refused-starts _ _ _ _ _ _ c.yard-r.ensures.owners_after c.in-Refused.is _ c.clear_starts-arg-in-Refused-1.given.0.1 c.clear_starts-in-Refused.ensures, (refused-owners _ _ _ _ _ _ c.yard-r.ensures.owners_after c.in-Refused.is _ c.clear_marks-arg-in-Refused-2-1.given.0.1 c.clear_marks-in-Refused-2.ensures, (refused-held _ _ _ _ _ _ c.yard-r.ensures.owners_after c.in-Refused.is _ _ _ _ _, (refused-fits _ _ _ _ _, tt))))))))).4; owners_after = ((refused-answer _ _ _ _ _ _ c.yard-r.ensures.owners_after c.in-Refused.is, (refused-numbers _ _ _ _ _ _ c.yard-r.ensures.owners_after c.in-Refused.is _ c.clear-arg-in-Refused-1.given.0.1 c.clear-in-Refused.ensures, (refused-marks _ _ _ _ _ _ c.yard-r.ensures.owners_after c.in-Refused.is _ c.clear_marks-arg-in-Refused-1.given.0.1 c.clear_marks-in-Refused.ensures, (refused-points _ _ _ _ _ _ c.yard-r.ensures.owners_after c.in-Refused.is _ c.clear-arg-in-Refused-2-1.given.0.1 c.clear-in-Refused-2.ensures, (refused-starts _ _ _ _ _ _ c.yard-r.ensures.owners_after c.in-Refused.is _ c.clear_starts-arg-in-Refused-1.given.0.1 c.clear_starts-in-Refused.ensures, (refused-owners _ _ _ _ _ _ c.yard-r.ensures.owners_after c.in-Refused.is _ c.clear_marks-arg-in-Refused-2-1.given.0.1 c.clear_marks-in-Refused-2.ensures, (refused-held _ _ _ _ _ _ c.yard-r.ensures.owners_after c.in-Refused.is _ _ _ _ _, (refused-fits _ _ _ _ _, tt))))))))).5; owners_after_2 = ((refused-answer _ _ _ _ _ _ c.yard-r.ensures.owners_after c.in-Refused.is, (refused-numbers _ _ _ _ _ _ c.yard-r.ensures.owners_after c.in-Refused.is _ c.clear-arg-in-Refused-1.given.0.1 c.clear-in-Refused.ensures, (refused-marks _ _ _ _ _ _ c.yard-r.ensures.owners_after c.in-Refused.is _ c.clear_marks-arg-in-Refused-1.given.0.1 c.clear_marks-in-Refused.ensures, (refused-points _ _ _ _ _ _ c.yard-r.ensures.owners_after c.in-Refused.is _ c.clear-arg-in-Refused-2-1.given.0.1 c.clear-in-Refused-2.ensures, (refused-starts _ _ _ _ _ _ c.yard-r.ensures.owners_after c.in-Refused.is _ c.clear_starts-arg-in-Refused-1.given.0.1 c.clear_starts-in-Refused.ensures, (refused-owners _ _ _ _ _ _ c.yard-r.ensures.owners_after c.in-Refused.is _ c.clear_marks-arg-in-Refused-2-1.given.0.1 c.clear_marks-in-Refused-2.ensures, (refused-held _ _ _ _ _ _ c.yard-r.ensures.owners_after c.in-Refused.is _ _ _ _ _, (refused-fits _ _ _ _ _, tt))))))))).6; reading_fits = ((refused-answer _ _ _ _ _ _ c.yard-r.ensures.owners_after c.in-Refused.is, (refused-numbers _ _ _ _ _ _ c.yard-r.ensures.owners_after c.in-Refused.is _ c.clear-arg-in-Refused-1.given.0.1 c.clear-in-Refused.ensures, (refused-marks _ _ _ _ _ _ c.yard-r.ensures.owners_after c.in-Refused.is _ c.clear_marks-arg-in-Refused-1.given.0.1 c.clear_marks-in-Refused.ensures, (refused-points _ _ _ _ _ _ c.yard-r.ensures.owners_after c.in-Refused.is _ c.clear-arg-in-Refused-2-1.given.0.1 c.clear-in-Refused-2.ensures, (refused-starts _ _ _ _ _ _ c.yard-r.ensures.owners_after c.in-Refused.is _ c.clear_starts-arg-in-Refused-1.given.0.1 c.clear_starts-in-Refused.ensures, (refused-owners _ _ _ _ _ _ c.yard-r.ensures.owners_after c.in-Refused.is _ c.clear_marks-arg-in-Refused-2-1.given.0.1 c.clear_marks-in-Refused-2.ensures, (refused-held _ _ _ _ _ _ c.yard-r.ensures.owners_after c.in-Refused.is _ _ _ _ _, (refused-fits _ _ _ _ _, tt))))))))).7; within_reading = ((refused-answer _ _ _ _ _ _ c.yard-r.ensures.owners_after c.in-Refused.is, (refused-numbers _ _ _ _ _ _ c.yard-r.ensures.owners_after c.in-Refused.is _ c.clear-arg-in-Refused-1.given.0.1 c.clear-in-Refused.ensures, (refused-marks _ _ _ _ _ _ c.yard-r.ensures.owners_after c.in-Refused.is _ c.clear_marks-arg-in-Refused-1.given.0.1 c.clear_marks-in-Refused.ensures, (refused-points _ _ _ _ _ _ c.yard-r.ensures.owners_after c.in-Refused.is _ c.clear-arg-in-Refused-2-1.given.0.1 c.clear-in-Refused-2.ensures, (refused-starts _ _ _ _ _ _ c.yard-r.ensures.owners_after c.in-Refused.is _ c.clear_starts-arg-in-Refused-1.given.0.1 c.clear_starts-in-Refused.ensures, (refused-owners _ _ _ _ _ _ c.yard-r.ensures.owners_after c.in-Refused.is _ c.clear_marks-arg-in-Refused-2-1.given.0.1 c.clear_marks-in-Refused-2.ensures, (refused-held _ _ _ _ _ _ c.yard-r.ensures.owners_after c.in-Refused.is _ _ _ _ _, (refused-fits _ _ _ _ _, tt))))))))).8 }
+    record {
+      value = refused-answer _ _ _ _ _ _ c.yard-r.ensures.owners_after c.in-Refused.is;
+      numbers_after = refused-numbers _ _ _ _ _ _ c.yard-r.ensures.owners_after c.in-Refused.is _ c.clear-arg-in-Refused-1.given.0.1 c.clear-in-Refused.ensures;
+      marks_after = refused-marks _ _ _ _ _ _ c.yard-r.ensures.owners_after c.in-Refused.is _ c.clear_marks-arg-in-Refused-1.given.0.1 c.clear_marks-in-Refused.ensures;
+      points_after = refused-points _ _ _ _ _ _ c.yard-r.ensures.owners_after c.in-Refused.is _ c.clear-arg-in-Refused-2-1.given.0.1 c.clear-in-Refused-2.ensures;
+      starts_after = refused-starts _ _ _ _ _ _ c.yard-r.ensures.owners_after c.in-Refused.is _ c.clear_starts-arg-in-Refused-1.given.0.1 c.clear_starts-in-Refused.ensures;
+      owners_after = refused-owners _ _ _ _ _ _ c.yard-r.ensures.owners_after c.in-Refused.is _ c.clear_marks-arg-in-Refused-2-1.given.0.1 c.clear_marks-in-Refused-2.ensures;
+      owners_after_2 = refused-held _ _ _ _ _ _ c.yard-r.ensures.owners_after c.in-Refused.is _ _ _ _ _;
+      reading_fits = refused-fits _ _ _ _ _;
+      within_reading = tt;
+    }

@@ -2,7 +2,6 @@ use Rattle.text_scene.proofs.Answers.{yard-long, yard-empty, yard-unseen, yard-m
 use Rattle.text_scene.proofs.Texts.{line-lies}
 use Rattle.text_forms.proofs.Forms.{within-next}
 use Rattle.text_scene.specs.Readings.{reading_as, WithinReading}
-use borrow.Author.Tests.{not-true, not-false}
 use native.Mathlib.Omega.{arith}
 use borrow.Author.Rules.{rules}
 use Rattle.text_scene.proofs.yard.Goals as goal
@@ -53,7 +52,7 @@ slice_bounds-is_over-end c =
 pub returns-then-not-is_over : goal.returns-then-not-is_over
 unfolding reading_as WithinReading
 returns-then-not-is_over c =
-    record { owners_after = yard-more _ c.if-text-gt65536.false c.next_line-l.ensures.at_value c.in-At.is c.view_at-v.result c.view_at-v.ensures c.in-Seen.is c.is_over.ensures (not-true _ c.if-not-is_over.true); within_reading = tt }
+    record { owners_after = yard-more _ c.if-text-gt65536.false c.next_line-l.ensures.at_value c.in-At.is c.view_at-v.result c.view_at-v.ensures c.in-Seen.is c.is_over.ensures c.if-not-is_over.true; within_reading = tt }
 
 pub overflow_add-e : goal.overflow_add-e
 overflow_add-e c =
@@ -65,50 +64,50 @@ forms-f-requires c =
 
 pub shape_of-numbers-in_default-f : goal.shape_of-numbers-in_default-f
 shape_of-numbers-in_default-f c =
-    c.forms-f.auto.1.1.0
+    c.forms-f.auto.numbers
 
 pub shape_of-marks-in_default-f : goal.shape_of-marks-in_default-f
 shape_of-marks-in_default-f c =
-    c.forms-f.auto.1.1.1.0
+    c.forms-f.auto.marks
 
 pub shape_of-points-in_default-f : goal.shape_of-points-in_default-f
 shape_of-points-in_default-f c =
-    c.forms-f.auto.1.1.1.1.0
+    c.forms-f.auto.points
 
 pub shape_of-starts-in_default-f : goal.shape_of-starts-in_default-f
 shape_of-starts-in_default-f c =
-    c.forms-f.auto.1.1.1.1.1.0
+    c.forms-f.auto.starts
 
 pub shape_of-owners-in_default-f : goal.shape_of-owners-in_default-f
 shape_of-owners-in_default-f c =
-    c.forms-f.auto.1.1.1.1.1.1.0
+    c.forms-f.auto.owners
 
 pub returns-in_default-f : goal.returns-in_default-f
 unfolding reading_as WithinReading
 returns-in_default-f c =
-    record { owners_after = yard-no _ c.if-text-gt65536.false c.next_line-l.ensures.at_value c.in-At.is c.view_at-v.result c.view_at-v.ensures c.in-Seen.is c.is_over.ensures (not-false _ c.if-not-is_over.false) _ _ _ _ _ c.forms-f.result c.forms-f.ensures.owners_after c.in_default-f.is; within_reading = tt }
+    record { owners_after = yard-no _ c.if-text-gt65536.false c.next_line-l.ensures.at_value c.in-At.is c.view_at-v.result c.view_at-v.ensures c.in-Seen.is c.is_over.ensures c.if-not-is_over.false _ _ _ _ _ c.forms-f.result c.forms-f.ensures.owners_after c.in_default-f.is; within_reading = tt }
 
 pub shape_of-numbers : goal.shape_of-numbers
 shape_of-numbers c =
-    c.forms-f.auto.1.1.0
+    c.forms-f.auto.numbers
 
 pub shape_of-marks : goal.shape_of-marks
 shape_of-marks c =
-    c.forms-f.auto.1.1.1.0
+    c.forms-f.auto.marks
 
 pub shape_of-points : goal.shape_of-points
 shape_of-points c =
-    c.forms-f.auto.1.1.1.1.0
+    c.forms-f.auto.points
 
 pub shape_of-starts : goal.shape_of-starts
 shape_of-starts c =
-    c.forms-f.auto.1.1.1.1.1.0
+    c.forms-f.auto.starts
 
 pub shape_of-owners : goal.shape_of-owners
 shape_of-owners c =
-    c.forms-f.auto.1.1.1.1.1.1.0
+    c.forms-f.auto.owners
 
 pub returns : goal.returns
 unfolding WithinReading
 returns c =
-    record { owners_after = yard-read _ c.if-text-gt65536.false c.next_line-l.ensures.at_value c.in-At.is c.view_at-v.result c.view_at-v.ensures c.in-Seen.is c.is_over.ensures (not-false _ c.if-not-is_over.false) _ _ _ _ _ c.forms-f.result c.forms-f.ensures.owners_after c.in-To.is; within_reading = ((within-next c.forms-f.ensures.within_next c.in-To.is).entries, ((within-next c.forms-f.ensures.within_next c.in-To.is).points, (within-next c.forms-f.ensures.within_next c.in-To.is).lines)) }
+    record { owners_after = yard-read _ c.if-text-gt65536.false c.next_line-l.ensures.at_value c.in-At.is c.view_at-v.result c.view_at-v.ensures c.in-Seen.is c.is_over.ensures c.if-not-is_over.false _ _ _ _ _ c.forms-f.result c.forms-f.ensures.owners_after c.in-To.is; within_reading = ((within-next c.forms-f.ensures.within_next c.in-To.is).entries, ((within-next c.forms-f.ensures.within_next c.in-To.is).points, (within-next c.forms-f.ensures.within_next c.in-To.is).lines)) }

@@ -3,7 +3,6 @@ use Prim.Native.Nat.{◌≤◌, ◌<◌, ◌-◌}
 use mathlib.Core.Path.{◌≡◌}
 use lib.ListN.{length, drop}
 use native.Mathlib.Omega.{arith}
-use borrow.Author.Tests.{not-true, not-false}
 use Rattle.text_tokens.specs.Tokens.{left, part, tokens_from}
 use Rattle.text_tokens.proofs.Tokens.{word_first, word_more, word-closed, word_over}
 use Rattle.text_tokens.proofs.word_end.Goals as goal
@@ -14,11 +13,11 @@ loop-i-init c =
 
 pub returns-then-not-in_word : goal.returns-then-not-in_word
 returns-then-not-in_word c =
-    (omega (arith, c.loop-i.invariant.0), omega arith, word-closed _ _ _ c.loop-i.invariant.0 c.loop-i-test.true c.loop-i.invariant.2 c.in_word.ensures (not-true _ c.if-not-in_word.true))
+    (omega (arith, c.loop-i.invariant.0), omega arith, word-closed _ _ _ c.loop-i.invariant.0 c.loop-i-test.true c.loop-i.invariant.2 c.in_word.ensures c.if-not-in_word.true)
 
 pub loop-i-preserved : goal.loop-i-preserved
 loop-i-preserved c =
-    (omega (arith, c.loop-i.invariant.0), omega (arith, c.loop-i-test.true), word_more _ _ _ c.loop-i.invariant.0 c.loop-i-test.true c.loop-i.invariant.2 c.in_word.ensures (not-false _ c.if-not-in_word.false))
+    (omega (arith, c.loop-i.invariant.0), omega (arith, c.loop-i-test.true), word_more _ _ _ c.loop-i.invariant.0 c.loop-i-test.true c.loop-i.invariant.2 c.in_word.ensures c.if-not-in_word.false)
 
 pub returns : goal.returns
 returns c =

@@ -3,7 +3,6 @@ use Prim.Native.Nat.{◌≤◌, ◌<◌, ◌-◌}
 use mathlib.Core.Path.{◌≡◌}
 use lib.ListN.{length, drop}
 use native.Mathlib.Omega.{arith}
-use borrow.Author.Tests.{not-true, not-false}
 use Rattle.text_tokens.specs.Tokens.{left, part, tokens_from}
 use Rattle.text_tokens.proofs.Tokens.{word_first, word_more, word-closed, word_over}
 use Rattle.text_tokens.proofs.word_end.Given as goal

@@ -25,7 +25,7 @@ put_byte-d-requires c =
 
 pub loop-k-preserved : goal.loop-k-preserved
 loop-k-preserved c =
-    let args = c.args in lines-turn (form_at 8 (scene_of args.numbers.now args.marks.now args.points.now args.starts.now args.owners.now)) args.listed.now c.loop-k.k c.loop-k-test.true c.index-i.ensures.0 c.loop-k.invariant c.put_form-e.ensures c.put_form-e.auto.1.1.1.1.1.1.1.0 c.put_byte-d.ensures c.put_byte-d.auto.0
+    let args = c.args in lines-turn (form_at 8 (scene_of args.numbers.now args.marks.now args.points.now args.starts.now args.owners.now)) args.listed.now c.loop-k.k c.loop-k-test.true c.index-i.ensures.0 c.loop-k.invariant c.put_form-e.ensures c.put_form-e.auto.text c.put_byte-d.ensures c.put_byte-d.auto.text
 
 pub shape_of-text : goal.shape_of-text
 shape_of-text c =

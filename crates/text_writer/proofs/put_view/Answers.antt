@@ -18,9 +18,9 @@ put_word-requires c =
 
 pub shape_of-text : goal.shape_of-text
 shape_of-text c =
-    c.put_word.auto.0 ∙ c.put_numbers-b.auto.0 ∙ c.put_word-a.auto.0
+    c.put_word.auto.text ∙ c.put_numbers-b.auto.text ∙ c.put_word-a.auto.text
 
 pub returns : goal.returns
 unfolding matrix_numbers
 returns c =
-    let args = c.args in view-put args.view c.put_word-a.ensures c.put_word-a.auto.0 c.put_numbers-b.ensures c.put_numbers-b.auto.0 c.put_word.ensures
+    let args = c.args in view-put args.view c.put_word-a.ensures c.put_word-a.auto.text c.put_numbers-b.ensures c.put_numbers-b.auto.text c.put_word.ensures

@@ -14,8 +14,8 @@ put_forms-requires c =
 
 pub shape_of-text : goal.shape_of-text
 shape_of-text c =
-    c.put_forms.auto.1.1.1.1.1.1.0 ∙ c.put_view-c.auto.0
+    c.put_forms.auto.text ∙ c.put_view-c.auto.text
 
 pub returns : goal.returns
 returns c =
-    let args = c.args in yard-put args.view _ c.put_view-c.ensures c.put_view-c.auto.0 c.put_forms.ensures
+    let args = c.args in yard-put args.view _ c.put_view-c.ensures c.put_view-c.auto.text c.put_forms.ensures

@@ -9,8 +9,8 @@ finish-requires c =
 
 pub shape_of-text : goal.shape_of-text
 shape_of-text c =
-    c.finish.auto.0 ∙ c.put_checked-c.auto.1.1.1.1.1.1.0
+    c.finish.auto.text ∙ c.put_checked-c.auto.text
 
 pub returns : goal.returns
 returns c =
-    record { answer = (ends_so c.put_checked-c.result c.put_checked-c.new.1.1.1.1.1.1.0 c.put_checked-c.ensures.0 c.put_checked-c.auto.1.1.1.1.1.1.0 c.finish.ensures.answer c.finish.ensures.lent).0; lent = (ends_so c.put_checked-c.result c.put_checked-c.new.1.1.1.1.1.1.0 c.put_checked-c.ensures.0 c.put_checked-c.auto.1.1.1.1.1.1.0 c.finish.ensures.answer c.finish.ensures.lent).1 }
+    record { answer = (ends_so c.put_checked-c.result c.put_checked-c.new.text c.put_checked-c.ensures.0 c.put_checked-c.auto.text c.finish.ensures.answer c.finish.ensures.lent).0; lent = (ends_so c.put_checked-c.result c.put_checked-c.new.text c.put_checked-c.ensures.0 c.put_checked-c.auto.text c.finish.ensures.answer c.finish.ensures.lent).1 }

@@ -2,7 +2,6 @@ use Rattle.tree_build.proofs.Keys.{keyed-each, keyed-sorted}
 use Rattle.tree_split.specs.Build.{box_at}
 use mathlib.Core.Path.{◌∙◌}
 use native.Mathlib.Omega.{arith}
-use borrow.Author.Rules.{rules}
 use Rattle.tree_build.proofs.arrange.Goals as goal
 
 pub fill_keys-requires : goal.fill_keys-requires

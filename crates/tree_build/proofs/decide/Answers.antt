@@ -6,7 +6,6 @@ use Prim.Native.Nat.{ℕ}
 use mathlib.Core.List.{List}
 use mathlib.Core.Path.{subst⁻¹}
 use native.Mathlib.Omega.{arith}
-use borrow.Author.Rules.{rules}
 use Rattle.tree_build.proofs.decide.Goals as goal
 
 pub hull-bx-requires : goal.hull-bx-requires
@@ -27,7 +26,7 @@ arrange-requires c =
 
 pub split_at-at-requires : goal.split_at-at-requires
 split_at-at-requires c =
-    let args = c.args in let pre = c.requires in (subst⁻¹ (λ (l : List ℕ). Each (Fits args.boxes.now) l) c.arrange.ensures (each-sorted _ _ _ pre.0), omega (arith, c.arrange.auto.1.0, c.if-order-le2.false), omega (arith, c.arrange.auto.1.0, pre.2), omega (arith, c.arrange.auto.1.1.1.0, pre.3))
+    let args = c.args in let pre = c.requires in (subst⁻¹ (λ (l : List ℕ). Each (Fits args.boxes.now) l) c.arrange.ensures (each-sorted _ _ _ pre.0), omega (arith, c.arrange.auto.order, c.if-order-le2.false), omega (arith, c.arrange.auto.order, pre.2), omega (arith, c.arrange.auto.work, pre.3))
 
 pub returns : goal.returns
 returns c =

@@ -1,12 +1,8 @@
-use Rattle.tree_build.proofs.Keys.{keyed-start, keyed-turn}
 use Rattle.tree_build.specs.Slices.{Keyed}
-use Rattle.lists.proofs.Properties.{each_at}
 use Rattle.tree_split.specs.Build.{box_at}
-use lib.ListN.{length, length-set}
+use lib.ListN.{length}
 use Prim.Native.Nat.{◌-◌, ◌≤◌}
-use mathlib.Core.Path.{◌≡◌, refl, ◌∙◌}
-use native.Mathlib.Omega.{arith}
-use borrow.Author.Rules.{rules}
+use mathlib.Core.Path.{◌≡◌}
 use Rattle.tree_build.proofs.fill_keys.Given as goal
 
 abbrev pub invariant-loop-i : goal.invariant-loop-i

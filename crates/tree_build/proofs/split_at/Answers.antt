@@ -2,7 +2,6 @@ use Rattle.tree_build.proofs.Keys.{split-large, split-kept, split-small}
 use Rattle.tree_split.proofs.Sweeps.{count-float}
 use Rattle.tree_split.specs.Build.{box_at}
 use native.Mathlib.Omega.{arith}
-use borrow.Author.Rules.{rules}
 use Rattle.tree_build.proofs.split_at.Goals as goal
 
 pub right_areas-requires : goal.right_areas-requires
@@ -11,7 +10,7 @@ right_areas-requires c =
 
 pub best_split-best-requires : goal.best_split-best-requires
 best_split-best-requires c =
-    let pre = c.requires in (pre.0, pre.1, pre.2, omega (arith, pre.2, pre.3, c.right_areas.auto.1.1.0), c.right_areas.ensures)
+    let pre = c.requires in (pre.0, pre.1, pre.2, omega (arith, pre.2, pre.3, c.right_areas.auto.right), c.right_areas.ensures)
 
 pub returns-then-n-gt8 : goal.returns-then-n-gt8
 returns-then-n-gt8 c =

@@ -1,7 +1,6 @@
 use mathlib.Core.Path.{◌≡◌, refl}
-use Prim.Native.Nat.{◌-◌}
 use native.Mathlib.Omega.{arith}
-use Rattle.tree_sort.proofs.Sorting.{Copied, copied-turn}
+use Rattle.tree_sort.proofs.Sorting.{copied-turn}
 use borrow.Author.Rules.{rules}
 use Rattle.tree_sort.proofs.copy.Goals as goal
 

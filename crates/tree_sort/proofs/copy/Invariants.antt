@@ -1,8 +1,5 @@
-use mathlib.Core.Path.{◌≡◌, refl}
 use Prim.Native.Nat.{◌-◌}
-use native.Mathlib.Omega.{arith}
-use Rattle.tree_sort.proofs.Sorting.{Copied, copied-turn}
-use borrow.Author.Rules.{rules}
+use Rattle.tree_sort.proofs.Sorting.{Copied}
 use Rattle.tree_sort.proofs.copy.Given as goal
 
 abbrev pub invariant-loop-i : goal.invariant-loop-i

@@ -1,11 +1,10 @@
 use mathlib.Core.List.{[]}
-use Rattle.tree_sort.proofs.Inserting.{Suffixed, suffixed-start, suffixed-part, suffixed-each, suffixed-turn, suffixed-end}
-use Rattle.tree_sort.specs.Sort.{by_key, HasKey}
+use Rattle.tree_sort.proofs.Inserting.{suffixed-start, suffixed-part, suffixed-each, suffixed-turn, suffixed-end}
+use Rattle.tree_sort.specs.Sort.{HasKey}
 use lib.ListN.{length, length-drop}
 use native.Mathlib.Omega.{arith}
 use Prim.Native.Nat.{◌-◌}
 use mathlib.Core.Path.{ap, ◌∙◌}
-use borrow.Author.Rules.{rules}
 use Rattle.tree_sort.proofs.insertion_sort.Goals as goal
 
 pub loop-i-init : goal.loop-i-init
@@ -30,7 +29,7 @@ insert-requires c =
 
 pub loop-i-preserved : goal.loop-i-preserved
 loop-i-preserved c =
-    suffixed-turn _ _ _ _ c.insert.new.1.0 c.loop-i.invariant c.loop-i-test.true c.insert.ensures
+    suffixed-turn _ _ _ _ c.insert.new.order c.loop-i.invariant c.loop-i-test.true c.insert.ensures
 
 pub shape_of-order : goal.shape_of-order
 shape_of-order c =

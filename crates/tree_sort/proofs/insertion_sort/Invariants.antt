@@ -1,11 +1,5 @@
-use mathlib.Core.List.{[]}
-use Rattle.tree_sort.proofs.Inserting.{Suffixed, suffixed-start, suffixed-part, suffixed-each, suffixed-turn, suffixed-end}
-use Rattle.tree_sort.specs.Sort.{by_key, HasKey}
-use lib.ListN.{length, length-drop}
-use native.Mathlib.Omega.{arith}
-use Prim.Native.Nat.{◌-◌}
-use mathlib.Core.Path.{ap, ◌∙◌}
-use borrow.Author.Rules.{rules}
+use Rattle.tree_sort.proofs.Inserting.{Suffixed}
+use Rattle.tree_sort.specs.Sort.{by_key}
 use Rattle.tree_sort.proofs.insertion_sort.Given as goal
 
 abbrev pub invariant-loop-i : goal.invariant-loop-i

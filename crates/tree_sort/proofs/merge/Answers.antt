@@ -1,13 +1,10 @@
 use native.Mathlib.Nat.{not-le_of_lt}
 use mathlib.Core.Path.{sym, ◌∙◌}
-use mathlib.Core.Logic.{⊎_elim}
 use native.Mathlib.Omega.{arith}
-use Prim.Native.Nat.{◌+◌, ◌-◌}
-use Rattle.tree_sort.specs.Sort.{by_key}
-use Rattle.tree_sort.proofs.Sorting.{Merging, merging-p, merging-q, merging-right, merging-left, merging-end}
+use Rattle.tree_sort.proofs.Sorting.{merging-p, merging-q, merging-right, merging-left, merging-end}
 use Rattle.lists.proofs.Properties.{each_at}
-use borrow.Author.Rules.{rules}
 use Rattle.tree_sort.proofs.merge.Goals as goal
+use Rattle.tree_sort.proofs.merge.Goals.{then-j-n+else-precedes, else-j-n}
 
 pub precedes-requires : goal.precedes-requires
 precedes-requires c =
@@ -23,10 +20,10 @@ loop-i-preserved-then-precedes c =
 
 pub loop-i-preserved : goal.loop-i-preserved
 loop-i-preserved c =
-    ⊎_elim
-    (λ w. merging-left _ _ _ _ _ _ _ _ _ c.loop-i.invariant c.loop-i-test.true (λ jn. sym w.2.ensures ∙ w.3.left))
-    (λ w. merging-left _ _ _ _ _ _ _ _ _ c.loop-i.invariant c.loop-i-test.true (λ jn. absurd (not-le_of_lt jn w.left)))
-    c.if-j-n.branch
+    elim c.if-j-n.branch [
+      | then-j-n+else-precedes w ↦ merging-left _ _ _ _ _ _ _ _ _ c.loop-i.invariant c.loop-i-test.true (λ jn. sym w.precedes.ensures ∙ w.if-precedes.false)
+      | else-j-n w ↦ merging-left _ _ _ _ _ _ _ _ _ c.loop-i.invariant c.loop-i-test.true (λ jn. absurd (not-le_of_lt jn w.if-j-n.false))
+    ]
 
 pub returns : goal.returns
 returns c =

@@ -1,12 +1,6 @@
-use native.Mathlib.Nat.{not-le_of_lt}
-use mathlib.Core.Path.{sym, ◌∙◌}
-use mathlib.Core.Logic.{⊎_elim}
-use native.Mathlib.Omega.{arith}
 use Prim.Native.Nat.{◌+◌, ◌-◌}
 use Rattle.tree_sort.specs.Sort.{by_key}
-use Rattle.tree_sort.proofs.Sorting.{Merging, merging-p, merging-q, merging-right, merging-left, merging-end}
-use Rattle.lists.proofs.Properties.{each_at}
-use borrow.Author.Rules.{rules}
+use Rattle.tree_sort.proofs.Sorting.{Merging}
 use Rattle.tree_sort.proofs.merge.Given as goal
 
 abbrev pub invariant-loop-i : goal.invariant-loop-i

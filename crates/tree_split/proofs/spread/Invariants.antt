@@ -6,7 +6,7 @@ use borrow.Author.Rules.{rules}
 use Rattle.tree_split.proofs.spread.Given as goal
 
 abbrev pub invariant-loop-i : goal.invariant-loop-i
-invariant-loop-i l = Hulled (λ l.i. middle_box (box_at l.boxes l.i)) l.order l.b l.i
+invariant-loop-i l = Hulled (λ i. middle_box (box_at l.boxes i)) l.order l.b l.i
 
 abbrev pub decreases-loop-i : goal.decreases-loop-i
 decreases-loop-i l = length l.order - l.i

@@ -1,4 +1,3 @@
-use borrow.Author.Rules.{rules}
 use borrow.Author.Tests.{eq-eqb, ne_eqb, lt-ltb, le-ltb}
 use Rattle.tree_trust.specs.Trust.{joined_of}
 use Rattle.tree_trust.proofs.joined.Goals as goal

@@ -1,11 +1,6 @@
-use Rattle.lists.proofs.Tests.{Passed, passed_start, passed-turn, passed-fails, passed-end}
-use Rattle.check_measures.specs.Measures.{measured}
-use Rattle.scene.specs.Entries.{marks_at, numbers_at}
+use Rattle.lists.proofs.Tests.{passed_start, passed-turn, passed-fails, passed-end}
 use native.Mathlib.Omega.{arith}
 use mathlib.Core.Path.{◌∙◌}
-use Prim.Native.Nat.{◌-◌}
-use borrow.Author.Tests.{not-true, not-false}
-use borrow.Author.Rules.{rules}
 use Rattle.check_measures.proofs.measures.all_measured.Goals as goal
 
 pub loop-i-init : goal.loop-i-init
@@ -22,11 +17,11 @@ read_numbers-requires c =
 
 pub returns-then-not-measured : goal.returns-then-not-measured
 returns-then-not-measured c =
-    let measured' = ? in passed-fails _ _ _ c.loop-i.invariant c.loop-i-test.true (measured'.ensures ∙ rw (c.read_marks-m.ensures, c.read_numbers.ensures)) (not-true _ c.if-not-measured.true)
+    passed-fails _ _ _ c.loop-i.invariant c.loop-i-test.true (c.measured.ensures ∙ rw (c.read_marks-m.ensures, c.read_numbers.ensures)) c.if-not-measured.true
 
 pub loop-i-preserved : goal.loop-i-preserved
 loop-i-preserved c =
-    let measured' = ? in passed-turn _ _ _ c.loop-i.invariant c.loop-i-test.true (measured'.ensures ∙ rw (c.read_marks-m.ensures, c.read_numbers.ensures)) (not-false _ c.if-not-measured.false)
+    passed-turn _ _ _ c.loop-i.invariant c.loop-i-test.true (c.measured.ensures ∙ rw (c.read_marks-m.ensures, c.read_numbers.ensures)) c.if-not-measured.false
 
 pub returns : goal.returns
 returns c =

@@ -1,7 +1,6 @@
 use Rattle.check_measures.specs.Measures.{simple_measured, measured}
 use borrow.Author.Tests.{eq-eqb, ne_eqb}
 use mathlib.Core.Path.{◌∙◌}
-use borrow.Author.Rules.{rules}
 use Rattle.check_measures.proofs.measures.measured.Goals as goal
 
 pub returns-then-m-eq6 : goal.returns-then-m-eq6

@@ -1,5 +1,4 @@
 use mathlib.Core.Path.{◌∙◌}
-use borrow.Author.Rules.{rules}
 use Rattle.check_measures.specs.Measures.{solid_measured}
 use Rattle.check_measures.proofs.measures.solid_measured.Goals as goal
 

@@ -1,11 +1,7 @@
-use Rattle.lists.proofs.Tests.{Passed, passed_start, passed-turn, passed-fails, passed-end}
+use Rattle.lists.proofs.Tests.{passed_start, passed-turn, passed-fails, passed-end}
 use Rattle.check_measures.specs.Values.{few_stripes}
-use Rattle.scene.specs.Entries.{marks_at}
 use native.Mathlib.Omega.{arith}
 use mathlib.Core.Path.{ap, ◌∙◌}
-use Prim.Native.Nat.{◌-◌}
-use borrow.Author.Tests.{not-true, not-false}
-use borrow.Author.Rules.{rules}
 use Rattle.check_measures.proofs.values.all_few_stripes.Goals as goal
 
 pub loop-i-init : goal.loop-i-init
@@ -18,11 +14,11 @@ read_marks-requires c =
 
 pub returns-then-not-few_stripes : goal.returns-then-not-few_stripes
 returns-then-not-few_stripes c =
-    passed-fails _ _ _ c.loop-i.invariant c.loop-i-test.true (c.few_stripes.ensures ∙ ap few_stripes c.read_marks.ensures) (not-true _ c.if-not-few_stripes.true)
+    passed-fails _ _ _ c.loop-i.invariant c.loop-i-test.true (c.few_stripes.ensures ∙ ap few_stripes c.read_marks.ensures) c.if-not-few_stripes.true
 
 pub loop-i-preserved : goal.loop-i-preserved
 loop-i-preserved c =
-    passed-turn _ _ _ c.loop-i.invariant c.loop-i-test.true (c.few_stripes.ensures ∙ ap few_stripes c.read_marks.ensures) (not-false _ c.if-not-few_stripes.false)
+    passed-turn _ _ _ c.loop-i.invariant c.loop-i-test.true (c.few_stripes.ensures ∙ ap few_stripes c.read_marks.ensures) c.if-not-few_stripes.false
 
 pub returns : goal.returns
 returns c =

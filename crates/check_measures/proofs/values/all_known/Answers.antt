@@ -1,11 +1,7 @@
-use Rattle.lists.proofs.Tests.{Passed, passed_start, passed-turn, passed-fails, passed-end}
+use Rattle.lists.proofs.Tests.{passed_start, passed-turn, passed-fails, passed-end}
 use Rattle.check_measures.specs.Values.{known}
-use Rattle.scene.specs.Entries.{marks_at}
 use native.Mathlib.Omega.{arith}
 use mathlib.Core.Path.{ap, ◌∙◌}
-use Prim.Native.Nat.{◌-◌}
-use borrow.Author.Tests.{not-true, not-false}
-use borrow.Author.Rules.{rules}
 use Rattle.check_measures.proofs.values.all_known.Goals as goal
 
 pub loop-i-init : goal.loop-i-init
@@ -18,11 +14,11 @@ read_marks-requires c =
 
 pub returns-then-not-known : goal.returns-then-not-known
 returns-then-not-known c =
-    passed-fails _ _ _ c.loop-i.invariant c.loop-i-test.true (c.known.ensures ∙ ap known c.read_marks.ensures) (not-true _ c.if-not-known.true)
+    passed-fails _ _ _ c.loop-i.invariant c.loop-i-test.true (c.known.ensures ∙ ap known c.read_marks.ensures) c.if-not-known.true
 
 pub loop-i-preserved : goal.loop-i-preserved
 loop-i-preserved c =
-    passed-turn _ _ _ c.loop-i.invariant c.loop-i-test.true (c.known.ensures ∙ ap known c.read_marks.ensures) (not-false _ c.if-not-known.false)
+    passed-turn _ _ _ c.loop-i.invariant c.loop-i-test.true (c.known.ensures ∙ ap known c.read_marks.ensures) c.if-not-known.false
 
 pub returns : goal.returns
 returns c =

@@ -1,11 +1,7 @@
-use Rattle.lists.proofs.Tests.{Passed, passed_start, passed-turn, passed-fails, passed-end}
+use Rattle.lists.proofs.Tests.{Passed}
 use Rattle.check_measures.specs.Values.{known}
 use Rattle.scene.specs.Entries.{marks_at}
-use native.Mathlib.Omega.{arith}
-use mathlib.Core.Path.{ap, ◌∙◌}
 use Prim.Native.Nat.{◌-◌}
-use borrow.Author.Tests.{not-true, not-false}
-use borrow.Author.Rules.{rules}
 use Rattle.check_measures.proofs.values.all_known.Given as goal
 
 abbrev pub invariant-loop-i : goal.invariant-loop-i

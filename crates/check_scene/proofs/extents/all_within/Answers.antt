@@ -21,11 +21,11 @@ write_box-requires c =
 
 pub shape_of-boxes-then-not-within_box : goal.shape_of-boxes-then-not-within_box
 shape_of-boxes-then-not-within_box c =
-    c.write_box.auto.0 ∙ c.loop-i.invariant.same
+    c.write_box.auto.xs ∙ c.loop-i.invariant.same
 
 pub returns-then-not-within_box : goal.returns-then-not-within_box
 returns-then-not-within_box c =
-    let args = c.args in let pre = c.requires in record { value = filling-fails _ _ _ _ _ _ _ _ c.loop-i.invariant c.loop-i-test.true (c.within_box.ensures ∙ ap within_box (formed _ _ _ pre.1 args.boxes.now c.loop-i.boxes _ c.loop-i-test.true pre.0 c.loop-i.invariant.same c.loop-i.invariant.filled c.entry_at-e.ensures c.entry_box-b.ensures)) (not-true _ c.if-not-within_box.true); boxes_after = never }
+    let args = c.args in let pre = c.requires in record { value = filling-fails _ _ _ _ _ _ _ _ c.loop-i.invariant c.loop-i-test.true (c.within_box.ensures ∙ ap within_box (formed _ _ _ pre.1 args.boxes.now c.loop-i.boxes _ c.loop-i-test.true pre.0 c.loop-i.invariant.same c.loop-i.invariant.filled c.entry_at-e.ensures c.entry_box-b.ensures)) c.if-not-within_box.true; boxes_after = never }
 
 pub overflow_add-i : goal.overflow_add-i
 overflow_add-i c =
@@ -37,7 +37,7 @@ loop-i-smaller c =
 
 pub loop-i-preserved : goal.loop-i-preserved
 loop-i-preserved c =
-    let args = c.args in let pre = c.requires in filling-turn _ _ _ _ _ _ _ _ c.loop-i.invariant c.loop-i-test.true (c.within_box.ensures ∙ ap within_box (formed _ _ _ pre.1 args.boxes.now c.loop-i.boxes _ c.loop-i-test.true pre.0 c.loop-i.invariant.same c.loop-i.invariant.filled c.entry_at-e.ensures c.entry_box-b.ensures)) pre.0 (box_row c.entry_box-b.result) refl (formed _ _ _ pre.1 args.boxes.now c.loop-i.boxes _ c.loop-i-test.true pre.0 c.loop-i.invariant.same c.loop-i.invariant.filled c.entry_at-e.ensures c.entry_box-b.ensures) c.write_box.ensures (not-false _ c.if-not-within_box.false)
+    let args = c.args in let pre = c.requires in filling-turn _ _ _ _ _ _ _ _ c.loop-i.invariant c.loop-i-test.true (c.within_box.ensures ∙ ap within_box (formed _ _ _ pre.1 args.boxes.now c.loop-i.boxes _ c.loop-i-test.true pre.0 c.loop-i.invariant.same c.loop-i.invariant.filled c.entry_at-e.ensures c.entry_box-b.ensures)) pre.0 (box_row c.entry_box-b.result) refl (formed _ _ _ pre.1 args.boxes.now c.loop-i.boxes _ c.loop-i-test.true pre.0 c.loop-i.invariant.same c.loop-i.invariant.filled c.entry_at-e.ensures c.entry_box-b.ensures) c.write_box.ensures c.if-not-within_box.false
 
 pub shape_of-boxes : goal.shape_of-boxes
 shape_of-boxes c =

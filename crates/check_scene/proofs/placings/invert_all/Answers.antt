@@ -19,11 +19,11 @@ invert-requires c =
 
 pub shape_of-inverses-then-not-invert : goal.shape_of-inverses-then-not-invert
 shape_of-inverses-then-not-invert c =
-    c.invert.auto.1.1.1.0 ∙ c.loop-i.invariant.same
+    c.invert.auto.inverses ∙ c.loop-i.invariant.same
 
 pub returns-then-not-invert : goal.returns-then-not-invert
 returns-then-not-invert c =
-    record { value = filling-fails _ _ _ _ _ _ _ _ c.loop-i.invariant c.loop-i-test.true c.invert.ensures.value (not-true _ c.if-not-invert.true); inverses_after = never }
+    record { value = filling-fails _ _ _ _ _ _ _ _ c.loop-i.invariant c.loop-i-test.true c.invert.ensures.value c.if-not-invert.true; inverses_after = never }
 
 pub overflow_add-i : goal.overflow_add-i
 overflow_add-i c =
@@ -35,7 +35,7 @@ loop-i-smaller c =
 
 pub loop-i-preserved : goal.loop-i-preserved
 loop-i-preserved c =
-    let args = c.args in let pre = c.requires in filling-turn _ _ _ _ _ _ _ _ c.loop-i.invariant c.loop-i-test.true c.invert.ensures.value pre.1 (numbers_row (inverse_at args.numbers.now args.marks.now c.loop-i.i)) refl refl c.invert.ensures.inverses_after (not-false _ c.if-not-invert.false)
+    let args = c.args in let pre = c.requires in filling-turn _ _ _ _ _ _ _ _ c.loop-i.invariant c.loop-i-test.true c.invert.ensures.value pre.1 (numbers_row (inverse_at args.numbers.now args.marks.now c.loop-i.i)) refl refl c.invert.ensures.inverses_after c.if-not-invert.false
 
 pub shape_of-inverses : goal.shape_of-inverses
 shape_of-inverses c =

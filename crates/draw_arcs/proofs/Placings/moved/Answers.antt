@@ -1,6 +1,6 @@
 use Rattle.draw_arcs.proofs.Moving.{Moving, moving-start, moving-turn, moving-end}
-use mathlib.Core.Path.{◌≡◌, sym, ◌∙◌}
-use lib.ListN.{length, length-map}
+use mathlib.Core.Path.{◌≡◌}
+use lib.ListN.{length}
 use Prim.Native.Nat.{◌-◌}
 use native.Mathlib.Omega.{arith}
 use borrow.Author.Rules.{rules}
@@ -12,10 +12,10 @@ loop-i-init c =
 
 pub loop-i-preserved : goal.loop-i-preserved
 loop-i-preserved c =
-    let args = c.args in let long : length args.self.held ≡ 8 = sym (length-map args.self.held _) ∙ c.well_formed.0.1.1.1.0.1.0.1 in
+    let args = c.args in let long : length args.self.held ≡ 8 = omega arith in
     moving-turn args.self.held args.self.free args.v c.loop-i.p c.loop-i.i c.loop-i.invariant (omega (arith, c.loop-i-test.true, long)) _ c.mul_position-p.ensures
 
 pub returns : goal.returns
 returns c =
-    let args = c.args in let long : length args.self.held ≡ 8 = sym (length-map args.self.held _) ∙ c.well_formed.0.1.1.1.0.1.0.1 in
+    let args = c.args in let long : length args.self.held ≡ 8 = omega arith in
     moving-end args.self.held args.self.free args.v c.loop-i.p c.loop-i.i c.loop-i.invariant (omega (arith, c.loop-i-test.false, long))

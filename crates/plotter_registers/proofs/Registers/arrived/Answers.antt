@@ -1,6 +1,5 @@
 use borrow.Author.Tests.{eq-eqb, ne_eqb}
 use Rattle.plotter_registers.specs.Plotter as Plotter
-use borrow.Author.Rules.{rules}
 use Rattle.plotter_registers.proofs.Registers.arrived.Goals as goal
 
 pub returns-then-mask-ne0 : goal.returns-then-mask-ne0

@@ -1,6 +1,5 @@
 use borrow.Author.Tests.{lt-ltb, le-ltb, eq-eqb, ne_eqb}
 use Rattle.plotter_registers.specs.Plotter as Plotter
-use borrow.Author.Rules.{rules}
 use Rattle.plotter_registers.proofs.Registers.judged.Goals as goal
 
 pub returns-then-at-eq1 : goal.returns-then-at-eq1

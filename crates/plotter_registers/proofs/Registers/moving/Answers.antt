@@ -1,6 +1,5 @@
 use mathlib.Core.Path.{refl}
 use Rattle.plotter_registers.specs.Plotter as Plotter
-use borrow.Author.Rules.{rules}
 use Rattle.plotter_registers.proofs.Registers.moving.Goals as goal
 
 pub returns : goal.returns

@@ -1,5 +1,4 @@
 use mathlib.Core.Path.{sym, ◌∙◌}
-use borrow.Author.Rules.{rules}
 use Rattle.plotter_registers.specs.Plotter as Plotter
 use Rattle.plotter_registers.proofs.Accepting.{accepted-below}
 use Rattle.plotter_registers.proofs.Registers.written.Goals as goal

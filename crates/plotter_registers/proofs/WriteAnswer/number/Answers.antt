@@ -1,5 +1,4 @@
 use Rattle.plotter_registers.specs.Plotter as Plotter
-use borrow.Author.Rules.{rules}
 use Rattle.plotter_registers.proofs.WriteAnswer.number.Goals as goal
 
 pub returns-in-Accepted : goal.returns-in-Accepted

@@ -1,5 +1,4 @@
 use Rattle.query_solid.specs.Answers.{contained_number}
-use borrow.Author.Rules.{rules}
 use Rattle.query_solid.proofs.answers.contained_number.Goals as goal
 
 pub returns-in-Inside : goal.returns-in-Inside

@@ -1,6 +1,5 @@
 use Rattle.query_solid.specs.Answers.{distance}
 use lib.Ieee.{of_bits}
-use borrow.Author.Rules.{rules}
 use Rattle.query_solid.proofs.answers.distance.Goals as goal
 
 pub returns-in-At : goal.returns-in-At

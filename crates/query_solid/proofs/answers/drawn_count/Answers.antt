@@ -1,5 +1,4 @@
 use Rattle.query_solid.specs.Answers.{drawn_count}
-use borrow.Author.Rules.{rules}
 use Rattle.query_solid.proofs.answers.drawn_count.Goals as goal
 
 pub returns-in-Accepted : goal.returns-in-Accepted

@@ -1,5 +1,4 @@
 use Rattle.query_solid.specs.Answers.{inside}
-use borrow.Author.Rules.{rules}
 use Rattle.query_solid.proofs.answers.inside.Goals as goal
 
 pub returns-in-Inside : goal.returns-in-Inside

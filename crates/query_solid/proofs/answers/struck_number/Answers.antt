@@ -1,5 +1,4 @@
 use Rattle.query_solid.specs.Answers.{struck_number}
-use borrow.Author.Rules.{rules}
 use Rattle.query_solid.proofs.answers.struck_number.Goals as goal
 
 pub returns-in-At : goal.returns-in-At

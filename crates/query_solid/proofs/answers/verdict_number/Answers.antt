@@ -1,5 +1,4 @@
 use Rattle.query_solid.specs.Answers.{verdict_number}
-use borrow.Author.Rules.{rules}
 use Rattle.query_solid.proofs.answers.verdict_number.Goals as goal
 
 pub returns-in-Accepted : goal.returns-in-Accepted

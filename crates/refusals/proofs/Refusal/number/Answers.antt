@@ -1,4 +1,3 @@
-use borrow.Author.Rules.{rules}
 use Rattle.refusals.specs.Refusals.{number_of}
 use Rattle.refusals.proofs.Refusal.number.Goals as goal
 

@@ -1,4 +1,3 @@
-use borrow.Author.Rules.{rules}
 use Rattle.scene.proofs.Parts.{composite-is}
 use Rattle.scene.proofs.entry.composite_of.Goals as goal
 

@@ -1,4 +1,3 @@
-use borrow.Author.Rules.{rules}
 use Rattle.scene.specs.Entries.{simple_or, entry_of}
 use Rattle.scene.proofs.entry.entry_of.Goals as goal
 

@@ -1,5 +1,3 @@
-use borrow.Author.Rules.{rules}
-use mathlib.Core.Path.{refl}
 use Rattle.scene.proofs.entry.parts_at.Goals as goal
 
 pub returns : goal.returns

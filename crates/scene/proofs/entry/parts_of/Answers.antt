@@ -1,6 +1,4 @@
 use borrow.Author.Tests.{eq-eqb, ne_eqb, le-leb, lt-leb}
-use borrow.Author.Rules.{rules}
-use mathlib.Core.Path.{refl}
 use Rattle.scene.specs.Entries.{parts_of}
 use Rattle.scene.proofs.entry.parts_of.Goals as goal
 

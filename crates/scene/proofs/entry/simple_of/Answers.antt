@@ -1,6 +1,4 @@
 use borrow.Author.Tests.{eq-eqb, ne_eqb}
-use borrow.Author.Rules.{rules}
-use mathlib.Core.Path.{refl}
 use Rattle.scene.specs.Entries.{simple_of, closed_of}
 use Rattle.scene.proofs.entry.simple_of.Goals as goal
 

@@ -1,4 +1,3 @@
-use borrow.Author.Rules.{rules}
 use Rattle.geometry.specs.Boxes.{partition_of}
 use Rattle.geometry.proofs.bounding_box.BBox.partition.Goals as goal
 

@@ -1,4 +1,3 @@
-use borrow.Author.Rules.{rules}
 use Rattle.solids.specs.Solids.{solid_box}
 use Rattle.solids.proofs.solid.Solid.bounding_box.Goals as goal
 

@@ -1,4 +1,3 @@
-use borrow.Author.Rules.{rules}
 use Rattle.solids.specs.Solids.{contains_of}
 use Rattle.solids.proofs.solid.Solid.contains.Goals as goal
 

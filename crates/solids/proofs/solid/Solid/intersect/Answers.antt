@@ -1,5 +1,4 @@
 use mathlib.Core.Path.{◌∙◌}
-use borrow.Author.Rules.{rules}
 use Rattle.solids.specs.Solids.{hit_of}
 use Rattle.solids.proofs.solid.Solid.intersect.Goals as goal
 
