@@ -28,7 +28,7 @@ use Rattle.tree_sight.specs.Sights.{eye_ray, by_distance, sees}
 use Rattle.tree_sight.specs.declared.Sight.{Sight}
 use Rattle.tree_sight.specs.declared.Sight.TheVariants.{Visible, Hidden, Refused as NotSeen}
 use Rattle.tree_cover.specs.Seeking.{sought_on, scan_to, go_on, seek_on, seek_rows, by_sought, covered_by}
-use Rattle.tree_cover.specs.Agreeing.{Agrees, SameOrHidden, CoveredAgrees, NoOnlyIfShort, or_short, or_covered, or_hidden, CoveredEnds}
+use Rattle.tree_cover.specs.Agreeing.{Agrees, SameOrHidden, CoveredAgrees, NoOnlyIfShort, or_covered, or_hidden, CoveredEnds}
 use Rattle.refusals.specs.declared.Refusal.{Refusal}
 use Rattle.tree_cover.specs.declared.Sought.{Sought}
 use Rattle.tree_cover.specs.declared.Sought.TheVariants.{Open, Covered, Refused}

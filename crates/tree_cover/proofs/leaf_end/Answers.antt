@@ -1,6 +1,5 @@
 use Rattle.tree_cover.specs.Seeking.{leaf_end}
 use borrow.Author.Tests.{lt-ltb, le-ltb}
-use borrow.Author.Rules.{rules}
 use Rattle.tree_cover.proofs.leaf_end.Goals as goal
 
 pub returns-then-first-count : goal.returns-then-first-count

@@ -1,12 +1,8 @@
 use mathlib.Core.Path.{refl}
-use Prim.Native.Nat.{◌-◌}
 use native.Mathlib.Omega.{arith}
-use Rattle.tree_nodes.specs.Nodes.{node_at, places_of}
-use Rattle.tree_walk.specs.Walks.{entry_hit}
-use Rattle.tree_walk.proofs.Rounds.{Walking, piled, walking_start, walking-empty, walking-end, walking-gone, walking-box, walking-marks, walking_skip, walking-into, walking-past, walking-full, walking-down}
-use Rattle.tree_cover.specs.Seeking.{seek_on, seek_rows}
-use Rattle.tree_cover.proofs.Turns.{Leafing, seek-rounds, leafing-start, leafing-end, leafing-refused, leafing-short, leafing-turn}
-use borrow.Author.Rules.{rules}
+use Rattle.tree_walk.proofs.Rounds.{walking_start, walking-empty, walking-end, walking-gone, walking-box, walking-marks, walking_skip, walking-into, walking-past, walking-full, walking-down}
+use Rattle.tree_cover.specs.Seeking.{seek_rows}
+use Rattle.tree_cover.proofs.Turns.{seek-rounds, leafing-start, leafing-end, leafing-refused, leafing-short, leafing-turn}
 use Rattle.tree_cover.proofs.seek.Goals as goal
 
 pub walk-init : goal.walk-init

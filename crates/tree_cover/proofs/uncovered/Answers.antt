@@ -1,5 +1,4 @@
 use Rattle.tree_cover.specs.Seeking.{by_sought}
-use borrow.Author.Rules.{rules}
 use Rattle.tree_cover.proofs.uncovered.Goals as goal
 
 pub returns-in-Open : goal.returns-in-Open
