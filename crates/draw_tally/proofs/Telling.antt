@@ -1,12 +1,12 @@
 -- The tallies are the counts of the stages. Assumes nothing.
-use mathlib.Core.Path.{◌≡◌, refl, sym, ap, ap₂, ◌∙◌, subst}
+use mathlib.Core.Path.{◌≡◌, refl, ap, ap₂, ◌∙◌}
 use mathlib.Core.Logic.{◌⊎◌, inl, inr}
-use mathlib.Core.Bool.{Bool, true, false, cond, ◌&&◌}
+use mathlib.Core.Bool.{Bool, true, false, cond}
 use mathlib.Core.List.{List, [], ◌∷◌, ◌++◌}
 use Prim.Native.Nat.{ℕ, ◌+◌, ◌-◌, ◌≤◌, ◌<◌}
 use native.Mathlib.Omega.{arith}
 use borrow.Author.Tests.{lt-ltb, le-ltb, le-leb, leb-true, leb-false}
-use lib.ListN.{length, take, get_or, length-append}
+use lib.ListN.{length, get_or, length-append}
 use lib.Seq.{length-take-le, get_or_at}
 use lib.Dec.{ltb, leb, eqb}
 use lib.Ieee.{Float}
@@ -18,7 +18,7 @@ use Rattle.paths.specs.Answers.{Answer, answered, refused, next}
 use Rattle.paths.specs.Paths.{Paths, paths_with, no_paths, push, push_all, opened, front, closed_starts, closed, one_path, each, stage, paths_of}
 use Rattle.paths.specs.Ends.{counted}
 use Rattle.paths.specs.declared.Counts.{Counts}
-use Rattle.paths.specs.declared.Counts.TheVariants.{Both, Refused as NotBoth}
+use Rattle.paths.specs.declared.Counts.TheVariants.{Both}
 use Rattle.paths.proofs.Runs.{extend_fits, extend-full}
 use Rattle.path_filter.specs.Filter.{stepped, filtered_from, path_filter, filter_paths}
 use Rattle.path_filter.specs.declared.Test.{Test}

@@ -1,14 +1,14 @@
 -- The loop of a glance: the places that are still to be looked at, and what the rest of the tree comes to. Assumes nothing.
-use mathlib.Core.Path.{◌≡◌, refl, sym, ap, subst, ◌∙◌}
-use mathlib.Core.Logic.{◌⊎◌, inl, inr}
+use mathlib.Core.Path.{◌≡◌, sym, ap, subst, ◌∙◌}
+use mathlib.Core.Logic.{inl, inr}
 use mathlib.Core.List.{List, [], ◌∷◌}
-use mathlib.Core.Bool.{Bool, true, false, not, cond, ◌||◌}
-use Prim.Native.Nat.{ℕ, suc, ◌+◌, ◌-◌, ◌*◌, ◌≤◌, ◌<◌}
+use mathlib.Core.Bool.{Bool, true, false, not}
+use Prim.Native.Nat.{ℕ, suc, ◌+◌, ◌-◌, ◌≤◌, ◌<◌}
 use native.Mathlib.Omega.{arith}
-use lib.ListN.{length, get_or, set, length-set, take, drop}
+use lib.ListN.{length, get_or, set, length-set}
 use lib.Seq.{get_or-set_same}
-use lib.Dec.{T, ltb, eqb}
-use lib.Ieee.{Float, lt, le}
+use lib.Dec.{T}
+use lib.Ieee.{Float, lt}
 use borrow.Author.Tests.{ltb-true}
 use Rattle.floats.proofs.Tests.{clash}
 use Rattle.geometry.specs.Boxes.{box_test, passes}
@@ -29,7 +29,7 @@ use Rattle.tree_walk.proofs.Rounds.{piled, piled-set, piled-top}
 use Rattle.tree_walk.proofs.Layouts.{Stack}
 use Rattle.tree_trust.specs.Trust.{tree_box, Nests}
 use Rattle.tree_glance.specs.Glances.{LeafIn}
-use Rattle.tree_glance.proofs.Leaves.{Answering, Clear, Far}
+use Rattle.tree_glance.proofs.Leaves.{Answering, Clear}
 
 true≢false : {A : Type 0} → true ≡ false → A
 true≢false e = clash (sym e)

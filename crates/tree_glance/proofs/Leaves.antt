@@ -1,6 +1,6 @@
 -- What a walk answers by the leaves alone: it meets no refusal on a tree that is shallow and whose entries answer (visit-answered); it falls short of a distance where a leaf that passes the
 -- test, entered before it, has an entry that does (leaf-falls-short); and it does not where no leaf that it can come to has one (clear-reaches). Assumes nothing.
-use mathlib.Core.Path.{◌≡◌, refl, sym, ap, ◌∙◌, subst}
+use mathlib.Core.Path.{◌≡◌, refl, subst}
 use mathlib.Core.Logic.{◌⊎◌, inl, inr}
 use mathlib.Core.List.{List, [], ◌∷◌}
 use mathlib.Core.Bool.{Bool, true, false, not, cond, ◌&&◌, ◌||◌}

@@ -1,16 +1,13 @@
 -- The turns of a glance, in the order in which the code makes them. Assumes nothing.
 use mathlib.Core.Path.{◌≡◌, refl, sym, ap, subst, ◌∙◌}
-use mathlib.Core.Logic.{◌⊎◌, inl, inr}
-use mathlib.Core.List.{List, [], ◌∷◌}
-use mathlib.Core.Bool.{Bool, true, false, not, cond, ◌||◌}
-use Prim.Native.Nat.{ℕ, suc, ◌+◌, ◌-◌, ◌*◌, ◌≤◌, ◌<◌}
-use native.Mathlib.Omega.{arith}
+use mathlib.Core.List.{List}
+use mathlib.Core.Bool.{Bool, true, false, not, ◌||◌}
+use Prim.Native.Nat.{ℕ, ◌+◌, ◌-◌, ◌*◌, ◌≤◌, ◌<◌}
 use lib.ListN.{length, get_or, set, take, drop}
 use lib.Dec.{T, ltb, eqb}
 use lib.Ieee.{Float, lt, le}
 use borrow.Author.Tests.{ltb-true}
 use Rattle.floats.specs.Arith.{INF}
-use Rattle.floats.proofs.Tests.{clash}
 use Rattle.geometry.specs.Boxes.{box_test, passes}
 use Rattle.geometry.specs.Limits.{Sound, Usable}
 use Rattle.geometry.specs.declared.ray.Ray.{Ray}
@@ -30,10 +27,10 @@ use Rattle.tree_walk.specs.declared.Children.{Children}
 use Rattle.tree_walk.specs.Walks.{children_of, leaf_entries, walk_rows}
 use Rattle.tree_walk.specs.Standing.{Stands}
 use Rattle.tree_walk.proofs.Rounds.{places-box}
-use Rattle.tree_glance.specs.declared.Glance.TheVariants.{Hidden, Visible, Unsure}
+use Rattle.tree_glance.specs.declared.Glance.TheVariants.{Hidden, Visible}
 use Rattle.tree_trust.specs.Trust.{whole_tree, tree_box, Trusted}
 use Rattle.tree_glance.specs.Glances.{LastCover, AllAnswer, Shorter, Tells, ended_of}
-use Rattle.tree_glance.proofs.Leaves.{Answering, Clear}
+use Rattle.tree_glance.proofs.Leaves.{Answering}
 use Rattle.tree_glance.proofs.Glancing.{Hides, Done, failed-done, Part, Glancing, Fork, fork, tree-sound, there, leaf-answers, leaf-clear, leaf-in, glancing-start, glancing-end, answers-end, glancing-back, glancing-hidden, go-near, go-far, go-neither, go_both}
 use Rattle.tree_glance.proofs.Endings.{whole_tells, hides-tells, clear-tells, all-answering, kept-cover}
 

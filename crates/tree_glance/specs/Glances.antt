@@ -1,9 +1,7 @@
 -- The eye test by a glance: what is asked of a tree, of the solids and of what is kept, and what a glance's answer says of the full walk.
-use Rattle.std.specs.Prelude.{◌≡◌, ◌⊎◌, Bool, true, false, not, cond, ◌&&◌, List, [], ◌∷◌, ℕ, zero, suc, ◌+◌, ◌*◌, ◌≤◌, ◌<◌, length, get_or, T, ltb, Float}
+use Rattle.std.specs.Prelude.{◌≡◌, ◌⊎◌, Bool, true, false, not, cond, ◌&&◌, List, [], ◌∷◌, ℕ, zero, suc, ◌+◌, ◌*◌, ◌≤◌, length, get_or, T, ltb, Float}
 use Rattle.std.specs.Float.Ieee.{lt, le}
-use Rattle.floats.specs.Arith.{INF}
 use Rattle.geometry.specs.Boxes.{box_test, passes}
-use Rattle.geometry.specs.Limits.{Sound, Inside}
 use Rattle.geometry.specs.declared.ray.Ray.{Ray}
 use Rattle.geometry.specs.declared.hit.Hit.{Hit}
 use Rattle.geometry.specs.declared.bounding_box.BBox.{BBox}
@@ -12,14 +10,13 @@ use Rattle.rows.specs.Points.{box_of_row}
 use Rattle.lists.specs.Lists.{Member}
 use Rattle.tree_nodes.specs.Trees.{Tree, leaf, split}
 use Rattle.tree_trust.specs.Trust.{whole_tree}
-use Rattle.tree_nodes.specs.Nodes.{node_at, places_of, is_leaf}
+use Rattle.tree_nodes.specs.Nodes.{node_at, is_leaf}
 use Rattle.tree_nodes.specs.declared.Node.{Node}
 use Rattle.scene_shape.specs.declared.Struck.{Struck}
 use Rattle.scene_shape.specs.declared.Struck.TheVariants.{At, Refused as NotStruck}
 use Rattle.tree_beams.specs.Beams.{misses_box}
 use Rattle.tree_beams.specs.declared.Beam.{Beam}
-use Rattle.tree_walk.specs.Walks.{leaf_entries, entry_hit, children_of, backward}
-use Rattle.tree_walk.specs.Standing.{Stands}
+use Rattle.tree_walk.specs.Walks.{leaf_entries, children_of, backward}
 use Rattle.tree_walk.specs.declared.Nearest.{Nearest}
 use Rattle.tree_walk.specs.declared.Found.{Found}
 use Rattle.tree_walk.specs.declared.Found.TheVariants.{Best}

@@ -18,13 +18,13 @@ use Rattle.rows.specs.Points.{box_of_row, box_row}
 use Rattle.rows.specs.Entries.{triple_of, triple_row}
 use Rattle.rows.proofs.Rows.{get_d-row, length-flat, get_d-padded}
 use Rattle.tree_nodes.specs.Trees.{Tree, leaf, split, leaves, below_root, root_of, below_of, layout}
-use Rattle.tree_nodes.specs.Nodes.{node_at, marks_of_node, places_of, is_leaf, box_rows, mark_rows}
+use Rattle.tree_nodes.specs.Nodes.{node_at, marks_of_node, places_of, box_rows, mark_rows}
 use Rattle.tree_nodes.specs.declared.Node.{Node}
 use Rattle.scene_shape.specs.declared.Struck.{Struck}
 use Rattle.tree_walk.specs.declared.Nearest.{Nearest}
 use Rattle.tree_walk.specs.declared.Found.TheVariants.{Best}
 use Rattle.tree_walk.specs.Standing.{Stands}
-use Rattle.tree_walk.specs.Walks.{nothing, scan, backward, children_of, leaf_entries, visit, walk_on, walk_rows}
+use Rattle.tree_walk.specs.Walks.{nothing, scan, backward, children_of, visit, walk_on, walk_rows}
 use Rattle.tree_nodes.specs.Members.{Sensible}
 use Rattle.tree_nodes.proofs.Nodes.{node_at_lem}
 use Rattle.tree_walk.proofs.Rounds.{round-gone, round-skip, round-leaf}

@@ -8,7 +8,6 @@ use Rattle.rows.specs.Points.{box_of_row, box_row}
 use Rattle.floats.specs.Arith.{zero_f}
 use native.Mathlib.Omega.{arith}
 use mathlib.Core.Path.{refl, sym, ◌∙◌}
-use borrow.Author.Rules.{rules}
 use Rattle.check_scene.proofs.check_in.Goals as goal
 
 pub overflow_mul-n : goal.overflow_mul-n

@@ -2,11 +2,9 @@ use Prim.Native.Nat.{◌/◌}
 use Rattle.check_scene.proofs.Verdicts.{lengths-few, lengths-numbers, is-lengths, is-values, is-striped, is-named, is-owners, is-starts, is-measures, is-placing, is-extent, is-accepted, not-accepted, held-as}
 use Rattle.check_scene.proofs.Reading.{stored-entry}
 use Rattle.check_parts.proofs.Drawn.{unnamed-as}
-use borrow.Author.Tests.{not-true, not-false}
 use native.Mathlib.Omega.{arith}
 use lib.ListN.{length}
 use mathlib.Core.Path.{sym, ap, ◌∙◌}
-use borrow.Author.Rules.{rules}
 use Rattle.check_scene.proofs.judge.Goals as goal
 
 pub returns-then-not-lengths_agree : goal.returns-then-not-lengths_agree

@@ -1,6 +1,5 @@
 use Rattle.check_scene.specs.Checks.{lengths_agree}
 use borrow.Author.Tests.{le-leb, lt-leb, eq-eqb, ne_eqb}
-use borrow.Author.Rules.{rules}
 use Rattle.check_scene.proofs.lengths_agree.Goals as goal
 
 pub returns-then-n-gt1024 : goal.returns-then-n-gt1024

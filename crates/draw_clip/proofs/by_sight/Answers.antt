@@ -1,5 +1,4 @@
 use Rattle.draw_clip.specs.Clip.{by_sight}
-use borrow.Author.Rules.{rules}
 use Rattle.draw_clip.proofs.by_sight.Goals as goal
 
 pub returns-in-Visible : goal.returns-in-Visible

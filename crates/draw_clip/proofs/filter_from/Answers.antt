@@ -33,11 +33,11 @@ shape_of-known-in-Refused c =
 
 pub shape_of-out-in-Refused : goal.shape_of-out-in-Refused
 shape_of-out-in-Refused c =
-    c.step-r.auto.1.0 ∙ c.loop-i.invariant.0.same
+    c.step-r.auto.out ∙ c.loop-i.invariant.0.same
 
 pub shape_of-begins-in-Refused : goal.shape_of-begins-in-Refused
 shape_of-begins-in-Refused c =
-    c.step-r.auto.1.1.0 ∙ c.loop-i.invariant.0.same-starts
+    c.step-r.auto.begins ∙ c.loop-i.invariant.0.same-starts
 
 pub shape_of-cover-in-Refused : goal.shape_of-cover-in-Refused
 shape_of-cover-in-Refused c =
@@ -61,7 +61,7 @@ loop-i-smaller c =
 
 pub loop-i-preserved : goal.loop-i-preserved
 loop-i-preserved c =
-    (filtering-turn _ _ _ _ _ _ _ _ _ _ _ _ _ c.loop-i.invariant.0 c.loop-i-test.true _ _ c.read_point-v.ensures c.point_filter-t.ensures.0 _ _ c.step-r.ensures c.step-r.auto.1.0 c.step-r.auto.1.1.0 c.in-Both.is, c.point_filter-t.ensures.1, c.point_filter-t.ensures.2)
+    (filtering-turn _ _ _ _ _ _ _ _ _ _ _ _ _ c.loop-i.invariant.0 c.loop-i-test.true _ _ c.read_point-v.ensures c.point_filter-t.ensures.0 _ _ c.step-r.ensures c.step-r.auto.out c.step-r.auto.begins c.in-Both.is, c.point_filter-t.ensures.1, c.point_filter-t.ensures.2)
 
 pub shape_of-ends : goal.shape_of-ends
 shape_of-ends c =

@@ -44,11 +44,11 @@ path_filter-r-requires c =
 
 pub shape_of-out-in-Refused : goal.shape_of-out-in-Refused
 shape_of-out-in-Refused c =
-    c.path_filter-r.auto.1.1.1.1.1.1.1.1.1.1.1.1.1.0 ∙ c.loop-i.invariant.0.same
+    c.path_filter-r.auto.out ∙ c.loop-i.invariant.0.same
 
 pub shape_of-begins-in-Refused : goal.shape_of-begins-in-Refused
 shape_of-begins-in-Refused c =
-    c.path_filter-r.auto.1.1.1.1.1.1.1.1.1.1.1.1.1.1.0 ∙ c.loop-i.invariant.0.same-starts
+    c.path_filter-r.auto.begins ∙ c.loop-i.invariant.0.same-starts
 
 pub returns-in-Refused : goal.returns-in-Refused
 returns-in-Refused c =
@@ -64,7 +64,7 @@ loop-i-smaller c =
 
 pub loop-i-preserved : goal.loop-i-preserved
 loop-i-preserved c =
-    (staging-turn _ _ _ _ _ _ _ _ _ _ c.loop-i.invariant.0 c.loop-i-test.true _ c.range_of-p.ensures _ _ c.path_filter-r.ensures.0 c.path_filter-r.auto.1.1.1.1.1.1.1.1.1.1.1.1.1.0 c.path_filter-r.auto.1.1.1.1.1.1.1.1.1.1.1.1.1.1.0 c.in-Both.is, c.path_filter-r.ensures.1, c.path_filter-r.ensures.2)
+    (staging-turn _ _ _ _ _ _ _ _ _ _ c.loop-i.invariant.0 c.loop-i-test.true _ c.range_of-p.ensures _ _ c.path_filter-r.ensures.0 c.path_filter-r.auto.out c.path_filter-r.auto.begins c.in-Both.is, c.path_filter-r.ensures.1, c.path_filter-r.ensures.2)
 
 pub shape_of-out : goal.shape_of-out
 shape_of-out c =

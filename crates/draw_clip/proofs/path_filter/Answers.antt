@@ -21,8 +21,8 @@ returns-in-Refused c =
 
 pub returns-in-Refused-r : goal.returns-in-Refused-r
 returns-in-Refused-r c =
-    let args = c.args in (path-refused _ _ args.out.now args.begins.now args.n args.m _ c.new_path-o.ensures c.in-At.is c.new_path-o.auto.0 _ _ c.filter_from-r.ensures.0 c.in-Refused-r.is, c.filter_from-r.ensures.1, c.filter_from-r.ensures.2)
+    let args = c.args in (path-refused _ _ args.out.now args.begins.now args.n args.m _ c.new_path-o.ensures c.in-At.is c.new_path-o.auto.starts _ _ c.filter_from-r.ensures.0 c.in-Refused-r.is, c.filter_from-r.ensures.1, c.filter_from-r.ensures.2)
 
 pub returns-in-Both : goal.returns-in-Both
 returns-in-Both c =
-    let args = c.args in (path-done _ _ args.out.now args.begins.now args.n args.m _ c.new_path-o.ensures c.in-At.is c.new_path-o.auto.0 _ _ c.filter_from-r.ensures.0 _ c.in-Both.is c.close-z.ensures.0 c.close-z.ensures.1, c.filter_from-r.ensures.1, c.filter_from-r.ensures.2)
+    let args = c.args in (path-done _ _ args.out.now args.begins.now args.n args.m _ c.new_path-o.ensures c.in-At.is c.new_path-o.auto.starts _ _ c.filter_from-r.ensures.0 _ c.in-Both.is c.close-z.ensures.0 c.close-z.ensures.1, c.filter_from-r.ensures.1, c.filter_from-r.ensures.2)

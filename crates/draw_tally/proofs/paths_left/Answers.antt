@@ -1,6 +1,5 @@
 use borrow.Author.Tests.{eq-eqb, ne_eqb}
 use Rattle.draw_tally.specs.Tallies.{paths_left}
-use borrow.Author.Rules.{rules}
 use Rattle.draw_tally.proofs.paths_left.Goals as goal
 
 pub returns-then-from-points : goal.returns-then-from-points

@@ -1,13 +1,8 @@
 use mathlib.Core.Path.{sym, ◌∙◌}
-use Prim.Native.Nat.{◌-◌}
 use native.Mathlib.Omega.{arith}
-use lib.ListN.{length}
 use Rattle.paths.proofs.Parts.{range-fits}
-use Rattle.draw_clip.specs.Clip.{clip_filter, seen_from}
-use Rattle.draw_tally.specs.Tallies.{filter_tally}
 use Rattle.draw_tally.proofs.Telling.{filtered-told}
-use Rattle.draw_tally.proofs.Turning.{Counting, counting-start, counting-turn, counting-refused, counting-end, filter-points}
-use borrow.Author.Rules.{rules}
+use Rattle.draw_tally.proofs.Turning.{counting-start, counting-turn, counting-refused, counting-end, filter-points}
 use Rattle.draw_tally.proofs.tally_filtered.Goals as goal
 
 pub loop-i-init : goal.loop-i-init

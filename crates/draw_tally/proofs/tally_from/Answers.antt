@@ -1,8 +1,5 @@
-use Prim.Native.Nat.{◌-◌}
 use native.Mathlib.Omega.{arith}
-use Rattle.draw_clip.specs.Clip.{clip_filter, seen_from}
-use Rattle.draw_tally.proofs.Turning.{Tallying, tallying-start, tallying-turn, tallying-refused, tallying-end}
-use borrow.Author.Rules.{rules}
+use Rattle.draw_tally.proofs.Turning.{tallying-start, tallying-turn, tallying-refused, tallying-end}
 use Rattle.draw_tally.proofs.tally_from.Goals as goal
 
 pub loop-i-init : goal.loop-i-init

@@ -1,8 +1,6 @@
 use Prim.Native.Nat.{◌-◌}
-use native.Mathlib.Omega.{arith}
 use Rattle.draw_clip.specs.Clip.{clip_filter, seen_from}
-use Rattle.draw_tally.proofs.Turning.{Tallying, tallying-start, tallying-turn, tallying-refused, tallying-end}
-use borrow.Author.Rules.{rules}
+use Rattle.draw_tally.proofs.Turning.{Tallying}
 use Rattle.draw_tally.proofs.tally_from.Given as goal
 
 abbrev pub invariant-loop-i : goal.invariant-loop-i

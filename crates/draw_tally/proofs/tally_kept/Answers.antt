@@ -1,7 +1,6 @@
 use native.Mathlib.Omega.{arith}
 use Rattle.draw_tally.proofs.Fewer.{kept-count, kept-all}
 use Rattle.draw_tally.proofs.Turning.{path-full, added_full, added}
-use borrow.Author.Rules.{rules}
 use Rattle.draw_tally.proofs.tally_kept.Goals as goal
 
 pub returns-then-begins-m : goal.returns-then-begins-m

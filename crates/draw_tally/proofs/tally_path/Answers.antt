@@ -1,7 +1,6 @@
 use mathlib.Core.Path.{sym, ◌∙◌}
 use native.Mathlib.Omega.{arith}
 use Rattle.draw_tally.proofs.Turning.{path-full, path-refused, path-done, from_within}
-use borrow.Author.Rules.{rules}
 use Rattle.draw_tally.proofs.tally_path.Goals as goal
 
 pub returns-then-begins-m : goal.returns-then-begins-m

@@ -1,12 +1,8 @@
-use mathlib.Core.Path.{◌≡◌, refl, sym, ◌∙◌}
-use Prim.Native.Nat.{◌-◌}
+use mathlib.Core.Path.{refl, sym, ◌∙◌}
 use native.Mathlib.Omega.{arith}
-use lib.ListN.{length}
 use Rattle.paths.proofs.Parts.{range-fits}
-use Rattle.draw_tally.specs.Tallies.{simplify_tally}
 use Rattle.draw_tally.proofs.Telling.{simplified-told}
-use Rattle.draw_tally.proofs.Turning.{Counting, counting-start, counting-turn, counting-refused, counting-end, added-points}
-use borrow.Author.Rules.{rules}
+use Rattle.draw_tally.proofs.Turning.{counting-start, counting-turn, counting-refused, counting-end, added-points}
 use Rattle.draw_tally.proofs.tally_simplified.Goals as goal
 
 pub loop-i-init : goal.loop-i-init
@@ -20,7 +16,7 @@ tally_kept-r-requires c =
 
 pub shape_of-spare-in-Refused : goal.shape_of-spare-in-Refused
 shape_of-spare-in-Refused c =
-    c.tally_kept-r.auto.1.1.1.1.0 ∙ c.loop-i.invariant.0
+    c.tally_kept-r.auto.spare ∙ c.loop-i.invariant.0
 
 pub returns-in-Refused : goal.returns-in-Refused
 returns-in-Refused c =
@@ -28,7 +24,7 @@ returns-in-Refused c =
 
 pub loop-i-preserved : goal.loop-i-preserved
 loop-i-preserved c =
-    (c.tally_kept-r.auto.1.1.1.1.0 ∙ c.loop-i.invariant.0, counting-turn _ _ _ _ _ _ _ c.loop-i.invariant.1 c.loop-i-test.true _ c.range_of-p.ensures c.tally_kept-r.ensures (λ e. added-points _ _ _ _ _ c.loop-i.invariant.1.fits e) c.in-Both.is)
+    (c.tally_kept-r.auto.spare ∙ c.loop-i.invariant.0, counting-turn _ _ _ _ _ _ _ c.loop-i.invariant.1 c.loop-i-test.true _ c.range_of-p.ensures c.tally_kept-r.ensures (λ e. added-points _ _ _ _ _ c.loop-i.invariant.1.fits e) c.in-Both.is)
 
 pub shape_of-spare : goal.shape_of-spare
 shape_of-spare c =

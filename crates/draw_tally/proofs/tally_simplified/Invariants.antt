@@ -1,12 +1,8 @@
-use mathlib.Core.Path.{◌≡◌, refl, sym, ◌∙◌}
+use mathlib.Core.Path.{◌≡◌}
 use Prim.Native.Nat.{◌-◌}
-use native.Mathlib.Omega.{arith}
 use lib.ListN.{length}
-use Rattle.paths.proofs.Parts.{range-fits}
 use Rattle.draw_tally.specs.Tallies.{simplify_tally}
-use Rattle.draw_tally.proofs.Telling.{simplified-told}
-use Rattle.draw_tally.proofs.Turning.{Counting, counting-start, counting-turn, counting-refused, counting-end, added-points}
-use borrow.Author.Rules.{rules}
+use Rattle.draw_tally.proofs.Turning.{Counting}
 use Rattle.draw_tally.proofs.tally_simplified.Given as goal
 
 abbrev pub invariant-loop-i : goal.invariant-loop-i

@@ -1,6 +1,5 @@
 use borrow.Author.Tests.{lt-ltb, le-ltb}
 use Rattle.draw_tally.specs.Tallies.{tallied, taken}
-use borrow.Author.Rules.{rules}
 use Rattle.draw_tally.proofs.tally_step.Goals as goal
 
 pub returns-then-points-room : goal.returns-then-points-room

@@ -1,6 +1,5 @@
-use mathlib.Core.Path.{refl, ap, ◌∙◌}
+use mathlib.Core.Path.{refl}
 use native.Mathlib.Omega.{arith}
-use borrow.Author.Rules.{rules}
 use Rattle.tree_glance.proofs.Spots.{enters-before, leaf-short, leaf-late, leaf-clear, leaf-unknown, clear-far, shorter}
 use Rattle.tree_glance.proofs.at_leaf.Goals as goal
 

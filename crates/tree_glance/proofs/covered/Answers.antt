@@ -1,8 +1,5 @@
-use mathlib.Core.Path.{◌≡◌, refl, sym, ap, subst, ◌∙◌}
-use mathlib.Core.Logic.{inl, inr}
-use lib.Dec.{T}
+use mathlib.Core.Path.{sym, ◌∙◌}
 use native.Mathlib.Omega.{arith}
-use borrow.Author.Rules.{rules}
 use Rattle.floats.proofs.Tests.{clash}
 use Rattle.tree_glance.proofs.Spots.{enters-before}
 use Rattle.tree_glance.proofs.Sighting.{covering, fits-else}

@@ -1,4 +1,3 @@
-use mathlib.Core.Path.{refl}
 use Rattle.tree_glance.specs.Glances.{ended_of}
 use Rattle.tree_glance.proofs.ended.Goals as goal
 

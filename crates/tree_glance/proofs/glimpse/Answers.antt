@@ -1,6 +1,5 @@
 use mathlib.Core.Path.{refl, sym, ◌∙◌}
 use native.Mathlib.Omega.{arith}
-use borrow.Author.Rules.{rules}
 use borrow.Author.Tests.{not-false}
 use Rattle.geometry.specs.declared.ray.Ray.{Ray}
 use Rattle.tree_walk.specs.Walks.{entry_hit, walk_rows}
@@ -27,9 +26,9 @@ shape_of-cover-then-covered c =
 pub returns-then-covered : goal.returns-then-covered
 returns-then-covered c =
     let args = c.args in let pre = c.requires in (
-      told-hidden args.eye args.point c.sub-v.result args.distance c.sub-v.ensures pre.5 c.div_scalar.result c.div_scalar.ensures c.new-r.result c.new-r.ensures c.aim-b.result c.aim-b.ensures c.if-distance.false (λ (r : Ray). walk_rows (entry_hit args.numbers.now args.inverses.now args.marks.now r) r args.node-boxes.now args.node-marks.now args.order.now) (covering-tells (entry_hit args.numbers.now args.inverses.now args.marks.now c.aim-b.result.ray)
-          c.aim-b.result.ray args.distance args.node-boxes.now args.node-marks.now args.order.now args.cover.now args.stack.now pre.0 pre.4 (aimed-usable c.aim-b.result (aimed args.eye args.point c.sub-v.result args.distance c.sub-v.ensures pre.5 c.div_scalar.result c.div_scalar.ensures c.new-r.result c.new-r.ensures c.aim-b.result c.aim-b.ensures pre.3 (not-false _ c.if-not-b.false)))
-          (λ i. pre.1 c.if-calm.true _ i) (turned (λ (r : Ray). entry_hit args.numbers.now args.inverses.now args.marks.now r) c.aim-b.result.ray c.new-r.result args.distance args.node-boxes.now {cover = args.cover.now} (aimed-ray args.eye args.point c.sub-v.result args.distance c.sub-v.ensures pre.5 c.div_scalar.result c.div_scalar.ensures c.new-r.result c.new-r.ensures c.aim-b.result c.aim-b.ensures) (c.covered.ensures c.if-covered.true))),
+      told-hidden args.eye args.point c.sub-v.result args.distance c.sub-v.ensures pre.5 c.div_scalar.result c.div_scalar.ensures c.new-r.result c.new-r.ensures c.aim-b.result c.aim-b.ensures c.if-distance.false (λ (r : Ray). walk_rows (entry_hit args.numbers.now args.inverses.now args.marks.now r) r args.node_boxes.now args.node_marks.now args.order.now) (covering-tells (entry_hit args.numbers.now args.inverses.now args.marks.now c.aim-b.result.ray)
+          c.aim-b.result.ray args.distance args.node_boxes.now args.node_marks.now args.order.now args.cover.now args.stack.now pre.0 pre.4 (aimed-usable c.aim-b.result (aimed args.eye args.point c.sub-v.result args.distance c.sub-v.ensures pre.5 c.div_scalar.result c.div_scalar.ensures c.new-r.result c.new-r.ensures c.aim-b.result c.aim-b.ensures pre.3 (not-false _ c.if-not-b.false)))
+          (λ i. pre.1 c.if-calm.true _ i) (turned (λ (r : Ray). entry_hit args.numbers.now args.inverses.now args.marks.now r) c.aim-b.result.ray c.new-r.result args.distance args.node_boxes.now {cover = args.cover.now} (aimed-ray args.eye args.point c.sub-v.result args.distance c.sub-v.ensures pre.5 c.div_scalar.result c.div_scalar.ensures c.new-r.result c.new-r.ensures c.aim-b.result c.aim-b.ensures) (c.covered.ensures c.if-covered.true))),
       pre.4,
     )
 
@@ -71,8 +70,8 @@ returns-in-Unsure c =
 
 pub returns-in-Hidden : goal.returns-in-Hidden
 returns-in-Hidden c =
-    let args = c.args in let pre = c.requires in (seen_as _ _ _ c.in-Hidden.is (told-as args.eye args.point c.sub-v.result args.distance c.sub-v.ensures pre.5 c.div_scalar.result c.div_scalar.ensures c.new-r.result c.new-r.ensures c.aim-b.result c.aim-b.ensures c.if-distance.false (λ (r : Ray). walk_rows (entry_hit args.numbers.now args.inverses.now args.marks.now r) r args.node-boxes.now args.node-marks.now args.order.now) c.look-g.result c.look-g.ensures.0), c.look-g.ensures.1)
+    let args = c.args in let pre = c.requires in (seen_as _ _ _ c.in-Hidden.is (told-as args.eye args.point c.sub-v.result args.distance c.sub-v.ensures pre.5 c.div_scalar.result c.div_scalar.ensures c.new-r.result c.new-r.ensures c.aim-b.result c.aim-b.ensures c.if-distance.false (λ (r : Ray). walk_rows (entry_hit args.numbers.now args.inverses.now args.marks.now r) r args.node_boxes.now args.node_marks.now args.order.now) c.look-g.result c.look-g.ensures.0), c.look-g.ensures.1)
 
 pub returns-in-Visible : goal.returns-in-Visible
 returns-in-Visible c =
-    let args = c.args in let pre = c.requires in (seen_as _ _ _ c.in-Visible.is (told-as args.eye args.point c.sub-v.result args.distance c.sub-v.ensures pre.5 c.div_scalar.result c.div_scalar.ensures c.new-r.result c.new-r.ensures c.aim-b.result c.aim-b.ensures c.if-distance.false (λ (r : Ray). walk_rows (entry_hit args.numbers.now args.inverses.now args.marks.now r) r args.node-boxes.now args.node-marks.now args.order.now) c.look-g.result c.look-g.ensures.0), kept-none _ _ _ _ _ c.look-g.ensures.1)
+    let args = c.args in let pre = c.requires in (seen_as _ _ _ c.in-Visible.is (told-as args.eye args.point c.sub-v.result args.distance c.sub-v.ensures pre.5 c.div_scalar.result c.div_scalar.ensures c.new-r.result c.new-r.ensures c.aim-b.result c.aim-b.ensures c.if-distance.false (λ (r : Ray). walk_rows (entry_hit args.numbers.now args.inverses.now args.marks.now r) r args.node_boxes.now args.node_marks.now args.order.now) c.look-g.result c.look-g.ensures.0), kept-none _ _ _ _ _ c.look-g.ensures.1)

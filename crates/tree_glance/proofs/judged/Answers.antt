@@ -1,4 +1,3 @@
-use borrow.Author.Rules.{rules}
 use Rattle.tree_glance.specs.Glances.{judged_of}
 use Rattle.tree_glance.proofs.judged.Goals as goal
 

@@ -1,18 +1,16 @@
 use mathlib.Core.Path.{sym, ap, ◌∙◌}
 use native.Mathlib.Omega.{arith}
 use lib.ListN.{length, length-set}
-use borrow.Author.Rules.{rules}
 use Rattle.tree_walk.specs.Walks.{entry_hit}
-use Rattle.tree_glance.specs.Glances.{LastCover}
 use Rattle.tree_glance.proofs.Spots.{told-unsure, told_same, told-short}
 use Rattle.tree_glance.proofs.Endings.{kept-stack, kept_same}
 use Rattle.tree_glance.proofs.Looking.{root-asked, place-fits, place-links, near-asked, far-asked}
-use Rattle.tree_glance.proofs.Turns.{Turn, turn-missed, turn-start, turn-over, turn-unsure, turn-past, turn_last, turn-kept, turn-calm, turn-hidden, turn-hidden-last, turn-neither, turn-neither-last, turn-far, turn_near, turn-full, turn-both}
+use Rattle.tree_glance.proofs.Turns.{turn-missed, turn-start, turn-over, turn-unsure, turn-past, turn_last, turn-kept, turn-calm, turn-hidden, turn-hidden-last, turn-neither, turn-neither-last, turn-far, turn_near, turn-full, turn-both}
 use Rattle.tree_glance.proofs.look.Goals as goal
 
 pub missed-requires : goal.missed-requires
 missed-requires c =
-    let args = c.args in let pre = c.requires in (root-asked (entry_hit args.numbers.now args.inverses.now args.marks.now args.b.ray) args.b.ray args.distance args.node-boxes.now args.node-marks.now args.order.now pre.0).0
+    let args = c.args in let pre = c.requires in (root-asked (entry_hit args.numbers.now args.inverses.now args.marks.now args.b.ray) args.b.ray args.distance args.node_boxes.now args.node_marks.now args.order.now pre.0).0
 
 pub returns-then-missed : goal.returns-then-missed
 returns-then-missed c =

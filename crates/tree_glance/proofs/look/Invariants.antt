@@ -1,13 +1,6 @@
-use mathlib.Core.Path.{sym, ap, ◌∙◌}
-use native.Mathlib.Omega.{arith}
-use lib.ListN.{length, length-set}
-use borrow.Author.Rules.{rules}
 use Rattle.tree_walk.specs.Walks.{entry_hit}
 use Rattle.tree_glance.specs.Glances.{LastCover}
-use Rattle.tree_glance.proofs.Spots.{told-unsure, told_same, told-short}
-use Rattle.tree_glance.proofs.Endings.{kept-stack, kept_same}
-use Rattle.tree_glance.proofs.Looking.{root-asked, place-fits, place-links, near-asked, far-asked}
-use Rattle.tree_glance.proofs.Turns.{Turn, turn-missed, turn-start, turn-over, turn-unsure, turn-past, turn_last, turn-kept, turn-calm, turn-hidden, turn-hidden-last, turn-neither, turn-neither-last, turn-far, turn_near, turn-full, turn-both}
+use Rattle.tree_glance.proofs.Turns.{Turn}
 use Rattle.tree_glance.proofs.look.Given as goal
 
 abbrev pub invariant-loop-rounds : goal.invariant-loop-rounds

@@ -1,5 +1,4 @@
-use mathlib.Core.Path.{◌≡◌, refl, sym, ◌∙◌}
-use borrow.Author.Rules.{rules}
+use mathlib.Core.Path.{sym, ◌∙◌}
 use Rattle.tree_glance.proofs.Sighting.{as-hidden, as-visible}
 use Rattle.tree_glance.proofs.sight.Goals as goal
 

@@ -1,10 +1,6 @@
-use mathlib.Core.Path.{◌≡◌, refl}
-use Prim.Native.Nat.{◌-◌}
-use lib.ListN.{length}
+use mathlib.Core.Path.{refl}
 use native.Mathlib.Omega.{arith}
-use borrow.Author.Rules.{rules}
-use Rattle.tree_walk.specs.Walks.{entry_hit}
-use Rattle.tree_glance.proofs.Spots.{Spotting, spotting-start, spotting-gone, spotting-end, spotting-unknown, spotting-short, spotting-on, spotting-clear}
+use Rattle.tree_glance.proofs.Spots.{spotting-start, spotting-gone, spotting-end, spotting-unknown, spotting-short, spotting-on, spotting-clear}
 use Rattle.tree_glance.proofs.spot.Goals as goal
 
 pub loop-k-init : goal.loop-k-init

@@ -1,10 +1,8 @@
-use mathlib.Core.Path.{◌≡◌, refl}
+use mathlib.Core.Path.{◌≡◌}
 use Prim.Native.Nat.{◌-◌}
 use lib.ListN.{length}
-use native.Mathlib.Omega.{arith}
-use borrow.Author.Rules.{rules}
 use Rattle.tree_walk.specs.Walks.{entry_hit}
-use Rattle.tree_glance.proofs.Spots.{Spotting, spotting-start, spotting-gone, spotting-end, spotting-unknown, spotting-short, spotting-on, spotting-clear}
+use Rattle.tree_glance.proofs.Spots.{Spotting}
 use Rattle.tree_glance.proofs.spot.Given as goal
 
 abbrev pub invariant-loop-k : goal.invariant-loop-k

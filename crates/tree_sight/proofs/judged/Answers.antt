@@ -1,4 +1,3 @@
-use borrow.Author.Rules.{rules}
 use Rattle.tree_sight.specs.Sights.{by_distance}
 use Rattle.tree_sight.proofs.Seeing.{judged-visible, judged-hidden}
 use Rattle.tree_sight.proofs.judged.Goals as goal

@@ -1,9 +1,7 @@
 use mathlib.Core.Path.{refl}
 use native.Mathlib.Omega.{arith}
-use borrow.Author.Rules.{rules}
-use Rattle.tree_walk.specs.Walks.{entry_hit, walk_on, walk_rows}
-use Rattle.tree_nodes.specs.Nodes.{node_at, places_of}
-use Rattle.tree_walk.proofs.Rounds.{Walking, walking_start, walking-empty, walking-end, walking-gone, walking-box, walking-marks, walking_skip, walking-into, walking-past, walking-full, walking-down}
+use Rattle.tree_walk.specs.Walks.{walk_rows}
+use Rattle.tree_walk.proofs.Rounds.{walking_start, walking-empty, walking-end, walking-gone, walking-box, walking-marks, walking_skip, walking-into, walking-past, walking-full, walking-down}
 use Rattle.tree_walk.proofs.Turns.{walk-rounds, leaf-refused, leaf-passed}
 use Rattle.tree_walk.proofs.intersect.Goals as goal
 

@@ -1,10 +1,6 @@
-use mathlib.Core.Path.{◌≡◌, refl}
-use Prim.Native.Nat.{◌-◌}
-use lib.ListN.{length}
+use mathlib.Core.Path.{refl}
 use native.Mathlib.Omega.{arith}
-use borrow.Author.Rules.{rules}
-use Rattle.tree_walk.specs.Walks.{entry_hit}
-use Rattle.tree_walk.proofs.Turns.{Scanned, scanned-start, scanned-gone, scanned-refused, scanned-turn, scanned-end}
+use Rattle.tree_walk.proofs.Turns.{scanned-start, scanned-gone, scanned-refused, scanned-turn, scanned-end}
 use Rattle.tree_walk.proofs.scan.Goals as goal
 
 pub loop-k-init : goal.loop-k-init

@@ -1,10 +1,8 @@
-use mathlib.Core.Path.{◌≡◌, refl}
+use mathlib.Core.Path.{◌≡◌}
 use Prim.Native.Nat.{◌-◌}
 use lib.ListN.{length}
-use native.Mathlib.Omega.{arith}
-use borrow.Author.Rules.{rules}
 use Rattle.tree_walk.specs.Walks.{entry_hit}
-use Rattle.tree_walk.proofs.Turns.{Scanned, scanned-start, scanned-gone, scanned-refused, scanned-turn, scanned-end}
+use Rattle.tree_walk.proofs.Turns.{Scanned}
 use Rattle.tree_walk.proofs.scan.Given as goal
 
 abbrev pub invariant-loop-k : goal.invariant-loop-k

@@ -1,4 +1,3 @@
-use borrow.Author.Rules.{rules}
 use Rattle.tree_walk.specs.Walks.{children_of}
 use Rattle.tree_walk.proofs.sided.Goals as goal
 

@@ -1,4 +1,3 @@
-use borrow.Author.Rules.{rules}
 use Rattle.tree_walk.specs.Walks.{tried}
 use Rattle.tree_walk.proofs.tried.Goals as goal
 

@@ -1,14 +1,10 @@
-use Rattle.check_scene.proofs.Filling.{Filling, filling-start, filling-turn, filling-fails, filling-end}
+use Rattle.check_scene.proofs.Filling.{filling-start, filling-turn, filling-fails, filling-end}
 use Rattle.check_scene.proofs.Boxes.{formed}
-use Rattle.check_scene.specs.Extents.{own_box}
 use Rattle.check_parts.proofs.Parts.{never}
 use Rattle.limits.specs.Limits.{within_box}
-use Rattle.rows.specs.Points.{box_of_row, box_row}
-use borrow.Author.Tests.{not-true, not-false}
+use Rattle.rows.specs.Points.{box_row}
 use native.Mathlib.Omega.{arith}
 use mathlib.Core.Path.{refl, ap, ◌∙◌}
-use Prim.Native.Nat.{◌-◌}
-use borrow.Author.Rules.{rules}
 use Rattle.check_scene.proofs.extents.all_within.Goals as goal
 
 pub loop-i-init : goal.loop-i-init

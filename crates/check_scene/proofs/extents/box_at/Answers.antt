@@ -2,7 +2,6 @@ use Rattle.check_scene.specs.Extents.{stored_box}
 use borrow.Author.Tests.{lt-ltb, le-ltb}
 use native.Mathlib.Omega.{arith}
 use mathlib.Core.Path.{◌∙◌}
-use borrow.Author.Rules.{rules}
 use Rattle.check_scene.proofs.extents.box_at.Goals as goal
 
 pub read_box-requires : goal.read_box-requires

@@ -1,6 +1,5 @@
 use Rattle.check_scene.specs.Extents.{entry_box}
 use mathlib.Core.Path.{◌∙◌}
-use borrow.Author.Rules.{rules}
 use Rattle.check_scene.proofs.extents.entry_box.Goals as goal
 
 pub returns-in-Simple : goal.returns-in-Simple

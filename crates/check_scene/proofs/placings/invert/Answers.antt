@@ -6,7 +6,6 @@ use Rattle.rows.specs.Rows.{set_row}
 use Rattle.matrix_inverse.specs.Inverses.{inverted}
 use native.Mathlib.Omega.{arith}
 use mathlib.Core.Path.{ap, ◌∙◌}
-use borrow.Author.Rules.{rules}
 use Rattle.check_scene.proofs.placings.invert.Goals as goal
 
 pub write_numbers-requires : goal.write_numbers-requires

@@ -1,12 +1,9 @@
-use Rattle.check_scene.proofs.Filling.{Filling, filling-start, filling-turn, filling-fails, filling-end}
-use Rattle.check_scene.specs.Placings.{placing_ok, inverse_at}
+use Rattle.check_scene.proofs.Filling.{filling-start, filling-turn, filling-fails, filling-end}
+use Rattle.check_scene.specs.Placings.{inverse_at}
 use Rattle.check_parts.proofs.Parts.{never}
-use Rattle.scene.specs.Entries.{marks_at, numbers_at}
-use Rattle.rows.specs.Entries.{numbers_of, numbers_row}
-use borrow.Author.Tests.{not-true, not-false}
+use Rattle.rows.specs.Entries.{numbers_row}
 use native.Mathlib.Omega.{arith}
 use mathlib.Core.Path.{refl, ◌∙◌}
-use Prim.Native.Nat.{◌-◌}
 use Rattle.check_scene.proofs.placings.invert_all.Goals as goal
 
 pub loop-i-init : goal.loop-i-init

@@ -1,6 +1,5 @@
 use Rattle.check_scene.specs.Placings.{invertible}
 use mathlib.Core.Path.{◌∙◌}
-use borrow.Author.Rules.{rules}
 use Rattle.check_scene.proofs.placings.invertible.Goals as goal
 
 pub returns-then-v : goal.returns-then-v
