@@ -6,7 +6,6 @@ use Rattle.draw_render.specs.Slices.{places_in}
 use Rattle.scene.specs.Scenes.{scene_of}
 use lib.ListN.{length, take, drop}
 use Prim.Native.Nat.{◌*◌, ◌/◌}
-use borrow.Author.Rules.{rules}
 use Rattle.draw.proofs.drawing.Goals as goal
 
 pub returns-then-not-is_ok : goal.returns-then-not-is_ok

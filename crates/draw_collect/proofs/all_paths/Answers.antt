@@ -1,11 +1,8 @@
-use Rattle.draw_collect.proofs.Listing.{Collecting, collecting-start, collecting-refused, collecting-turn, collecting-end}
-use Rattle.draw_collect.specs.Slices.{lined_at}
+use Rattle.draw_collect.proofs.Listing.{collecting-start, collecting-refused, collecting-turn, collecting-end}
 use lib.Seq.{length-take-le, get_or-take}
 use lib.ListN.{take}
-use Prim.Native.Nat.{◌-◌}
 use native.Mathlib.Omega.{arith}
 use mathlib.Core.Path.{sym, ◌∙◌}
-use borrow.Author.Rules.{rules}
 use Rattle.draw_collect.proofs.all_paths.Goals as goal
 
 pub loop-i-init : goal.loop-i-init

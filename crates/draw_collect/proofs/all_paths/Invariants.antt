@@ -1,11 +1,7 @@
-use Rattle.draw_collect.proofs.Listing.{Collecting, collecting-start, collecting-refused, collecting-turn, collecting-end}
+use Rattle.draw_collect.proofs.Listing.{Collecting}
 use Rattle.draw_collect.specs.Slices.{lined_at}
-use lib.Seq.{length-take-le, get_or-take}
 use lib.ListN.{take}
 use Prim.Native.Nat.{◌-◌}
-use native.Mathlib.Omega.{arith}
-use mathlib.Core.Path.{sym, ◌∙◌}
-use borrow.Author.Rules.{rules}
 use Rattle.draw_collect.proofs.all_paths.Given as goal
 
 abbrev pub invariant-loop-i : goal.invariant-loop-i

@@ -1,5 +1,4 @@
 use Rattle.draw_collect.proofs.Sifting.{chop-far, chop-near}
-use borrow.Author.Rules.{rules}
 use Rattle.draw_collect.proofs.chop_lines.Goals as goal
 
 pub returns-then-not-points_ok : goal.returns-then-not-points_ok

@@ -1,6 +1,5 @@
 use Rattle.draw_collect.proofs.Joins.{join-none, join-fits, join-refused, join-asks, join-appended}
 use native.Mathlib.Omega.{arith}
-use borrow.Author.Rules.{rules}
 use Rattle.draw_collect.proofs.join.Goals as goal
 
 pub overflow_add-end : goal.overflow_add-end

@@ -5,10 +5,8 @@ use lib.ListN.{length-drop, take, length}
 use Prim.Native.Nat.{◌≤◌, ◌*◌}
 use mathlib.Core.List.{◌++◌}
 use mathlib.Core.Path.{◌∙◌, ap}
-use lib.ListN.{length-drop}
 use Rattle.draw_collect.proofs.Moved.{moved-part, moved_none}
 use native.Mathlib.Omega.{arith}
-use borrow.Author.Rules.{rules}
 use Rattle.draw_collect.proofs.move_points.Goals as goal
 
 pub overflow_mul-at : goal.overflow_mul-at

@@ -2,7 +2,6 @@ use Rattle.draw_collect.proofs.Sifting.{sift-refused, sift-filters}
 use lib.Seq.{length-take-le}
 use native.Mathlib.Omega.{arith}
 use mathlib.Core.Path.{sym}
-use borrow.Author.Rules.{rules}
 use Rattle.draw_collect.proofs.sift.Goals as goal
 
 pub overflow_mul-end : goal.overflow_mul-end

@@ -8,7 +8,6 @@ use Rattle.tree_split.specs.Build.{box_at}
 use Rattle.draw_render.proofs.Staging.{lines-refused}
 use Rattle.draw_counts.specs.Blanks.{blank, blank_starts}
 use Rattle.draw_counts.proofs.Counted.{whole-ends, refusal-counted, sheet-counted}
-use borrow.Author.Rules.{rules}
 use Rattle.draw_counts.proofs.render_counts.Goals as goal
 
 pub overflow_mul-wide : goal.overflow_mul-wide

@@ -5,7 +5,6 @@ use Rattle.tree_split.specs.Build.{box_at}
 use Rattle.paths.specs.Ends.{all_points}
 use Rattle.draw_render.proofs.Seeing.{unplanted-is, seen-is}
 use Rattle.draw_counts.proofs.Counted.{as-counted}
-use borrow.Author.Rules.{rules}
 use Rattle.draw_counts.proofs.seen_counts.Goals as goal
 
 pub plant-b-requires : goal.plant-b-requires

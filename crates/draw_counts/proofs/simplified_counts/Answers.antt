@@ -1,7 +1,6 @@
 use mathlib.Core.Path.{refl}
 use Rattle.draw_render.proofs.Staging.{far-is, near-is}
 use Rattle.draw_counts.proofs.Counted.{as-counted}
-use borrow.Author.Rules.{rules}
 use Rattle.draw_counts.proofs.simplified_counts.Goals as goal
 
 pub returns-then-not-points_ok : goal.returns-then-not-points_ok

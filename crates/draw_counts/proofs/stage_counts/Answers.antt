@@ -8,7 +8,6 @@ use Rattle.scene_shape.specs.Shapes.{decode}
 use Rattle.draw_render.proofs.Staging.{chop-refused, seen-refused}
 use Rattle.draw_counts.specs.Blanks.{places_for}
 use Rattle.draw_counts.proofs.Counted.{refusal-counted, blank-places, blank-starts, plain-counted, spare-long, simplified-counted}
-use borrow.Author.Rules.{rules}
 use Rattle.draw_counts.proofs.stage_counts.Goals as goal
 
 pub overflow_mul-end : goal.overflow_mul-end

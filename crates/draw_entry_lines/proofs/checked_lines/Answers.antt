@@ -6,7 +6,6 @@ use Rattle.scene.specs.Scenes.{scene_of}
 use Rattle.draw_collect.specs.Slices.{room_of}
 use Rattle.draw_ranges.proofs.Ranges.{range-low}
 use Rattle.draw_entry_lines.proofs.Lines.{scene-refused, view-refused, listed-upto, range-lines}
-use borrow.Author.Rules.{rules}
 use Rattle.draw_entry_lines.proofs.checked_lines.Goals as goal
 
 pub returns-then-not-is_ok : goal.returns-then-not-is_ok

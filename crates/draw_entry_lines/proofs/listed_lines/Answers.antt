@@ -6,7 +6,6 @@ use lib.Seq.{length-take-le}
 use Rattle.draw_collect.specs.Slices.{lined_at}
 use Rattle.draw_render.proofs.Staging.{tail-lines}
 use Rattle.draw_entry_lines.proofs.Lines.{lines-refused, lines-put}
-use borrow.Author.Rules.{rules}
 use Rattle.draw_entry_lines.proofs.listed_lines.Goals as goal
 
 pub overflow_mul-wide : goal.overflow_mul-wide

@@ -1,7 +1,6 @@
 use mathlib.Core.Path.{sym}
 use lib.Seq.{length-take-le}
 use Rattle.draw_entry_lines.proofs.Lines.{copied-lines, chopped-lines}
-use borrow.Author.Rules.{rules}
 use Rattle.draw_entry_lines.proofs.put_lines.Goals as goal
 
 pub slice_bounds-copy_paths-end : goal.slice_bounds-copy_paths-end

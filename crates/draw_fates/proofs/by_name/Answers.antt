@@ -1,5 +1,4 @@
 use Rattle.draw_fates.specs.Fates.{by_name}
-use borrow.Author.Rules.{rules}
 use Rattle.draw_fates.proofs.by_name.Goals as goal
 
 pub returns-in-Clear : goal.returns-in-Clear

@@ -1,6 +1,5 @@
 use Rattle.query_cover.proofs.Answers.{batch-fits}
 use Rattle.draw_fates.proofs.Ways.{all-fates}
-use borrow.Author.Rules.{rules}
 use Rattle.draw_fates.proofs.fates.Goals as goal
 
 pub tell-requires : goal.tell-requires

@@ -1,14 +1,6 @@
-use Prim.Native.Nat.{◌-◌}
 use native.Mathlib.Omega.{arith}
-use lib.ListN.{length}
-use Rattle.rows.specs.Rows.{padded}
-use Rattle.geometry.specs.declared.ray.Ray.{Ray}
-use Rattle.tree_walk.specs.Walks.{entry_hit, walk_rows}
-use Rattle.query_scene.specs.Queries.{hides}
-use Rattle.query_scene.proofs.Copies.{Copied, copied-start}
-use Rattle.draw_fates.specs.Fates.{words_by}
+use Rattle.query_scene.proofs.Copies.{copied-start}
 use Rattle.draw_fates.proofs.Ways.{turn, end}
-use borrow.Author.Rules.{rules}
 use Rattle.draw_fates.proofs.tell.Goals as goal
 
 pub loop-k-init : goal.loop-k-init

@@ -1,14 +1,11 @@
 use Prim.Native.Nat.{◌-◌}
-use native.Mathlib.Omega.{arith}
 use lib.ListN.{length}
 use Rattle.rows.specs.Rows.{padded}
 use Rattle.geometry.specs.declared.ray.Ray.{Ray}
 use Rattle.tree_walk.specs.Walks.{entry_hit, walk_rows}
 use Rattle.query_scene.specs.Queries.{hides}
-use Rattle.query_scene.proofs.Copies.{Copied, copied-start}
+use Rattle.query_scene.proofs.Copies.{Copied}
 use Rattle.draw_fates.specs.Fates.{words_by}
-use Rattle.draw_fates.proofs.Ways.{turn, end}
-use borrow.Author.Rules.{rules}
 use Rattle.draw_fates.proofs.tell.Given as goal
 
 abbrev pub invariant-loop-k : goal.invariant-loop-k

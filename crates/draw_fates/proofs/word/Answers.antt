@@ -1,7 +1,6 @@
 use native.Mathlib.Omega.{arith}
 use Rattle.draw_fates.specs.Fates.{fate_word}
 use Rattle.draw_fates.proofs.Ways.{word_fits}
-use borrow.Author.Rules.{rules}
 use Rattle.draw_fates.proofs.word.Goals as goal
 
 pub overflow_add-result : goal.overflow_add-result

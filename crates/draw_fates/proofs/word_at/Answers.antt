@@ -1,6 +1,5 @@
 use native.Mathlib.Omega.{arith}
 use Rattle.draw_fates.proofs.Ways.{after, at_place}
-use borrow.Author.Rules.{rules}
 use Rattle.draw_fates.proofs.word_at.Goals as goal
 
 pub returns-then-k-n : goal.returns-then-k-n

@@ -5,7 +5,6 @@ use Rattle.scene.specs.Scenes.{scene_of}
 use Rattle.draw.proofs.Drawings.{threshold-fine, scene-refused, view-refused, threshold-refused, scene-listed, drawn-as}
 use Rattle.draw_counts.specs.Blanks.{places_for}
 use Rattle.draw_counts.proofs.Counted.{as-counted, refusal-counted}
-use borrow.Author.Rules.{rules}
 use Rattle.draw_preview.proofs.previewing.Goals as goal
 
 pub returns-then-not-is_ok : goal.returns-then-not-is_ok

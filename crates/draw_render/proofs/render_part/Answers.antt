@@ -2,11 +2,9 @@ use Prim.Native.Nat.{◌*◌, ◌/◌}
 use lib.Seq.{length-take-le, length_front}
 use Rattle.draw_render.proofs.Staging.{tail-long, tail-lines, lines-refused, stages-refused, on-sheet}
 use Rattle.tree_split.specs.Build.{box_at}
-use lib.Seq.{length-take-le}
 use lib.ListN.{length, take, drop}
 use native.Mathlib.Omega.{arith}
 use mathlib.Core.Path.{sym, ◌∙◌}
-use borrow.Author.Rules.{rules}
 use Rattle.draw_render.proofs.render_part.Goals as goal
 
 pub overflow_mul-wide : goal.overflow_mul-wide

@@ -1,5 +1,4 @@
 use Rattle.draw_render.proofs.Staging.{simplify-far, simplify-near}
-use borrow.Author.Rules.{rules}
 use Rattle.draw_render.proofs.simplify_lines.Goals as goal
 
 pub returns-then-not-points_ok : goal.returns-then-not-points_ok

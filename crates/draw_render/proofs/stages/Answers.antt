@@ -6,7 +6,6 @@ use lib.Seq.{length-take-le}
 use lib.ListN.{length, take}
 use native.Mathlib.Omega.{arith}
 use mathlib.Core.Path.{sym}
-use borrow.Author.Rules.{rules}
 use Rattle.draw_render.proofs.stages.Goals as goal
 
 pub overflow_mul-end : goal.overflow_mul-end

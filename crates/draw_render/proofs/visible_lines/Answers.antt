@@ -3,7 +3,6 @@ use Rattle.paths.specs.Ends.{places, all_points}
 use Rattle.tree_nodes.specs.Nodes.{places_of}
 use Rattle.tree_split.specs.Build.{box_at}
 use lib.ListN.{length, take}
-use borrow.Author.Rules.{rules}
 use Rattle.draw_render.proofs.visible_lines.Goals as goal
 
 pub plant-b-requires : goal.plant-b-requires

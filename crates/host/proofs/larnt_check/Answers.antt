@@ -3,7 +3,6 @@ use Rattle.query_solid.specs.Answers.{verdict_number, drawn_count}
 use Rattle.floats.specs.Arith.{zero_f}
 use native.Mathlib.Omega.{arith}
 use mathlib.Core.Path.{ap, ◌∙◌}
-use borrow.Author.Rules.{rules}
 use Rattle.host.proofs.larnt_check.Goals as goal
 
 pub returns : goal.returns

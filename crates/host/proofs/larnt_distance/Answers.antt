@@ -2,9 +2,7 @@ use borrow.Author.Rules.{rules}
 use mir.Syntax.{w64}
 use mir.Val.{SFits}
 use mir.ValLaws.{to_z-of_z}
-use mathlib.Core.Path.{◌≡◌, ap, ◌∙◌}
-use Rattle.geometry.specs.declared.vector.Vector.{Vector}
-use Rattle.geometry.specs.Vectors.{distance_of, distance_rest}
+use mathlib.Core.Path.{◌∙◌}
 use Rattle.host.proofs.larnt_distance.Goals as goal
 
 -- what owning an `i64` tells: 64 bits hold it

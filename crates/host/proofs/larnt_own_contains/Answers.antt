@@ -1,7 +1,6 @@
 use Rattle.host.proofs.Calls.{contains-so}
 use Rattle.query_solid.specs.Answers.{contained_number, inside}
 use mathlib.Core.Path.{ap, ◌∙◌}
-use borrow.Author.Rules.{rules}
 use Rattle.host.proofs.larnt_own_contains.Goals as goal
 
 pub returns : goal.returns

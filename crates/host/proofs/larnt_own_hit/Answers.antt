@@ -1,7 +1,6 @@
 use Rattle.query_solid.specs.Answers.{struck_number, distance, met}
 use Rattle.query_solid.specs.Own.{own_hit}
 use mathlib.Core.Path.{ap, ◌∙◌}
-use borrow.Author.Rules.{rules}
 use Rattle.host.proofs.larnt_own_hit.Goals as goal
 
 pub returns : goal.returns

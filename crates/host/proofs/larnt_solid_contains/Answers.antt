@@ -1,5 +1,4 @@
 use mathlib.Core.Path.{ap, ◌∙◌}
-use borrow.Author.Rules.{rules}
 use Rattle.scene.specs.Entries.{simple_of}
 use Rattle.rows.specs.Points.{point_of}
 use Rattle.host.proofs.Calls.{inside_is, no-inside}

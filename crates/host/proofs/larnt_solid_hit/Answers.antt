@@ -1,5 +1,4 @@
 use mathlib.Core.Path.{ap, ◌∙◌}
-use borrow.Author.Rules.{rules}
 use Rattle.scene.specs.Entries.{simple_of}
 use Rattle.host.specs.Calls.{ray_of_row}
 use Rattle.host.proofs.Calls.{hit-is, no_hit}

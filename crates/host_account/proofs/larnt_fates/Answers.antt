@@ -1,5 +1,4 @@
 use Rattle.host_account.proofs.AccountLaws.{fates-so}
-use borrow.Author.Rules.{rules}
 use Rattle.host_account.proofs.larnt_fates.Goals as goal
 
 pub returns : goal.returns

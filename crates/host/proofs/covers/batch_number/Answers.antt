@@ -1,5 +1,4 @@
 use Rattle.host.specs.CoverCalls.{batch_number}
-use borrow.Author.Rules.{rules}
 use Rattle.host.proofs.covers.batch_number.Goals as goal
 
 pub returns-in-Answered : goal.returns-in-Answered

@@ -1,5 +1,4 @@
 use Rattle.host.proofs.CoverCalls.{covered-so}
-use borrow.Author.Rules.{rules}
 use Rattle.host.proofs.covers.larnt_covered.Goals as goal
 
 pub returns : goal.returns

@@ -1,5 +1,4 @@
 use Rattle.host.proofs.CoverCalls.{all_so}
-use borrow.Author.Rules.{rules}
 use Rattle.host.proofs.covers.larnt_covered_all.Goals as goal
 
 pub returns : goal.returns

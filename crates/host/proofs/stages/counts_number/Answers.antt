@@ -1,5 +1,4 @@
 use Rattle.host.specs.StageCalls.{counts_number}
-use borrow.Author.Rules.{rules}
 use Rattle.host.proofs.stages.counts_number.Goals as goal
 
 pub returns-in-Both : goal.returns-in-Both

@@ -1,7 +1,6 @@
 use Rattle.host.proofs.StageCalls.{finished-so, outline-so}
 use Rattle.scene.specs.Entries.{simple_of}
 use mathlib.Core.Path.{ap, ◌∙◌}
-use borrow.Author.Rules.{rules}
 use Rattle.host.proofs.stages.larnt_outline.Goals as goal
 
 pub returns : goal.returns

@@ -1,5 +1,4 @@
 use Rattle.host.proofs.StageCalls.{finished-so}
-use borrow.Author.Rules.{rules}
 use Rattle.host.proofs.stages.larnt_simplify.Goals as goal
 
 pub returns : goal.returns

@@ -1,5 +1,4 @@
 use Rattle.host.specs.StageCalls.{paths_told}
-use borrow.Author.Rules.{rules}
 use Rattle.host.proofs.stages.path_count.Goals as goal
 
 pub returns-in-Both : goal.returns-in-Both

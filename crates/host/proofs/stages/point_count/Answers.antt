@@ -1,5 +1,4 @@
 use Rattle.host.specs.StageCalls.{points_told}
-use borrow.Author.Rules.{rules}
 use Rattle.host.proofs.stages.point_count.Goals as goal
 
 pub returns-in-Both : goal.returns-in-Both

@@ -1,5 +1,4 @@
 use Rattle.host.specs.TreeCalls.{built_number}
-use borrow.Author.Rules.{rules}
 use Rattle.host.proofs.trees.built_number.Goals as goal
 
 pub returns-in-Nodes : goal.returns-in-Nodes

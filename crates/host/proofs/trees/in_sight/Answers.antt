@@ -1,5 +1,4 @@
 use Rattle.host.specs.TreeCalls.{in_sight}
-use borrow.Author.Rules.{rules}
 use Rattle.host.proofs.trees.in_sight.Goals as goal
 
 pub returns-in-Visible : goal.returns-in-Visible

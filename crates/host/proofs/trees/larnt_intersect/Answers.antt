@@ -1,6 +1,5 @@
 use Rattle.host.proofs.TreeCalls.{intersect-so, best-told, refused-told}
 use lib.Ieee.{of_bits}
-use borrow.Author.Rules.{rules}
 use Rattle.host.proofs.trees.larnt_intersect.Goals as goal
 
 pub returns-in-Best : goal.returns-in-Best

@@ -1,5 +1,4 @@
 use Rattle.host.proofs.TreeCalls.{occluder-so, clear_told, hidden-told, unnamed_told}
-use borrow.Author.Rules.{rules}
 use Rattle.host.proofs.trees.larnt_occluder.Goals as goal
 
 pub returns-in-Clear : goal.returns-in-Clear

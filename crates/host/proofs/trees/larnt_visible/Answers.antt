@@ -1,5 +1,4 @@
 use Rattle.host.proofs.TreeCalls.{seen-so}
-use borrow.Author.Rules.{rules}
 use Rattle.host.proofs.trees.larnt_visible.Goals as goal
 
 pub returns : goal.returns

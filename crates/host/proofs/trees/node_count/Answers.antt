@@ -1,5 +1,4 @@
 use Rattle.host.specs.TreeCalls.{node_count}
-use borrow.Author.Rules.{rules}
 use Rattle.host.proofs.trees.node_count.Goals as goal
 
 pub returns-in-Nodes : goal.returns-in-Nodes

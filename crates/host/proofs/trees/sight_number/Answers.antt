@@ -1,5 +1,4 @@
 use Rattle.host.specs.TreeCalls.{sight_number}
-use borrow.Author.Rules.{rules}
 use Rattle.host.proofs.trees.sight_number.Goals as goal
 
 pub returns-in-Visible : goal.returns-in-Visible
