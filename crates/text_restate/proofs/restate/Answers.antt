@@ -62,8 +62,8 @@ slice_bounds-restated-end-in-Scene-4 c =
 
 pub returns-in-Refused : goal.returns-in-Refused
 returns-in-Refused c =
-    let args = c.args in record { answer = (wrote_as (length args.out.now) _ _ (restated-refused (length args.out.now) args.text.now _ c.read-r.new.numbers c.read-r.new.marks c.read-r.new.points c.read-r.new.starts c.read-r.new.owners c.read-r.ensures.owners_after_2 c.in-Refused.is) c.write_refused.ensures).0; lent = (wrote_as (length args.out.now) _ _ (restated-refused (length args.out.now) args.text.now _ c.read-r.new.numbers c.read-r.new.marks c.read-r.new.points c.read-r.new.starts c.read-r.new.owners c.read-r.ensures.owners_after_2 c.in-Refused.is) c.write_refused.ensures).1 }
+    let args = c.args in record { answer = (wrote_as (length args.out.now) _ _ (restated-refused (length args.out.now) args.text.now _ c.read-r.new.numbers c.read-r.new.marks c.read-r.new.points c.read-r.new.starts c.read-r.new.owners c.read-r.ensures.owners_after_2 c.in-Refused.is) (c.write_refused.ensures.answer, c.write_refused.ensures.lent)).0; lent = (wrote_as (length args.out.now) _ _ (restated-refused (length args.out.now) args.text.now _ c.read-r.new.numbers c.read-r.new.marks c.read-r.new.points c.read-r.new.starts c.read-r.new.owners c.read-r.ensures.owners_after_2 c.in-Refused.is) (c.write_refused.ensures.answer, c.write_refused.ensures.lent)).1 }
 
 pub returns-in-Scene : goal.returns-in-Scene
 returns-in-Scene c =
-    let args = c.args in record { answer = (wrote_as (length args.out.now) _ _ (restated-read (length args.out.now) args.text.now _ c.read-r.new.numbers c.read-r.new.marks c.read-r.new.points c.read-r.new.starts c.read-r.new.owners c.read-r.ensures.owners_after_2 _ _ _ _ c.in-Scene.is) c.restated.ensures).0; lent = (wrote_as (length args.out.now) _ _ (restated-read (length args.out.now) args.text.now _ c.read-r.new.numbers c.read-r.new.marks c.read-r.new.points c.read-r.new.starts c.read-r.new.owners c.read-r.ensures.owners_after_2 _ _ _ _ c.in-Scene.is) c.restated.ensures).1 }
+    let args = c.args in record { answer = (wrote_as (length args.out.now) _ _ (restated-read (length args.out.now) args.text.now _ c.read-r.new.numbers c.read-r.new.marks c.read-r.new.points c.read-r.new.starts c.read-r.new.owners c.read-r.ensures.owners_after_2 _ _ _ _ c.in-Scene.is) (c.restated.ensures.answer, c.restated.ensures.lent)).0; lent = (wrote_as (length args.out.now) _ _ (restated-read (length args.out.now) args.text.now _ c.read-r.new.numbers c.read-r.new.marks c.read-r.new.points c.read-r.new.starts c.read-r.new.owners c.read-r.ensures.owners_after_2 _ _ _ _ c.in-Scene.is) (c.restated.ensures.answer, c.restated.ensures.lent)).1 }

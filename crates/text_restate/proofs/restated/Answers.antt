@@ -19,4 +19,4 @@ shape_of-out-in-Refused c =
 
 pub returns-in-Refused : goal.returns-in-Refused
 returns-in-Refused c =
-    let args = c.args in record { answer = (wrote-there c.write-c.auto.text (number_put (scene_of args.numbers.now args.marks.now args.points.now args.starts.now args.owners.now) args.view (length args.out.now) c.write-c.ensures.answer c.in-Refused.is c.number.ensures) c.write_refused.ensures).0; lent = (wrote-there c.write-c.auto.text (number_put (scene_of args.numbers.now args.marks.now args.points.now args.starts.now args.owners.now) args.view (length args.out.now) c.write-c.ensures.answer c.in-Refused.is c.number.ensures) c.write_refused.ensures).1 }
+    let args = c.args in record { answer = (wrote-there c.write-c.auto.text (number_put (scene_of args.numbers.now args.marks.now args.points.now args.starts.now args.owners.now) args.view (length args.out.now) c.write-c.ensures.answer c.in-Refused.is c.number.ensures) (c.write_refused.ensures.answer, c.write_refused.ensures.lent)).0; lent = (wrote-there c.write-c.auto.text (number_put (scene_of args.numbers.now args.marks.now args.points.now args.starts.now args.owners.now) args.view (length args.out.now) c.write-c.ensures.answer c.in-Refused.is c.number.ensures) (c.write_refused.ensures.answer, c.write_refused.ensures.lent)).1 }
