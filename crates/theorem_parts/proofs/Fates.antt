@@ -64,6 +64,7 @@ not_so false f = refl
 
 is-so : (b : Bool) → T b → b ≡ true
 is-so true t = refl
+is-so false t = elim t [ ]
 
 module _ (s : Scene) (boxes : List Float) (marks order : List ℕ) (v : View) (point : Vector) where
   abbrev fate : Fate
