@@ -157,13 +157,7 @@ pub fn larnt_inverse(m: &[f64; 16], inverse: &mut [f64; 16]) -> f64
 }
 
 // The hit that a solid of kinds 1 to 5, 8 or 9 gives a ray. Answers 0, or 3 for any other kind.
-pub fn larnt_solid_hit(
-    kind: u32,
-    n: &[f64; 16],
-    ray: &[f64; 6],
-    t: &mut f64,
-    ok: &mut bool,
-) -> u32
+pub fn larnt_solid_hit(kind: u32, n: &[f64; 16], ray: &[f64; 6], t: &mut f64, ok: &mut bool) -> u32
     ensures answer { result ≡ simple_number (simple_of kind (numbers_of n.now)) }
     ensures lent { t.new ≡ distance_to (simple_of kind (numbers_of n.now)) (ray_of_row ray.now) }
     ensures struck { ok.new ≡ strikes (simple_of kind (numbers_of n.now)) (ray_of_row ray.now) }

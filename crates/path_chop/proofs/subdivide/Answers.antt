@@ -28,7 +28,7 @@ loop-left-smaller-then-not-done c =
 
 pub loop-left-preserved-then-not-done : goal.loop-left-preserved-then-not-done
 loop-left-preserved-then-not-done c =
-    subdividing-halved _ _ _ _ _ _ _ _ _ _ _ _ _ c.loop-left.invariant _ c.done.ensures c.if-not-done.true c.wait-arg-1.given.0.1 c.wait-arg-then-not-done-1.given.0.1 _ _ c.wait.ensures.0 c.wait.ensures.1 _ c.middle-to.ensures
+    subdividing-halved _ _ _ _ _ _ _ _ _ _ _ _ _ c.loop-left.invariant _ c.done.ensures c.if-not-done.true c.wait-arg-1.given.0.1 c.wait-arg-then-not-done-1.given.0.1 _ _ c.wait.ensures.0 c.wait.ensures.1 _ (cc)
 
 pub push-r-requires : goal.push-r-requires
 push-r-requires c =

@@ -6,7 +6,7 @@ use Rattle.test_yard.proofs.reply_right.Goals as goal
 
 pub slice_bounds-same_word-end : goal.slice_bounds-same_word-end
 slice_bounds-same_word-end c =
-    sym (length-take-le _ _ c.answer-n.ensures.lent.1.0)
+    sym (length-take-le _ _ c.answer-n.ensures.part.0)
 
 pub returns : goal.returns
 returns c =

@@ -5,4 +5,4 @@ use Rattle.yard.proofs.main.Goals as goal
 
 pub slice_bounds-write_all-end : goal.slice_bounds-write_all-end
 slice_bounds-write_all-end c =
-    sym (length-take-le _ _ c.answer-k.ensures.lent.1.0)
+    sym (length-take-le _ _ c.answer-k.ensures.part.0)
