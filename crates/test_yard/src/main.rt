@@ -64,10 +64,15 @@ fn wrong(s: &[u8]) -> u64
     n
 }
 
+// Reads the list into these places, and says what it holds.
+fn tell(rt: HostRuntime, list: &mut [u8]) -> io::Result<()> {
+    let n = test_words::read_list(&mut rt.stdin(), list);
+    let count = count(&list[..n]);
+    let wrong = wrong(&list[..n]);
+    println!(rt; "{count} texts, {wrong} wrong")
+}
+
 fn main(rt: HostRuntime) -> io::Result<()> {
     let mut buffer = [0u8; 524288];
-    let n = test_words::read_list(&mut rt.stdin(), &mut buffer);
-    let count = count(&buffer[..n]);
-    let wrong = wrong(&buffer[..n]);
-    println!(rt; "{count} texts, {wrong} wrong")
+    tell(rt, &mut buffer)
 }
