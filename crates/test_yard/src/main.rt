@@ -2,7 +2,7 @@
 // (specs/Records). The list is made by tools/differential/lists.
 #![tactic(auto)]
 
-ghost use Rattle.std.specs.Prelude.{◌≡◌, ◌+◌, ◌-◌, ◌*◌, ◌≤◌, length};
+ghost use Rattle.std.specs.Prelude.{◌≡◌, ◌+◌, ◌-◌, ◌*◌, ◌<◌, ◌≤◌, length};
 ghost use Rattle.test_yard.specs.Records.{reply_right, right_at, count_of, wrong_texts};
 
 use std::io;
@@ -72,7 +72,14 @@ fn tell(rt: HostRuntime, list: &mut [u8]) -> io::Result<()> {
     println!(rt; "{count} texts, {wrong} wrong")
 }
 
-fn main(rt: HostRuntime) -> io::Result<()> {
-    let mut buffer = [0u8; 524288];
+// The list in so many places. The number is a parameter, since the check follows an array of a known length place by place.
+fn places<const N: usize>(rt: HostRuntime) -> io::Result<()>
+    requires { N < 1048576 }
+{
+    let mut buffer = [0u8; N];
     tell(rt, &mut buffer)
+}
+
+fn main(rt: HostRuntime) -> io::Result<()> {
+    places::<524288>(rt)
 }
