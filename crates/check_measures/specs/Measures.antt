@@ -1,5 +1,5 @@
 -- Document 01's number 5: the used numbers of an entry are within 1,000,000, and its measures make sense.
-use Rattle.std.specs.Prelude.{Bool, true, not, ◌&&◌, ◌||◌, cond, eqb, Float}
+use Rattle.std.specs.Prelude.{Bool, true, not, ◌&&◌, ◌||◌, cond, eqb, Float, None, Option, Some}
 use Rattle.std.specs.Float.Ieee.{lt}
 use Rattle.floats.specs.Arith.{zero_f}
 use Rattle.floats.specs.Numbers.{within}
@@ -9,8 +9,6 @@ use Rattle.rows.specs.declared.Numbers.{Numbers}
 use Rattle.solids.specs.declared.solid.Solid.{Solid}
 use Rattle.solids.specs.declared.solid.Solid.TheVariants.{Sphere, Cylinder, Cone, Cube, Triangle, ClosedCylinder, ClosedCone}
 use Rattle.scene.specs.Entries.{simple_of, matrix_of}
-use Rattle.scene.specs.declared.entry.Simple.{Simple}
-use Rattle.scene.specs.declared.entry.Simple.TheVariants.{Is, Other}
 use Rattle.limits.specs.Limits.{within_point, within_matrix}
 
 -- a radius: within the limit, and not negative
@@ -43,9 +41,9 @@ solid_measured (Triangle a b c) = triangle_measured a b c
 solid_measured (ClosedCylinder r z0 z1) = cylinder_measured r z0 z1
 solid_measured (ClosedCone r h) = cone_measured r h
 
-unfoldable pub simple_measured : Simple → Bool
-simple_measured (Is s) = solid_measured s
-simple_measured Other = true
+unfoldable pub simple_measured : Option Solid → Bool
+simple_measured (Some s) = solid_measured s
+simple_measured None = true
 
 -- a placing uses all 16 numbers, a cut none
 unfoldable pub measured : Marks → Numbers → Bool

@@ -8,7 +8,6 @@ ghost use Rattle.check_measures.specs.Measures as Measures;
 use geometry::vector::Vector;
 use matrix::Matrix;
 use rows::{Marks, Numbers};
-use scene::entry::Simple;
 use solids::solid::Solid;
 
 fn is_radius(r: f64) -> bool
@@ -111,8 +110,8 @@ fn measured(m: Marks, n: Numbers) -> bool
     }
     let s = scene::entry::simple_of(m.kind, n);
     match s {
-        Simple::Is(solid) => solid_measured(solid),
-        Simple::Other => true,
+        Some(solid) => solid_measured(solid),
+        None => true,
     }
 }
 
@@ -122,13 +121,11 @@ pub fn all_measured(numbers: &[f64], marks: &[u32]) -> bool
     ensures { result ≡ all_of (λ i. Measures.measured (marks_at marks.now i) (numbers_at numbers.now i)) (length marks.now / 4) }
 {
     let n = marks.len() / 4;
-    let mut i = 0;
-    while i < n {
+    for i in 0..n {
         let m = rows::read_marks(marks, i);
         if !measured(m, rows::read_numbers(numbers, i)) {
             return false;
         }
-        i += 1;
     }
     true
 }

@@ -41,12 +41,10 @@ pub fn all_known(marks: &[u32]) -> bool
     ensures { result ≡ all_of (λ i. Values.known (marks_at marks.now i)) (length marks.now / 4) }
 {
     let n = marks.len() / 4;
-    let mut i = 0;
-    while i < n {
+    for i in 0..n {
         if !known(rows::read_marks(marks, i)) {
             return false;
         }
-        i += 1;
     }
     true
 }
@@ -62,12 +60,10 @@ pub fn all_few_stripes(marks: &[u32]) -> bool
     ensures { result ≡ all_of (λ i. Values.few_stripes (marks_at marks.now i)) (length marks.now / 4) }
 {
     let n = marks.len() / 4;
-    let mut i = 0;
-    while i < n {
+    for i in 0..n {
         if !few_stripes(rows::read_marks(marks, i)) {
             return false;
         }
-        i += 1;
     }
     true
 }

@@ -78,12 +78,10 @@ fn enter_all(marks: &[u32], depths: &mut [u32], named: &mut [u32]) -> bool
     ensures flags { result ≡ true → Parts.Flags (Parts.named_before marks.now (length marks.now / 4)) named.new }
 {
     let n = marks.len() / 4;
-    let mut i = 0;
-    while i < n {
+    for i in 0..n {
         if !enter(marks, depths, named, i) {
             return false;
         }
-        i += 1;
     }
     true
 }
@@ -141,8 +139,7 @@ fn next_owner(owners: &[u32], i: usize) -> u32
 pub fn good_owners(marks: &[u32], owners: &[u32]) -> bool
     ensures { result ≡ Owners.owners_ok marks.now owners.now }
 {
-    let mut i = 0;
-    while i < owners.len() {
+    for i in 0..owners.len() {
         if !round_entry(marks, owners[i]) {
             return false;
         }
@@ -150,7 +147,6 @@ pub fn good_owners(marks: &[u32], owners: &[u32]) -> bool
         if next < owners[i] {
             return false;
         }
-        i += 1;
     }
     true
 }
@@ -161,16 +157,13 @@ pub fn list_unnamed(named: &[u32], n: usize, drawn: &mut [u32]) -> usize
     ensures value { result ≡ length (Drawn.unnamed (Drawn.flagged named.now) n) }
     ensures drawn_after { take result drawn.new ≡ Drawn.unnamed (Drawn.flagged named.now) n }
 {
-    let mut i = 0;
     let mut d = 0;
-    while i < n {
+    for i in 0..n {
         if named[i] != 0 {
-            i += 1;
             continue;
         }
         drawn[d] = i as u32;
         d += 1;
-        i += 1;
     }
     d
 }

@@ -22,13 +22,13 @@ use Rattle.check_scene.specs.Placings.{inverse_at}
 use Rattle.check_scene.specs.Extents.{zero_box, own_box}
 use Rattle.check_scene.specs.Checks.{lengths_agree, check_of, inverses_of, boxes_of, if_accepted}
 use Rattle.scene.specs.Scenes.{Scene, entries_of}
-use Rattle.check_scene.specs.declared.Verdict.{Verdict}
-use Rattle.check_scene.specs.declared.Verdict.TheVariants.{Accepted}
 use Rattle.check_scene.proofs.Verdicts.{lengths-few, lengths-numbers, is-lengths, not-accepted}
 use Rattle.check_scene.proofs.Reading.{any_entry, stored-solid}
+use Rattle.std.specs.Prelude.{Ok, Result}
+use Rattle.refusals.specs.declared.Refusal.{Refusal}
 
 -- a list that is left where the verdict accepts
-pub left_is : {A : Type 0} (z : A) {v : Verdict} (n : ℕ) → v ≡ Accepted n → (L : ℕ) (xs : List A) {ys : List A} → ys ≡ padded z L (if_accepted v xs) → ys ≡ padded z L xs
+pub left_is : {A : Type 0} (z : A) {v : Result ℕ Refusal} (n : ℕ) → v ≡ Ok n → (L : ℕ) (xs : List A) {ys : List A} → ys ≡ padded z L (if_accepted v xs) → ys ≡ padded z L xs
 unfolding if_accepted
 left_is z n is L xs left = left ∙ rw is
 
@@ -54,7 +54,7 @@ module _ {A B : Type 0} (k : ℕ) (f : List A → B) (g : B → List A) (wide : 
       let w : length (flat g (list_to h n)) ≡ n * k = length-flat k f g wide (list_to h n) ∙ ap (λ (m : ℕ). m * k) (length_to h n) in
       omega (arith, padded-room z L (flat g (list_to h n)) left, w)
 
-module _ (s : Scene) (n : ℕ) (is : check_of s ≡ Accepted n) where
+module _ (s : Scene) (n : ℕ) (is : check_of s ≡ Ok n) where
   agrees : (t : Bool) → lengths_agree s ≡ t → t ≡ true
   agrees true e = refl
   agrees false e = not-accepted (is-lengths s refl e ∙ is)

@@ -17,6 +17,7 @@ use Rattle.lists.specs.Lists.{list_to}
 use Rattle.lists.proofs.Tests.{list_at}
 use Rattle.check_scene.specs.Extents.{zero_box, stored_box, entry_box, own_box, Readable}
 use Rattle.check_scene.proofs.Reading.{each_map, box-as, own-parts, box_opens}
+use Rattle.std.specs.Prelude.{Option}
 
 module _ (ns vs : List Float) (ms : List ℕ) (R : Readable ns vs ms) (xs₀ xs : List Float) (i : ℕ) (l : i < entries ms)
     (fit : entries ms * 6 ≤ length xs₀) (same : length xs ≡ length xs₀) (filled : view 6 box_of_row i xs ≡ list_to (own_box ns ms) i) where
@@ -26,7 +27,7 @@ module _ (ns vs : List Float) (ms : List ℕ) (R : Readable ns vs ms) (xs₀ xs 
       rw (lt-ltb k (length xs / 6) (omega (arith, fit, same, l, h)))
       (sym (get_d-view 6 box_of_row i k xs zero_box h) ∙ ap (λ (bs : List BBox). get_or bs k zero_box) filled ∙ list_at (own_box ns ms) zero_box i k h)
 
-  pub formed : {e : Entry} {b : BBox} → e ≡ entry_at ns vs ms i → b ≡ entry_box (stored_box xs) e → b ≡ own_box ns ms i
+  pub formed : {e : Option Entry} {b : BBox} → e ≡ entry_at ns vs ms i → b ≡ entry_box (stored_box xs) e → b ≡ own_box ns ms i
   formed p q =
       q
       ∙ ap (entry_box (stored_box xs)) (p ∙ R.same i l)

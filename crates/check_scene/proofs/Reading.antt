@@ -16,10 +16,8 @@ use Rattle.rows.specs.declared.Marks.{Marks}
 use Rattle.rows.specs.declared.Numbers.{Numbers}
 use Rattle.rows.proofs.Rows.{get_d-view}
 use Rattle.scene.specs.Entries.{simple_of, simple_or, op_of, cut_of, composite_of, entry_of, matrix_of, matrix_numbers, marks_at, numbers_at, entry_at, own_entry}
-use Rattle.scene.specs.declared.entry.Simple.{Simple}
-use Rattle.scene.specs.declared.entry.Simple.TheVariants.{Is, Other}
 use Rattle.scene.specs.declared.entry.Entry.{Entry}
-use Rattle.scene.specs.declared.entry.Entry.TheVariants.{Simple as SimpleEntry, Placed, Cut, None}
+use Rattle.scene.specs.declared.entry.Entry.TheVariants.{Simple as SimpleEntry, Placed, Cut}
 use Rattle.scene_shape.specs.Shapes.{Shape, read, shape_of, shape_box, solid_of}
 use Rattle.check_parts.specs.Parts.{parts_ok}
 use Rattle.scene.specs.Scenes.{entries}
@@ -28,58 +26,60 @@ use Rattle.lists.specs.Lists.{list_to}
 use Rattle.lists.proofs.Tests.{list_at}
 use Rattle.check_scene.specs.Placings.{inverse_of, inverse_at, zero_numbers}
 use Rattle.check_scene.specs.Extents.{entry_box, own_box}
+use Rattle.std.specs.Prelude.{None, Option, Some}
+use Rattle.solids.specs.declared.solid.Solid.{Solid}
 
 -- each part of an entry has the property
-abbrev pub Each : (ℕ → Type 0) → Entry → Type 0
-Each P (SimpleEntry s) = Unit
-Each P (Placed m v k) = P k
-Each P (Cut o a b) = P a × P b
+abbrev pub Each : (ℕ → Type 0) → Option Entry → Type 0
+Each P (Some (SimpleEntry s)) = Unit
+Each P (Some (Placed m v k)) = P k
+Each P (Some (Cut o a b)) = P a × P b
 Each P None = Unit
 
-pub each_map : {P Q : ℕ → Type 0} (e : Entry) → ((k : ℕ) → P k → Q k) → Each P e → Each Q e
-each_map (SimpleEntry s) f h = tt
-each_map (Placed m v k) f h = f k h
-each_map (Cut o a b) f h = (f a h.0, f b h.1)
+pub each_map : {P Q : ℕ → Type 0} (e : Option Entry) → ((k : ℕ) → P k → Q k) → Each P e → Each Q e
+each_map (Some (SimpleEntry s)) f h = tt
+each_map (Some (Placed m v k)) f h = f k h
+each_map (Some (Cut o a b)) f h = (f a h.0, f b h.1)
 each_map None f h = tt
 
 -- what is read of an entry hangs on its parts alone
-pub shape-as : (F G : ℕ → Shape) (e : Entry) → Each (λ k. F k ≡ G k) e → shape_of F e ≡ shape_of G e
+pub shape-as : (F G : ℕ → Shape) (e : Option Entry) → Each (λ k. F k ≡ G k) e → shape_of F e ≡ shape_of G e
 unfolding shape_of
-shape-as F G (SimpleEntry s) h = refl
-shape-as F G (Placed m v k) h = rw h
-shape-as F G (Cut o a b) h = rw (h.0, h.1)
+shape-as F G (Some (SimpleEntry s)) h = refl
+shape-as F G (Some (Placed m v k)) h = rw h
+shape-as F G (Some (Cut o a b)) h = rw (h.0, h.1)
 shape-as F G None h = refl
 
-pub box-as : (F G : ℕ → BBox) (e : Entry) → Each (λ k. F k ≡ G k) e → entry_box F e ≡ entry_box G e
+pub box-as : (F G : ℕ → BBox) (e : Option Entry) → Each (λ k. F k ≡ G k) e → entry_box F e ≡ entry_box G e
 unfolding entry_box
-box-as F G (SimpleEntry s) h = refl
-box-as F G (Placed m v k) h = rw h
-box-as F G (Cut o a b) h = rw (h.0, h.1)
+box-as F G (Some (SimpleEntry s)) h = refl
+box-as F G (Some (Placed m v k)) h = rw h
+box-as F G (Some (Cut o a b)) h = rw (h.0, h.1)
 box-as F G None h = refl
 
-box-of-shape : (F : ℕ → Shape) (e : Entry) → shape_box (shape_of F e) ≡ entry_box (λ k. shape_box (F k)) e
+box-of-shape : (F : ℕ → Shape) (e : Option Entry) → shape_box (shape_of F e) ≡ entry_box (λ k. shape_box (F k)) e
 unfolding shape_box shape_of entry_box
-box-of-shape F (SimpleEntry s) = refl
-box-of-shape F (Placed m v k) = refl
-box-of-shape F (Cut o a b) = refl
+box-of-shape F (Some (SimpleEntry s)) = refl
+box-of-shape F (Some (Placed m v k)) = refl
+box-of-shape F (Some (Cut o a b)) = refl
 box-of-shape F None = refl
 
 -- the parts of an entry are those that its marks name
 module _ (P : ℕ → Type 0) (m : Marks) (six : m.kind ≡ 6 → P m.first) (seven : m.kind ≡ 7 → P m.first × P m.second) where
-  each-cut : (t : Bool) → m.kind ≡ 7 → Each P (cond t (Cut (op_of m.detail) m.first m.second) None)
+  each-cut : (t : Bool) → m.kind ≡ 7 → Each P (cond t (Some (Cut (op_of m.detail) m.first m.second)) None)
   each-cut true e = seven e
   each-cut false e = tt
 
-  each-composite : (n v : Numbers) (t6 t7 : Bool) → eqb m.kind 6 ≡ t6 → eqb m.kind 7 ≡ t7 → Each P (cond t6 (Placed (matrix_of n) (matrix_of v) m.first) (cond t7 (cut_of m) None))
+  each-composite : (n v : Numbers) (t6 t7 : Bool) → eqb m.kind 6 ≡ t6 → eqb m.kind 7 ≡ t7 → Each P (cond t6 (Some (Placed (matrix_of n) (matrix_of v) m.first)) (cond t7 (cut_of m) None))
   unfolding cut_of
   each-composite n v true t7 e6 e7 = six (eqb-true m.kind 6 e6)
   each-composite n v false true e6 e7 = each-cut (leb m.detail 3) (eqb-true m.kind 7 e7)
   each-composite n v false false e6 e7 = tt
 
-  each_or : (s : Simple) (e : Entry) → Each P e → Each P (simple_or s e)
+  each_or : (s : Option Solid) (e : Option Entry) → Each P e → Each P (simple_or s e)
   unfolding simple_or
-  each_or (Is s) e h = tt
-  each_or Other e h = h
+  each_or (Some s) e h = tt
+  each_or None e h = h
 
   pub each-entry : (n v : Numbers) → Each P (entry_of m n v)
   unfolding entry_of composite_of
@@ -136,7 +136,7 @@ module _ (ns vs : List Float) (ms : List ℕ) (fit : entries ms * 16 ≤ length 
       rw (lt-ltb i (length ns / 16) (omega arith), lt-ltb i (length vs / 16) (omega arith), lt-ltb i (length ms / 4) h, stored i h)
       (inverse-read (marks_at ms i) (numbers_at ns i) (eqb (marks_at ms i).kind 6) refl)
 
-  no-entry : (i : ℕ) → entries ms ≤ i → (a b : Bool) (x y : Entry) → cond (a && (b && ltb i (entries ms))) x None ≡ cond (a && ltb i (entries ms)) y None
+  no-entry : (i : ℕ) → entries ms ≤ i → (a b : Bool) (x y : Option Entry) → cond (a && (b && ltb i (entries ms))) x None ≡ cond (a && ltb i (entries ms)) y None
   no-entry i h true true x y = rw (le-ltb i (entries ms) h)
   no-entry i h true false x y = rw (le-ltb i (entries ms) h)
   no-entry i h false b x y = refl
@@ -150,10 +150,10 @@ module _ (ns vs : List Float) (ms : List ℕ) (fit : entries ms * 16 ≤ length 
       by true e = stored-entry i (ltb-true i (entries ms) e)
       by false e = no-entry i (ltb-false i (entries ms) e) (ltb i (length ns / 16)) (ltb i (length vs / 16)) _ _
 
-  all-parts : (P : ℕ → Type 0) → ((k : ℕ) → P k) → (e : Entry) → Each P e
-  all-parts P f (SimpleEntry s) = tt
-  all-parts P f (Placed m v k) = f k
-  all-parts P f (Cut o a b) = (f a, f b)
+  all-parts : (P : ℕ → Type 0) → ((k : ℕ) → P k) → (e : Option Entry) → Each P e
+  all-parts P f (Some (SimpleEntry s)) = tt
+  all-parts P f (Some (Placed m v k)) = f k
+  all-parts P f (Some (Cut o a b)) = (f a, f b)
   all-parts P f None = tt
 
   -- the solids are read with them as with their own

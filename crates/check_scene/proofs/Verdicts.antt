@@ -18,8 +18,7 @@ use Rattle.check_parts.specs.Drawn.{unnamed, drawn}
 use Rattle.check_parts.proofs.Parts.{never}
 use Rattle.check_scene.specs.Checks.{lengths_agree, values_ok, stripes_ok, names_ok, lines_owned, starts_ok, measures_ok, placings_ok, extents_ok, check_of, first_met}
 use Rattle.check_scene.specs.Stored.{Held}
-use Rattle.check_scene.specs.declared.Verdict.{Verdict}
-use Rattle.check_scene.specs.declared.Verdict.TheVariants.{Accepted, Refused}
+use Rattle.std.specs.Prelude.{Err, Ok, Result}
 
 -- ---- what number 2 gives
 module _ (s : Scene) {a : Bool} (e : a ≡ lengths_agree s) (t : a ≡ true) where
@@ -36,70 +35,70 @@ module _ (s : Scene) {a : Bool} (e : a ≡ lengths_agree s) (t : a ≡ true) whe
 
 -- ---- the tests in their order
 module _ (s : Scene) {a : Bool} (ea : a ≡ lengths_agree s) where
-  pub is-lengths : a ≡ false → Refused Lengths ≡ check_of s
+  pub is-lengths : a ≡ false → Err Lengths ≡ check_of s
   unfolding check_of first_met
   is-lengths f = rw (← ea, f)
 
   module _ (ta : a ≡ true) {b : Bool} (eb : b ≡ values_ok s) where
-    pub is-values : b ≡ false → Refused Values ≡ check_of s
+    pub is-values : b ≡ false → Err Values ≡ check_of s
     unfolding check_of first_met
     is-values f = rw (← ea, ta, ← eb, f)
 
     module _ (tb : b ≡ true) {z : Bool} (ez : z ≡ stripes_ok s) where
-      pub is-striped : z ≡ false → Refused Stripes ≡ check_of s
+      pub is-striped : z ≡ false → Err Stripes ≡ check_of s
       unfolding check_of first_met
       is-striped f = rw (← ea, ta, ← eb, tb, ← ez, f)
 
       module _ (tz : z ≡ true) {c : Bool} (ec : c ≡ names_ok s) where
-        pub is-named : c ≡ false → Refused Parts ≡ check_of s
+        pub is-named : c ≡ false → Err Parts ≡ check_of s
         unfolding check_of first_met
         is-named f = rw (← ea, ta, ← eb, tb, ← ez, tz, ← ec, f)
 
         module _ (tc : c ≡ true) {d : Bool} (ed : d ≡ lines_owned s) where
-          pub is-owners : d ≡ false → Refused Parts ≡ check_of s
+          pub is-owners : d ≡ false → Err Parts ≡ check_of s
           unfolding check_of first_met
           is-owners f = rw (← ea, ta, ← eb, tb, ← ez, tz, ← ec, tc, ← ed, f)
 
           module _ (td : d ≡ true) {e : Bool} (ee : e ≡ starts_ok s) where
-            pub is-starts : e ≡ false → Refused Parts ≡ check_of s
+            pub is-starts : e ≡ false → Err Parts ≡ check_of s
             unfolding check_of first_met
             is-starts f = rw (← ea, ta, ← eb, tb, ← ez, tz, ← ec, tc, ← ed, td, ← ee, f)
 
             module _ (te : e ≡ true) {g : Bool} (eg : g ≡ measures_ok s) where
-              pub is-measures : g ≡ false → Refused Measures ≡ check_of s
+              pub is-measures : g ≡ false → Err Measures ≡ check_of s
               unfolding check_of first_met
               is-measures f = rw (← ea, ta, ← eb, tb, ← ez, tz, ← ec, tc, ← ed, td, ← ee, te, ← eg, f)
 
               module _ (tg : g ≡ true) {h : Bool} (eh : h ≡ placings_ok s) where
-                pub is-placing : h ≡ false → Refused Placing ≡ check_of s
+                pub is-placing : h ≡ false → Err Placing ≡ check_of s
                 unfolding check_of first_met
                 is-placing f = rw (← ea, ta, ← eb, tb, ← ez, tz, ← ec, tc, ← ed, td, ← ee, te, ← eg, tg, ← eh, f)
 
                 module _ (th : h ≡ true) {i : Bool} (ei : i ≡ extents_ok s) where
-                  pub is-extent : i ≡ false → Refused Extent ≡ check_of s
+                  pub is-extent : i ≡ false → Err Extent ≡ check_of s
                   unfolding check_of first_met
                   is-extent f = rw (← ea, ta, ← eb, tb, ← ez, tz, ← ec, tc, ← ed, td, ← ee, te, ← eg, tg, ← eh, th, ← ei, f)
 
-                  pub is-accepted : i ≡ true → {n : ℕ} → n ≡ length (drawn s.marks) → Accepted n ≡ check_of s
+                  pub is-accepted : i ≡ true → {n : ℕ} → n ≡ length (drawn s.marks) → Ok n ≡ check_of s
                   unfolding check_of first_met
                   is-accepted t q = rw (← ea, ta, ← eb, tb, ← ez, tz, ← ec, tc, ← ed, td, ← ee, te, ← eg, tg, ← eh, th, ← ei, t, q)
 
 -- ---- the two verdicts apart
-abbrev is_accepted : Verdict → Bool
-is_accepted (Accepted n) = true
-is_accepted (Refused k) = false
+abbrev is_accepted : Result ℕ Refusal → Bool
+is_accepted (Ok n) = true
+is_accepted (Err k) = false
 
-abbrev count_of : Verdict → ℕ
-count_of (Accepted n) = n
-count_of (Refused k) = 0
+abbrev count_of : Result ℕ Refusal → ℕ
+count_of (Ok n) = n
+count_of (Err k) = 0
 
-pub not-accepted : {k : Refusal} {n : ℕ} {A : Type 0} → Refused k ≡ Accepted n → A
+pub not-accepted : {k : Refusal} {n : ℕ} {A : Type 0} → Err k ≡ Ok n → A
 not-accepted e = never (ap is_accepted e)
 
-pub accepted-same : {a b : ℕ} → Accepted a ≡ Accepted b → a ≡ b
+pub accepted-same : {a b : ℕ} → ◌≡◌ {A = Result ℕ Refusal} (Ok a) (Ok b) → a ≡ b
 accepted-same e = ap count_of e
 
-pub held-as : {s : Scene} {d : ℕ} {vs bs : List Float} {ds : List ℕ} → Held s d vs bs ds → (n : ℕ) → Accepted d ≡ Accepted n → Held s n vs bs ds
+pub held-as : {s : Scene} {d : ℕ} {vs bs : List Float} {ds : List ℕ} → Held s d vs bs ds → (n : ℕ) → ◌≡◌ {A = Result ℕ Refusal} (Ok d) (Ok n) → Held s n vs bs ds
 held-as {s} {d} {vs} {bs} {ds} h n e = subst (λ (m : ℕ). Held s m vs bs ds) (ap count_of e) h
 
 -- ---- no more are listed than there are

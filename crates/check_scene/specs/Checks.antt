@@ -1,5 +1,5 @@
 -- The check of a scene: document 01's numbers 2 to 7, and document 02's 14 just after 3, each over the whole scene before the next.
-use Rattle.std.specs.Prelude.{ℕ, ◌*◌, ◌/◌, ◌≡◌, Bool, ◌&&◌, cond, List, [], ◌∷◌, length, leb, eqb, Float}
+use Rattle.std.specs.Prelude.{ℕ, ◌*◌, ◌/◌, ◌≡◌, Bool, ◌&&◌, cond, List, [], ◌∷◌, length, leb, eqb, Float, Err, Ok, Result}
 use Rattle.floats.specs.Arith.{zero_f}
 use Rattle.rows.specs.Rows.{flat, padded}
 use Rattle.rows.specs.Points.{box_row}
@@ -18,10 +18,7 @@ use Rattle.check_measures.specs.Values.{known, few_stripes}
 use Rattle.check_measures.specs.Measures.{measured}
 use Rattle.check_scene.specs.Placings.{placing_ok, inverse_at}
 use Rattle.check_scene.specs.Extents.{own_box}
-use Rattle.scene_shape.specs.declared.Struck.{Struck}
-use Rattle.scene_shape.specs.declared.Struck.TheVariants.{Refused as NotStruck}
-use Rattle.check_scene.specs.declared.Verdict.{Verdict}
-use Rattle.check_scene.specs.declared.Verdict.TheVariants.{Accepted, Refused}
+use Rattle.geometry.specs.declared.hit.Hit.{Hit}
 
 -- number 2: 16 numbers and 4 marks an entry, an owner a path start, three numbers a point, and at most 1,024 entries
 unfoldable pub lengths_agree : Scene → Bool
@@ -63,12 +60,12 @@ abbrev pub extents_ok : Scene → Bool
 extents_ok s = all_of (λ i. within_box (own_box s.numbers s.marks i)) (entries_of s)
 
 -- of conditions in order, each with its number: the number of the first that doesn't hold, or the verdict where all hold
-unfoldable pub first_met : List (Bool × Refusal) → Verdict → Verdict
+unfoldable pub first_met : List (Bool × Refusal) → Result ℕ Refusal → Result ℕ Refusal
 first_met [] v = v
-first_met ((holds, number) ∷ rest) v = cond holds (first_met rest v) (Refused number)
+first_met ((holds, number) ∷ rest) v = cond holds (first_met rest v) (Err number)
 
 -- numbers 2, 3, 14 and 4 to 7 in checking order, or how many entries are drawn
-unfoldable pub check_of : Scene → Verdict
+unfoldable pub check_of : Scene → Result ℕ Refusal
 check_of s =
     first_met
     ((lengths_agree s, Lengths)
@@ -79,7 +76,7 @@ check_of s =
     ∷ (placings_ok s, Placing)
     ∷ (extents_ok s, Extent)
     ∷ [])
-    (Accepted (length (drawn s.marks)))
+    (Ok (length (drawn s.marks)))
 
 -- ---- what the check leaves of a scene that it accepts, nothing of another
 abbrev pub inverses_of : Scene → List Float
@@ -88,18 +85,18 @@ inverses_of s = flat numbers_row (list_to (inverse_at s.numbers s.marks) (entrie
 abbrev pub boxes_of : Scene → List Float
 boxes_of s = flat box_row (list_to (own_box s.numbers s.marks) (entries_of s))
 
-unfoldable pub if_accepted {ℓ} : {A : Type ℓ} → Verdict → List A → List A
-if_accepted (Accepted n) rows = rows
-if_accepted (Refused k) rows = []
+unfoldable pub if_accepted {ℓ} : {A : Type ℓ} → Result ℕ Refusal → List A → List A
+if_accepted (Ok n) rows = rows
+if_accepted (Err k) rows = []
 
 -- the verdict, and how the check leaves the slices for inverses, boxes and drawn entries, by what they held before
-pub record Checked (s : Scene) (inverses₀ boxes₀ : List Float) (drawn₀ : List ℕ) (r : Verdict) (inverses boxes : List Float) (listed : List ℕ) : Type 0 where
+pub record Checked (s : Scene) (inverses₀ boxes₀ : List Float) (drawn₀ : List ℕ) (r : Result ℕ Refusal) (inverses boxes : List Float) (listed : List ℕ) : Type 0 where
   pub verdict : r ≡ check_of s
   pub inverses_are : inverses ≡ padded zero_f (length inverses₀) (if_accepted r (inverses_of s))
   pub boxes_are : boxes ≡ padded zero_f (length boxes₀) (if_accepted r (boxes_of s))
   pub drawn_are : listed ≡ padded 0 (length drawn₀) (if_accepted r (drawn s.marks))
 
 -- what a ray meets, asked of a scene after its verdict
-unfoldable pub struck_after : Verdict → Struck → Struck
-struck_after (Accepted n) h = h
-struck_after (Refused k) h = NotStruck k
+unfoldable pub struck_after : Result ℕ Refusal → Result Hit Refusal → Result Hit Refusal
+struck_after (Ok n) h = h
+struck_after (Err k) h = Err k

@@ -1,5 +1,5 @@
 -- Document 01's number 7: each entry's box is within 1,000,000. Boxes are formed in entry order, from those of the parts.
-use Rattle.std.specs.Prelude.{ℕ, ◌/◌, ◌<◌, ◌≡◌, true, cond, List, length, ltb, Float}
+use Rattle.std.specs.Prelude.{ℕ, ◌/◌, ◌<◌, ◌≡◌, true, cond, List, length, ltb, Float, None, Option, Some}
 use Rattle.floats.specs.Arith.{zero_f}
 use Rattle.geometry.specs.Vectors.{vec}
 use Rattle.geometry.specs.Boxes.{box_of, extend_box}
@@ -10,7 +10,7 @@ use Rattle.rows.specs.Points.{box_of_row}
 use Rattle.solids.specs.Solids.{solid_box}
 use Rattle.scene.specs.Entries.{entry_at, own_entry}
 use Rattle.scene.specs.declared.entry.Entry.{Entry}
-use Rattle.scene.specs.declared.entry.Entry.TheVariants.{Simple, Placed, Cut, None}
+use Rattle.scene.specs.declared.entry.Entry.TheVariants.{Simple, Placed, Cut}
 use Rattle.scene_shape.specs.Shapes.{solid_of, shape_box}
 use Rattle.check_parts.specs.Parts.{parts_ok}
 use Rattle.scene.specs.Scenes.{entries}
@@ -23,10 +23,10 @@ unfoldable pub stored_box : List Float → ℕ → BBox
 stored_box boxes k = cond (ltb k (length boxes / 6)) (box_of_row (row 6 k boxes)) zero_box
 
 -- an entry's box, where f gives those of its parts
-unfoldable pub entry_box : (ℕ → BBox) → Entry → BBox
-entry_box f (Simple s) = solid_box s
-entry_box f (Placed m v k) = mul_box m (f k)
-entry_box f (Cut o a b) = extend_box (f a) (f b)
+unfoldable pub entry_box : (ℕ → BBox) → Option Entry → BBox
+entry_box f (Some (Simple s)) = solid_box s
+entry_box f (Some (Placed m v k)) = mul_box m (f k)
+entry_box f (Some (Cut o a b)) = extend_box (f a) (f b)
 entry_box f None = zero_box
 
 -- document 01's own box of the solid at entry i

@@ -38,14 +38,14 @@ fn box_at(boxes: &[f64], k: usize) -> BBox
 }
 
 // An entry's box, from those of its parts.
-fn entry_box(e: Entry, boxes: &[f64]) -> BBox
+fn entry_box(e: Option<Entry>, boxes: &[f64]) -> BBox
     ensures { result ≡ Extents.entry_box (Extents.stored_box boxes.now) e }
 {
     match e {
-        Entry::Simple(s) => s.bounding_box(),
-        Entry::Placed(m, _, k) => m.mul_box(box_at(boxes, k)),
-        Entry::Cut(_, a, b) => box_at(boxes, a).extend(box_at(boxes, b)),
-        Entry::None => zero_box(),
+        Some(Entry::Simple(s)) => s.bounding_box(),
+        Some(Entry::Placed(m, _, k)) => m.mul_box(box_at(boxes, k)),
+        Some(Entry::Cut(_, a, b)) => box_at(boxes, a).extend(box_at(boxes, b)),
+        None => zero_box(),
     }
 }
 
@@ -56,15 +56,13 @@ pub fn all_within(numbers: &[f64], inverses: &[f64], marks: &[u32], boxes: &mut 
     ensures boxes_after { result ≡ true → view 6 box_of_row (length marks.now / 4) boxes.new ≡ list_to (Extents.own_box numbers.now marks.now) (length marks.now / 4) }
 {
     let n = marks.len() / 4;
-    let mut i = 0;
-    while i < n {
+    for i in 0..n {
         let e = scene::entry::entry_at(numbers, inverses, marks, i);
         let b = entry_box(e, boxes);
         rows::write_box(boxes, i, b);
         if !limits::within_box(b) {
             return false;
         }
-        i += 1;
     }
     true
 }

@@ -4,19 +4,12 @@
 pub mod extents;
 pub mod placings;
 
-ghost use Rattle.std.specs.Prelude.{◌≡◌, ℕ, ◌≤◌, length};
+ghost use Rattle.std.specs.Prelude.{◌≡◌, ℕ, ◌≤◌, length, Ok};
 ghost use Rattle.check_scene.specs.Checks.{lengths_agree, check_of, Checked};
 ghost use Rattle.scene.specs.Scenes.{scene_of};
 ghost use Rattle.check_scene.specs.Stored.{Held, RoomFor};
 
 use refusals::Refusal;
-
-// A scene is accepted, with so many drawn entries, or refused.
-#[derive(Clone, Copy)]
-pub enum Verdict {
-    Accepted(usize),
-    Refused(Refusal),
-}
 
 fn lengths_agree(
     numbers: &[f64],
@@ -53,40 +46,40 @@ fn judge(
     inverses: &mut [f64],
     boxes: &mut [f64],
     drawn: &mut [u32],
-) -> Verdict
+) -> Result<usize, Refusal>
     requires { RoomFor marks.now inverses.old boxes.old drawn.old }
     ensures value { result ≡ check_of (scene_of numbers.now marks.now points.now starts.now owners.now) }
-    ensures by_index { (n : ℕ) → result ≡ Verdict.Accepted n → Held (scene_of numbers.now marks.now points.now starts.now owners.now) n inverses.new boxes.new drawn.new }
+    ensures by_index { (n : ℕ) → result ≡ Ok n → Held (scene_of numbers.now marks.now points.now starts.now owners.now) n inverses.new boxes.new drawn.new }
 {
     if !lengths_agree(numbers, marks, points, starts, owners) {
-        return Verdict::Refused(Refusal::Lengths);
+        return Err(Refusal::Lengths);
     }
     if !check_measures::values::all_known(marks) {
-        return Verdict::Refused(Refusal::Values);
+        return Err(Refusal::Values);
     }
     if !check_measures::values::all_few_stripes(marks) {
-        return Verdict::Refused(Refusal::Stripes);
+        return Err(Refusal::Stripes);
     }
     let mut named = [0u32; 1024];
     if !check_parts::well_named(marks, &mut named) {
-        return Verdict::Refused(Refusal::Parts);
+        return Err(Refusal::Parts);
     }
     if !check_parts::good_owners(marks, owners) {
-        return Verdict::Refused(Refusal::Parts);
+        return Err(Refusal::Parts);
     }
     if !rows::good_starts(starts, points.len() / 3) {
-        return Verdict::Refused(Refusal::Parts);
+        return Err(Refusal::Parts);
     }
     if !check_measures::measures::all_measured(numbers, marks) {
-        return Verdict::Refused(Refusal::Measures);
+        return Err(Refusal::Measures);
     }
     if !placings::invert_all(numbers, marks, inverses) {
-        return Verdict::Refused(Refusal::Placing);
+        return Err(Refusal::Placing);
     }
     if !extents::all_within(numbers, inverses, marks, boxes) {
-        return Verdict::Refused(Refusal::Extent);
+        return Err(Refusal::Extent);
     }
-    Verdict::Accepted(check_parts::list_unnamed(&named, marks.len() / 4, drawn))
+    Ok(check_parts::list_unnamed(&named, marks.len() / 4, drawn))
 }
 
 // Judges a scene by numbers 2, 3, 14 and 4 to 7. Of an accepted one the slices hold the inverses (zeros for what is
@@ -101,7 +94,7 @@ pub fn check_in(
     inverses: &mut [f64],
     boxes: &mut [f64],
     drawn: &mut [u32],
-) -> Verdict
+) -> Result<usize, Refusal>
     requires { RoomFor marks.now inverses.old boxes.old drawn.old }
     ensures { Checked (scene_of numbers.now marks.now points.now starts.now owners.now) inverses.old boxes.old drawn.old result inverses.new boxes.new drawn.new }
 {
@@ -109,18 +102,18 @@ pub fn check_in(
         numbers, marks, points, starts, owners, inverses, boxes, drawn,
     );
     match v {
-        Verdict::Refused(k) => {
+        Err(k) => {
             rows::clear(inverses, 0);
             rows::clear(boxes, 0);
             rows::clear_marks(drawn, 0);
-            Verdict::Refused(k)
+            Err(k)
         }
-        Verdict::Accepted(d) => {
+        Ok(d) => {
             let n = marks.len() / 4;
             rows::clear(inverses, n * 16);
             rows::clear(boxes, n * 6);
             rows::clear_marks(drawn, d);
-            Verdict::Accepted(d)
+            Ok(d)
         }
     }
 }
@@ -135,7 +128,7 @@ pub fn check(
     inverses: &mut [f64],
     boxes: &mut [f64],
     drawn: &mut [u32],
-) -> Verdict
+) -> Result<usize, Refusal>
     requires { (16384 ≤ length inverses.old) × ((6144 ≤ length boxes.old) × (1024 ≤ length drawn.old)) }
     ensures { Checked (scene_of numbers.now marks.now points.now starts.now owners.now) inverses.old boxes.old drawn.old result inverses.new boxes.new drawn.new }
 {

@@ -66,12 +66,10 @@ pub fn invert_all(numbers: &[f64], marks: &[u32], inverses: &mut [f64]) -> bool
     ensures inverses_after { result ≡ true → view 16 numbers_of (length marks.now / 4) inverses.new ≡ list_to (Placings.inverse_at numbers.now marks.now) (length marks.now / 4) }
 {
     let n = marks.len() / 4;
-    let mut i = 0;
-    while i < n {
+    for i in 0..n {
         if !invert(numbers, marks, i, inverses) {
             return false;
         }
-        i += 1;
     }
     true
 }

@@ -27,16 +27,15 @@ use Rattle.solids.specs.Solids.{solid_box}
 use Rattle.solids.specs.declared.solid.Solid.{Solid}
 use Rattle.solids.specs.declared.solid.Solid.TheVariants.{Sphere, Cylinder, Cone, Cube, Triangle, ClosedCylinder, ClosedCone}
 use Rattle.scene.specs.Entries.{closed_of, simple_of, matrix_of, op_of, cut_of, composite_of, simple_or, entry_of}
-use Rattle.scene.specs.declared.entry.Simple.{Simple}
-use Rattle.scene.specs.declared.entry.Simple.TheVariants.{Is, Other}
 use Rattle.scene.specs.declared.entry.Entry.{Entry}
-use Rattle.scene.specs.declared.entry.Entry.TheVariants.{Simple as SimpleEntry, Placed, Cut, None}
+use Rattle.scene.specs.declared.entry.Entry.TheVariants.{Simple as SimpleEntry, Placed, Cut}
 use Rattle.limits.specs.Limits.{within_point, within_four, within_matrix}
 use Rattle.limits.proofs.Limits.{within-point}
 use Rattle.check_measures.specs.Measures.{is_radius, exceeds, cylinder_measured, cone_measured, cube_measured, triangle_measured, solid_measured, simple_measured, measured}
 use Rattle.check_scene.specs.Extents.{zero_box, entry_box}
 use Rattle.check_scene.proofs.Reading.{Each}
 use Rattle.check_sound.proofs.Edges.{zero-within, within-le, neg-under, about, min-max-three, edge-mul, edge-sum}
+use Rattle.std.specs.Prelude.{None, Option, Some}
 
 -- min is under max
 abbrev pub Fair : BBox → Type 0
@@ -151,10 +150,10 @@ placed-fair m b h s =
 
 -- ---- any kind
 -- what number 5 gives of an entry
-abbrev pub Measured : Entry → Type 0
-Measured (SimpleEntry s) = solid_measured s ≡ true
-Measured (Placed m v k) = within_matrix m ≡ true
-Measured (Cut o a b) = Unit
+abbrev pub Measured : Option Entry → Type 0
+Measured (Some (SimpleEntry s)) = solid_measured s ≡ true
+Measured (Some (Placed m v k)) = within_matrix m ≡ true
+Measured (Some (Cut o a b)) = Unit
 Measured None = Unit
 
 -- the box that is read where there is no entry
@@ -162,15 +161,15 @@ zero-fair : Fair zero_box
 unfolding of_bits le
 zero-fair = record { x = tt; y = tt; z = tt }
 
-pub entry-fair : (f : ℕ → BBox) (e : Entry) → Measured e → Each (λ k. Sound (f k)) e → Fair (entry_box f e)
+pub entry-fair : (f : ℕ → BBox) (e : Option Entry) → Measured e → Each (λ k. Sound (f k)) e → Fair (entry_box f e)
 unfolding entry_box
-entry-fair f (SimpleEntry s) h p = solid-fair s h
-entry-fair f (Placed m v k) h p = placed-fair m (f k) h p
-entry-fair f (Cut o a b) h p = (extend-holds (f a) (f b) p.0 p.1).sound.fair
+entry-fair f (Some (SimpleEntry s)) h p = solid-fair s h
+entry-fair f (Some (Placed m v k)) h p = placed-fair m (f k) h p
+entry-fair f (Some (Cut o a b)) h p = (extend-holds (f a) (f b) p.0 p.1).sound.fair
 entry-fair f None h p = zero-fair
 
 module _ (m : Marks) (n v : Numbers) where
-  cut-measured : (t : Bool) → Measured (cond t (Cut (op_of m.detail) m.first m.second) None)
+  cut-measured : (t : Bool) → Measured (cond t (Some (Cut (op_of m.detail) m.first m.second)) None)
   cut-measured true = tt
   cut-measured false = tt
 
@@ -179,17 +178,17 @@ module _ (m : Marks) (n v : Numbers) where
   other-measured true = cut-measured (leb m.detail 3)
   other-measured false = tt
 
-  or-measured : (s : Simple) → simple_measured s ≡ true → Measured (simple_or s (cond (eqb m.kind 7) (cut_of m) None))
+  or-measured : (s : Option Solid) → simple_measured s ≡ true → Measured (simple_or s (cond (eqb m.kind 7) (cut_of m) None))
   unfolding simple_or simple_measured
-  or-measured (Is s) h = h
-  or-measured Other h = other-measured (eqb m.kind 7)
+  or-measured (Some s) h = h
+  or-measured None h = other-measured (eqb m.kind 7)
 
-  placing : m.kind ≡ 6 → simple_of m.kind n ≡ Other
+  placing : m.kind ≡ 6 → simple_of m.kind n ≡ None
   unfolding simple_of closed_of
   placing e = rw e
 
   by_kind : (t : Bool) → eqb m.kind 6 ≡ t → cond t (within_matrix (matrix_of n)) (simple_measured (simple_of m.kind n)) ≡ true
-      → Measured (simple_or (simple_of m.kind n) (cond t (Placed (matrix_of n) (matrix_of v) m.first) (cond (eqb m.kind 7) (cut_of m) None)))
+      → Measured (simple_or (simple_of m.kind n) (cond t (Some (Placed (matrix_of n) (matrix_of v) m.first)) (cond (eqb m.kind 7) (cut_of m) None)))
   unfolding simple_or
   by_kind true e h = rw (placing (eqb-true m.kind 6 e)) h
   by_kind false e h = or-measured (simple_of m.kind n) h

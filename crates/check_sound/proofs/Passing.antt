@@ -5,13 +5,12 @@ use mathlib.Core.Bool.{Bool, true, false, ◌&&◌, cond, and-eq-true_iff}
 use Rattle.refusals.specs.declared.Refusal.{Refusal}
 use Rattle.check_scene.specs.Checks.{lengths_agree, values_ok, stripes_ok, names_ok, lines_owned, starts_ok, measures_ok, placings_ok, extents_ok, check_of, first_met}
 use Rattle.check_scene.specs.Placings.{invertible, placing_ok}
-use Rattle.check_scene.specs.declared.Verdict.{Verdict}
-use Rattle.check_scene.specs.declared.Verdict.TheVariants.{Accepted, Refused}
 use Rattle.check_scene.proofs.Verdicts.{not-accepted}
 use Rattle.check_sound.specs.Passing.{AcceptedPasses, FourteenAfterThree, SixByOneAnswer}
+use Rattle.std.specs.Prelude.{Err, Ok, Result}
 
 -- one test that does not refuse
-passed : (t : Bool) (v : Verdict) (k : Refusal) {d : ℕ} → cond t v (Refused k) ≡ Accepted d → (t ≡ true) × (v ≡ Accepted d)
+passed : (t : Bool) (v : Result ℕ Refusal) (k : Refusal) {d : ℕ} → cond t v (Err k) ≡ Ok d → (t ≡ true) × (v ≡ Ok d)
 passed true v k h = (refl, h)
 passed false v k h = not-accepted h
 

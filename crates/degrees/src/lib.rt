@@ -48,10 +48,8 @@ fn all_from_units(table: &[i64; 720]) -> [f64; 720]
     ensures { result ≡ float_table }
 {
     let mut all = [0.0; 720];
-    let mut i: usize = 0;
-    while i < 720 {
+    for i in 0usize..720 {
         all[i] = from_units(table[i]);
-        i += 1;
     }
     all
 }

@@ -12,12 +12,8 @@ use Rattle.scene_shape.specs.Shapes.{Shape, shape_box}
 use Rattle.check_parts.specs.Drawn.{drawn}
 use Rattle.check_scene.specs.Checks.{check_of}
 use Rattle.scene.specs.Scenes.{Scene}
-use Rattle.check_scene.specs.declared.Verdict.{Verdict}
-use Rattle.check_scene.specs.declared.Verdict.TheVariants.{Accepted, Refused}
 use Rattle.query_scene.specs.Queries.{planted_of}
-use Rattle.query_scene.specs.declared.Built.{Built}
-use Rattle.query_scene.specs.declared.Built.TheVariants.{Nodes, Refused as NotBuilt}
-use Rattle.paths.specs.Answers.{Answer, answered, refused, next}
+use Rattle.paths.specs.Answers.{next}
 use Rattle.paths.specs.Paths.{Paths, no_paths}
 use Rattle.paths.proofs.Adding.{no_answer, same_answer, next-answered}
 use Rattle.paths.proofs.Laying.{Laid, laid-rising, moved-laid}
@@ -34,27 +30,29 @@ use Rattle.draw_collect.proofs.Nesting.{bare-read}
 use Rattle.draw_render.specs.Render.{Places, stepping, on_tree, seen_lines, simplified_lines, mapped, staged, rendered, rendered_part}
 use Rattle.draw.specs.Draw.{lined_in, render, drawn_after, draw_with}
 use Rattle.draw.specs.Drawing.{solid_in, box_in, seen_in, Drawing, DrawnSo, DrawingLaid}
+use Rattle.std.specs.Prelude.{Err, Ok, Result}
+use Rattle.refusals.specs.declared.Refusal.{Refusal}
 
 -- ---- what is answered was answered at each step
-pub drawn-accepted : (d : Verdict) (a : Answer Paths) {q : Paths} → drawn_after d a ≡ answered q → (n : ℕ) × (d ≡ Accepted n) × (a ≡ answered q)
+pub drawn-accepted : (d : Result ℕ Refusal) (a : Result Paths Refusal) {q : Paths} → drawn_after d a ≡ Ok q → (n : ℕ) × (d ≡ Ok n) × (a ≡ Ok q)
 unfolding drawn_after
-drawn-accepted (Accepted n) a e = (n, refl, e)
-drawn-accepted (Refused k) a e = no_answer k e
+drawn-accepted (Ok n) a e = (n, refl, e)
+drawn-accepted (Err k) a e = no_answer k e
 
-view-passes : (b c : Bool) (a : Answer Paths) {q : Paths} → cond (b && c) a (refused BadView) ≡ answered q → (b ≡ true) × (c ≡ true) × (a ≡ answered q)
+view-passes : (b c : Bool) (a : Result Paths Refusal) {q : Paths} → cond (b && c) a (Err BadView) ≡ Ok q → (b ≡ true) × (c ≡ true) × (a ≡ Ok q)
 view-passes true true a e = (refl, refl, e)
 view-passes true false a e = no_answer BadView e
 view-passes false c a e = no_answer BadView e
 
-pub tree-built : (b : Built) (a : Answer Paths) {q : Paths} → on_tree b a ≡ answered q → (n : ℕ) × (b ≡ Nodes n) × (a ≡ answered q)
+pub tree-built : (b : Result ℕ Refusal) (a : Result Paths Refusal) {q : Paths} → on_tree b a ≡ Ok q → (n : ℕ) × (b ≡ Ok n) × (a ≡ Ok q)
 unfolding on_tree
-tree-built (Nodes n) a e = (n, refl, e)
-tree-built (NotBuilt k) a e = no_answer k e
+tree-built (Ok n) a e = (n, refl, e)
+tree-built (Err k) a e = no_answer k e
 
 -- steps 2 to 5, whatever the steps are
-module _ (chop : Answer Paths) (see : ℕ → ℕ → Paths → Answer Paths) (simplify : Paths → Answer Paths) (p left : Paths) (r u r' u' : ℕ) where
-  stages : (b : Bool) → cond b (next chop (λ (l : Paths). next (see r u l) simplify)) (see r' u' p) ≡ answered left
-      → (lines passed : Paths) × (cond b chop (answered p) ≡ answered lines) × (see (cond b r r') (cond b u u') lines ≡ answered passed) × (cond b (simplify passed) (answered passed) ≡ answered left)
+module _ (chop : Result Paths Refusal) (see : ℕ → ℕ → Paths → Result Paths Refusal) (simplify : Paths → Result Paths Refusal) (p left : Paths) (r u r' u' : ℕ) where
+  stages : (b : Bool) → cond b (next chop (λ (l : Paths). next (see r u l) simplify)) (see r' u' p) ≡ Ok left
+      → (lines passed : Paths) × (cond b chop (Ok p) ≡ Ok lines) × (see (cond b r r') (cond b u u') lines ≡ Ok passed) × (cond b (simplify passed) (Ok passed) ≡ Ok left)
   stages true e =
       let a = next-answered chop (λ (l : Paths). next (see r u l) simplify) left e in
       let c = next-answered (see r u a.0) simplify left a.2 in
@@ -99,7 +97,7 @@ drawn-so t s v w q e =
     }
 
 -- ---- the slices of the result
-simplified-laid : (t : Float) (room startRoom : ℕ) (p : Paths) {o : Paths} → simplified_lines t room startRoom p ≡ answered o → Laid room startRoom o
+simplified-laid : (t : Float) (room startRoom : ℕ) (p : Paths) {o : Paths} → simplified_lines t room startRoom p ≡ Ok o → Laid room startRoom o
 unfolding simplified_lines
 simplified-laid t room startRoom p {o} e =
     let a = next-answered (handed p) (λ (q : Paths). simplify_paths t q.vertices q.starts room startRoom) o e in
@@ -111,8 +109,8 @@ result-laid {t} {s} {v} {w} D =
     let m = mul_position (viewport v.width v.height) in
     subst (Laid w.points w.starts) (sym D.maps) (moved-laid D.left (map m D.left.vertices) (length-map D.left.vertices m) (by (stepping v) D.filters D.simplifies))
   where
-    by : (b : Bool) → clip_paths v.matrix (seen_in s v.eye) D.lines.vertices D.lines.starts (cond b w.lines.points w.points) (cond b w.lines.starts w.starts) ≡ answered D.passed
-        → cond b (simplified_lines t w.points w.starts D.passed) (answered D.passed) ≡ answered D.left → Laid w.points w.starts D.left
+    by : (b : Bool) → clip_paths v.matrix (seen_in s v.eye) D.lines.vertices D.lines.starts (cond b w.lines.points w.points) (cond b w.lines.starts w.starts) ≡ Ok D.passed
+        → cond b (simplified_lines t w.points w.starts D.passed) (Ok D.passed) ≡ Ok D.left → Laid w.points w.starts D.left
     by true f e = simplified-laid t w.points w.starts D.passed e
     by false f e = subst (Laid w.points w.starts) (same_answer e) (filter-laid (clip_filter v.matrix (seen_in s v.eye)) D.lines.vertices D.lines.starts f)
 

@@ -23,20 +23,16 @@ use Rattle.lists.proofs.Properties.{each_map}
 use Rattle.tree_split.specs.Build.{Fits, box_at, nodes_for}
 use Rattle.tree_split.proofs.Agreement.{same-tree}
 use Rattle.tree_walk.specs.Walks.{nothing, visit}
-use Rattle.tree_walk.specs.declared.Found.{Found}
 use Rattle.check_parts.specs.Parts.{named_before}
 use Rattle.scene.specs.Scenes.{Scene, entries_of}
 use Rattle.check_parts.specs.Drawn.{drawn}
 use Rattle.check_scene.specs.Extents.{own_box}
 use Rattle.check_scene.specs.Checks.{check_of, inverses_of, boxes_of}
-use Rattle.check_scene.specs.declared.Verdict.TheVariants.{Accepted}
 use Rattle.check_scene.proofs.Accepted.{accepted-few, own-entry, box-room, own-box}
 use Rattle.check_sound.proofs.Sound.{accepted-sound}
 use Rattle.query_scene.specs.Queries.{planted_of}
-use Rattle.query_scene.specs.declared.Built.{Built}
-use Rattle.query_scene.specs.declared.Built.TheVariants.{Nodes, Refused as NotBuilt}
 use Rattle.query_scene.proofs.Plants.{each-unnamed, accepted-many}
-use Rattle.paths.specs.Answers.{Answer, answered, next}
+use Rattle.paths.specs.Answers.{next}
 use Rattle.paths.specs.Paths.{Paths, no_paths}
 use Rattle.view.specs.Views.{viewport, args_of}
 use Rattle.view.specs.declared.View.{View}
@@ -49,6 +45,9 @@ use Rattle.draw_collect.proofs.Nesting.{bare-read}
 use Rattle.draw_render.specs.Render.{Places, stepping, nearest_of, on_tree, seen_lines, simplified_lines, mapped, staged, rendered, rendered_part}
 use Rattle.draw_render.specs.Slices.{Listed}
 use Rattle.draw.specs.Draw.{lined_in, render}
+use Rattle.std.specs.Prelude.{Err, Ok, Option, Result}
+use Rattle.tree_walk.specs.declared.Nearest.{Nearest}
+use Rattle.refusals.specs.declared.Refusal.{Refusal}
 
 -- ---- a drawing hangs on the boxes of its solids alone
 module _ (box box' : ℕ → BBox) where
@@ -60,7 +59,7 @@ module _ (box box' : ℕ → BBox) where
   -- and so does the build
   pub planted-alike : (ids : List ℕ) → Each (λ (i : ℕ). box i ≡ box' i) ids → (places room : ℕ) → planted_of box ids places room ≡ planted_of box' ids places room
   unfolding planted_of
-  planted-alike ids e places room = ap (λ (ns : List Node). cond (leb (length ids) room && leb (length ns) places) (Nodes (length ns)) (NotBuilt Room)) (nodes-alike ids e)
+  planted-alike ids e places room = ap (λ (ns : List Node). cond (leb (length ids) room && leb (length ns) places) (Ok (length ns)) (Err Room)) (nodes-alike ids e)
 
   nearest-alike : (solid : ℕ → Shape) (ids : List ℕ) → Each (λ (i : ℕ). box i ≡ box' i) ids → nearest_of solid box ids ≡ nearest_of solid box' ids
   unfolding nearest_of
@@ -74,13 +73,13 @@ module _ (box box' : ℕ → BBox) where
     seen_alike : (solid : ℕ → Shape) (room startRoom : ℕ) (p : Paths) → seen_lines v w.nodes w.order solid box ids room startRoom p ≡ seen_lines v w.nodes w.order solid box' ids room startRoom p
     unfolding seen_lines
     seen_alike solid room startRoom p =
-        ap₂ (λ (b : Built) (near : Ray → Found). on_tree b (clip_paths v.matrix (sees near v.eye) p.vertices p.starts room startRoom))
+        ap₂ (λ (b : Result ℕ Refusal) (near : Ray → Result Nearest Refusal). on_tree b (clip_paths v.matrix (sees near v.eye) p.vertices p.starts room startRoom))
         (planted-alike ids e w.nodes w.order) (nearest-alike solid ids e)
 
     staged-alike : (solid : ℕ → Shape) (p : Paths) → staged t v w solid box ids p ≡ staged t v w solid box' ids p
     unfolding staged
     staged-alike solid p =
-        ap₂ (λ (f : Paths → Answer Paths) (a : Answer Paths). cond (stepping v)
+        ap₂ (λ (f : Paths → Result Paths Refusal) (a : Result Paths Refusal). cond (stepping v)
         (next (chopped_lines (args_of v) w.lines.chopped w.lines.begins p) (λ (q : Paths). next (f q) (simplified_lines t w.points w.starts))) a)
         (fun_ext (λ (q : Paths). seen_alike solid w.lines.points w.lines.starts q)) (seen_alike solid w.points w.starts p)
 
@@ -88,16 +87,16 @@ module _ (box box' : ℕ → BBox) where
     pub boxes-alike : (lined : ℕ → Lined) (part : List ℕ) → rendered_part t v w lined box ids part ≡ rendered_part t v w lined box' ids part
     unfolding rendered_part
     boxes-alike lined part =
-        ap (λ (f : Paths → Answer Paths). next (collected_all (args_of v) w.lines lined part no_paths) (λ (p : Paths). next (f p) (λ (s : Paths). answered (mapped (viewport v.width v.height) s))))
+        ap (λ (f : Paths → Result Paths Refusal). next (collected_all (args_of v) w.lines lined part no_paths) (λ (p : Paths). next (f p) (λ (s : Paths). Ok (mapped (viewport v.width v.height) s))))
         (fun_ext (λ (p : Paths). staged-alike (λ (i : ℕ). bare (lined i)) p))
 
 -- ---- what the check leaves
-module _ (s : Scene) (n : ℕ) (is : check_of s ≡ Accepted n) where
+module _ (s : Scene) (n : ℕ) (is : check_of s ≡ Ok n) where
   module _ (L : ℕ) (vs : List Float) (left : vs ≡ padded zero_f L (inverses_of s)) where
     -- the drawn values read with the inverses that are left are the scene's own
     pub own-lined : lined_at 8 s.numbers vs s.marks s.points s.starts s.owners ≡ lined_in s
     own-lined =
-        ap (λ (at : ℕ → Entry). read_lined 8 at (own_lines s.marks s.points s.starts s.owners))
+        ap (λ (at : ℕ → Option Entry). read_lined 8 at (own_lines s.marks s.points s.starts s.owners))
         (fun_ext (λ (i : ℕ). own-entry s n is L vs left i))
 
   module _ (L : ℕ) (bs : List Float) (left : bs ≡ padded zero_f L (boxes_of s)) where

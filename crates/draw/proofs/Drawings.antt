@@ -15,12 +15,9 @@ use Rattle.tree_split.specs.Build.{box_at}
 use Rattle.check_parts.specs.Drawn.{drawn}
 use Rattle.check_scene.specs.Checks.{check_of, inverses_of, boxes_of, if_accepted}
 use Rattle.scene.specs.Scenes.{Scene}
-use Rattle.check_scene.specs.declared.Verdict.{Verdict}
-use Rattle.check_scene.specs.declared.Verdict.TheVariants.{Accepted, Refused}
 use Rattle.check_scene.proofs.Accepted.{left_is, padded-room, own-drawn}
 use Rattle.query_scene.proofs.Plants.{accepted-count}
 use Rattle.paths.specs.Ends.{EndsBoth}
-use Rattle.paths.specs.declared.Counts.TheVariants.{Refused as NotBoth}
 use Rattle.paths.proofs.Ending.{refuses-both}
 use Rattle.path_rdp.specs.Rdp.{threshold_ok}
 use Rattle.path_rdp.proofs.Splitting.{not_low}
@@ -31,22 +28,23 @@ use Rattle.draw_render.specs.Render.{Places, rendered}
 use Rattle.draw_render.specs.Slices.{Listed}
 use Rattle.draw.specs.Draw.{lined_in, render, drawn_after, draw_with}
 use Rattle.draw.proofs.Bridge.{accepted-listed, rendered-is-render}
+use Rattle.std.specs.Prelude.{Err, Ok, Result}
 
 pub threshold-fine : (t : Float) {c : Bool} → c ≡ threshold_ok t → c ≡ true → lt t zero_f ≡ false
 threshold-fine t e h = not_low t (subst T (sym h ∙ e) tt)
 
 -- the verdict, and what the check left
-module _ (t : Float) (s : Scene) (d : Verdict) (judged : d ≡ check_of s) (v : View) (w : Places) where
-  pub scene-refused : {k : Refusal} → d ≡ Refused k → (xs : List Float) (ss : List ℕ) → EndsBoth (draw_with t s v w) xs ss (NotBoth k)
+module _ (t : Float) (s : Scene) (d : Result ℕ Refusal) (judged : d ≡ check_of s) (v : View) (w : Places) where
+  pub scene-refused : {k : Refusal} → d ≡ Err k → (xs : List Float) (ss : List ℕ) → EndsBoth (draw_with t s v w) xs ss (Err k)
   unfolding draw_with drawn_after
   scene-refused h xs ss = refuses-both xs ss (rw (← judged, h))
 
-  module _ {n : ℕ} (h : d ≡ Accepted n) where
-    pub view-refused : {b : Bool} → b ≡ view_ok v → b ≡ false → (xs : List Float) (ss : List ℕ) → EndsBoth (draw_with t s v w) xs ss (NotBoth BadView)
+  module _ {n : ℕ} (h : d ≡ Ok n) where
+    pub view-refused : {b : Bool} → b ≡ view_ok v → b ≡ false → (xs : List Float) (ss : List ℕ) → EndsBoth (draw_with t s v w) xs ss (Err BadView)
     unfolding draw_with drawn_after
     view-refused e f xs ss = refuses-both xs ss (rw (← judged, h, ← e, f))
 
-    pub threshold-refused : {b c : Bool} → b ≡ view_ok v → b ≡ true → c ≡ threshold_ok t → c ≡ false → (xs : List Float) (ss : List ℕ) → EndsBoth (draw_with t s v w) xs ss (NotBoth BadView)
+    pub threshold-refused : {b c : Bool} → b ≡ view_ok v → b ≡ true → c ≡ threshold_ok t → c ≡ false → (xs : List Float) (ss : List ℕ) → EndsBoth (draw_with t s v w) xs ss (Err BadView)
     unfolding draw_with drawn_after
     threshold-refused e f g k xs ss = refuses-both xs ss (rw (← judged, h, ← e, f, ← g, k))
 
@@ -55,7 +53,7 @@ module _ (t : Float) (s : Scene) (d : Verdict) (judged : d ≡ check_of s) (v : 
     draw-as e f g k = rw (← judged, h, ← e, f, ← g, k)
 
     module _ (M O : ℕ) (bs : List Float) (lb : bs ≡ padded zero_f M (if_accepted d (boxes_of s))) (ds : List ℕ) (ld : ds ≡ padded 0 O (if_accepted d (drawn s.marks))) where
-      is : check_of s ≡ Accepted n
+      is : check_of s ≡ Ok n
       is = sym judged ∙ h
 
       listed : take n ds ≡ drawn s.marks

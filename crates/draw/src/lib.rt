@@ -6,8 +6,6 @@ ghost use Rattle.floats.specs.Arith.{zero_f};
 ghost use Rattle.paths.specs.Ends.{EndsBoth, Finished, Zeroed};
 ghost use Rattle.draw.specs.Draw.{draw_with_in, draw_range_in};
 
-use check_scene::Verdict;
-use paths::Counts;
 use refusals::Refusal;
 use view::View;
 
@@ -32,13 +30,13 @@ fn drawing(
     node_boxes: &mut [f64],
     node_marks: &mut [u32],
     order: &mut [u32],
-) -> Counts
+) -> Result<(usize, usize), Refusal>
     ensures { EndsBoth (draw_range_in threshold first many numbers.now marks.now points.now starts.now owners.now view out.old begins.old work.old work_starts.old chopped.old chopped_starts.old node_boxes.old node_marks.old order.old) out.new begins.new result }
 {
     let mut inverses = [0.0; 16384];
     let mut boxes = [0.0; 6144];
     let mut drawn = [0u32; 1024];
-    let v = check_scene::check(
+    let n = check_scene::check(
         numbers,
         marks,
         points,
@@ -47,43 +45,38 @@ fn drawing(
         &mut inverses,
         &mut boxes,
         &mut drawn,
-    );
-    match v {
-        Verdict::Refused(k) => Counts::Refused(k),
-        Verdict::Accepted(n) => {
-            if !view.is_ok() {
-                return Counts::Refused(Refusal::View);
-            }
-            if !path_rdp::threshold_ok(threshold) {
-                return Counts::Refused(Refusal::View);
-            }
-            let range = draw_ranges::range_within(first, many, n);
-            draw_render::render_part(
-                threshold,
-                view,
-                numbers,
-                &inverses,
-                marks,
-                points,
-                starts,
-                owners,
-                &boxes,
-                &drawn,
-                n,
-                range.first,
-                range.many,
-                out,
-                begins,
-                work,
-                work_starts,
-                chopped,
-                chopped_starts,
-                node_boxes,
-                node_marks,
-                order,
-            )
-        }
+    )?;
+    if !view.is_ok() {
+        return Err(Refusal::View);
     }
+    if !path_rdp::threshold_ok(threshold) {
+        return Err(Refusal::View);
+    }
+    let range = draw_ranges::range_within(first, many, n);
+    draw_render::render_part(
+        threshold,
+        view,
+        numbers,
+        &inverses,
+        marks,
+        points,
+        starts,
+        owners,
+        &boxes,
+        &drawn,
+        n,
+        range.first,
+        range.many,
+        out,
+        begins,
+        work,
+        work_starts,
+        chopped,
+        chopped_starts,
+        node_boxes,
+        node_marks,
+        order,
+    )
 }
 
 // The lines of the drawn entries number first, first + 1 and so on of a scene, `many` of them as far as there are any,
@@ -109,7 +102,7 @@ pub fn draw_range(
     node_boxes: &mut [f64],
     node_marks: &mut [u32],
     order: &mut [u32],
-) -> Counts
+) -> Result<(usize, usize), Refusal>
     ensures finished { Finished (draw_range_in threshold first many numbers.now marks.now points.now starts.now owners.now view out.old begins.old work.old work_starts.old chopped.old chopped_starts.old node_boxes.old node_marks.old order.old) (length out.old) (length begins.old) out.new begins.new result }
     ensures zeroed { Zeroed zero_f work.old work.new }
     ensures zeroed_2 { Zeroed 0 work_starts.old work_starts.new }
@@ -170,7 +163,7 @@ pub fn draw_with(
     node_boxes: &mut [f64],
     node_marks: &mut [u32],
     order: &mut [u32],
-) -> Counts
+) -> Result<(usize, usize), Refusal>
     ensures finished { Finished (draw_with_in threshold numbers.now marks.now points.now starts.now owners.now view out.old begins.old work.old work_starts.old chopped.old chopped_starts.old node_boxes.old node_marks.old order.old) (length out.old) (length begins.old) out.new begins.new result }
     ensures zeroed { Zeroed zero_f work.old work.new }
     ensures zeroed_2 { Zeroed 0 work_starts.old work_starts.new }

@@ -12,10 +12,10 @@ ghost use Rattle.draw_arcs.specs.Stances as Stances;
 ghost use Rattle.draw_arcs.specs.Rings as Rings;
 ghost use Rattle.draw_arcs.specs.Runs.{FitPoints, Pushes};
 
-use geometry::vector::{Normalized, Vector};
+use geometry::vector::Vector;
 use matrix::Matrix;
 use path_chop::{Screen, Spot};
-use paths::{Count, Counts};
+use refusals::Refusal;
 use view::RenderArgs;
 
 // The placings around a solid, innermost first: what the places after the `free` ones hold. A scene nests at most
@@ -52,11 +52,9 @@ impl Placings {
     {
         let held = self.held;
         let mut p = v;
-        let mut i = self.free;
-        while i < 8 {
+        for i in self.free..8 {
             let m = held[i];
             p = m.mul_position(p);
-            i += 1;
         }
         p
     }
@@ -160,14 +158,11 @@ fn ends_halving(stepping: bool, t: Stance, f: Frame, p: Vector, q: Vector) -> bo
 }
 
 // The middle of a piece, unless its ends' sum has computed length 0.
-fn ring_middle(radius: f64, p: Vector, q: Vector) -> Normalized
+fn ring_middle(radius: f64, p: Vector, q: Vector) -> Option<Vector>
     ensures { result ≡ Pieces.ring_middle radius p q }
 {
-    let n = p.add(q).normalize();
-    match n {
-        Normalized::Zero => Normalized::Zero,
-        Normalized::Unit(v) => Normalized::Unit(v.mul_scalar(radius)),
-    }
+    let v = p.add(q).normalize()?;
+    Some(v.mul_scalar(radius))
 }
 
 // The ends of the pieces from p to q go after the first n points; `depth` nested halvings are left.
@@ -181,7 +176,7 @@ fn pieces(
     depth: usize,
     out: &mut [f64],
     n: usize,
-) -> Count
+) -> Result<usize, Refusal>
     requires { n * 3 ≤ length out.old }
     ensures { Ends (push_all (places out.old) (points n out.old) (map (Rings.ring_point f) (Pieces.pieces (Rings.ends_halving stepping (Stances.placement_of t) f) radius depth p q))) out.new result }
 {
@@ -193,13 +188,10 @@ fn pieces(
     }
     let m = ring_middle(radius, p, q);
     match m {
-        Normalized::Zero => paths::push(out, n, ring_point(f, q)),
-        Normalized::Unit(v) => {
-            let r = pieces(stepping, t, f, radius, p, v, depth - 1, out, n);
-            match r {
-                Count::Refused(k) => Count::Refused(k),
-                Count::At(i) => pieces(stepping, t, f, radius, v, q, depth - 1, out, i),
-            }
+        None => paths::push(out, n, ring_point(f, q)),
+        Some(v) => {
+            let i = pieces(stepping, t, f, radius, p, v, depth - 1, out, n)?;
+            pieces(stepping, t, f, radius, v, q, depth - 1, out, i)
         }
     }
 }
@@ -212,7 +204,7 @@ fn ring_depth(stepping: bool) -> usize
 
 // The pieces of a quarter, unless there was trouble before.
 fn quarter(
-    c: Count,
+    c: Result<usize, Refusal>,
     stepping: bool,
     t: Stance,
     f: Frame,
@@ -221,18 +213,23 @@ fn quarter(
     q: Vector,
     depth: usize,
     out: &mut [f64],
-) -> Count
+) -> Result<usize, Refusal>
     requires { FitPoints c out.old }
     ensures { Pushes (map (Rings.ring_point f) (Pieces.pieces (Rings.ends_halving stepping (Stances.placement_of t) f) radius depth p q)) c out.old out.new result }
 {
-    match c {
-        Count::Refused(k) => Count::Refused(k),
-        Count::At(n) => pieces(stepping, t, f, radius, p, q, depth, out, n),
-    }
+    let n = c?;
+    pieces(stepping, t, f, radius, p, q, depth, out, n)
 }
 
 // A ring's points after the first n.
-fn ring_points(stepping: bool, t: Stance, f: Frame, radius: f64, out: &mut [f64], n: usize) -> Count
+fn ring_points(
+    stepping: bool,
+    t: Stance,
+    f: Frame,
+    radius: f64,
+    out: &mut [f64],
+    n: usize,
+) -> Result<usize, Refusal>
     requires { n * 3 ≤ length out.old }
     ensures { Ends (push_all (places out.old) (points n out.old) (Rings.ring_in stepping (Stances.placement_of t) f radius)) out.new result }
 {
@@ -258,43 +255,29 @@ fn one_ring(
     begins: &mut [usize],
     n: usize,
     m: usize,
-) -> Counts
+) -> Result<(usize, usize), Refusal>
     requires { (n * 3 ≤ length out.old) × (m ≤ length begins.old) }
     ensures { EndsBoth (one_path copied (places out.old) (length begins.old) (Rings.ring_in stepping (Stances.placement_of t) f radius) (held n out.old m begins.old)) out.new begins.new result }
 {
-    let o = paths::new_path(begins, m, n);
-    match o {
-        Count::Refused(k) => Counts::Refused(k),
-        Count::At(q) => {
-            let r = ring_points(stepping, t, f, radius, out, n);
-            match r {
-                Count::Refused(k) => Counts::Refused(k),
-                Count::At(l) => {
-                    let z = paths::close(begins, q, l);
-                    Counts::Both(l, z)
-                }
-            }
-        }
-    }
+    let q = paths::new_path(begins, m, n)?;
+    let l = ring_points(stepping, t, f, radius, out, n)?;
+    let z = paths::close(begins, q, l);
+    Ok((l, z))
 }
 
 // A ring, unless there was trouble before.
 pub fn ring(
-    c: Counts,
+    c: Result<(usize, usize), Refusal>,
     t: Stance,
     f: Frame,
     radius: f64,
     out: &mut [f64],
     begins: &mut [usize],
-) -> Counts
+) -> Result<(usize, usize), Refusal>
     requires { Fit c out.old begins.old }
     ensures { Adds (Rings.ring_of (Stances.placement_of t) f radius ∷ []) c out.old begins.old out.new begins.new result }
 {
-    match c {
-        Counts::Refused(k) => Counts::Refused(k),
-        Counts::Both(n, m) => {
-            let a = t.args;
-            one_ring(0.0 < a.step, t, f, radius, out, begins, n, m)
-        }
-    }
+    let (n, m) = c?;
+    let a = t.args;
+    one_ring(0.0 < a.step, t, f, radius, out, begins, n, m)
 }

@@ -10,11 +10,9 @@ use Rattle.matrix.specs.declared.Matrix.{Matrix}
 use Rattle.refusals.specs.declared.Refusal.TheVariants.{Point}
 use Rattle.limits.specs.Limits.{within_point}
 use Rattle.tree_sight.specs.declared.Sight.{Sight}
-use Rattle.tree_sight.specs.declared.Sight.TheVariants.{Visible, Hidden, Refused as NotSeen}
+use Rattle.tree_sight.specs.declared.Sight.TheVariants.{Visible, Hidden}
 use Rattle.draw_memory.specs.Memory.{outcome_of}
 use Rattle.draw_memory.proofs.Memories.{outcome-dropped}
-use Rattle.path_filter.specs.declared.Test.{Test}
-use Rattle.path_filter.specs.declared.Test.TheVariants.{Keep, Drop, Refused}
 use mathlib.Core.List.{List}
 use lib.Ieee.{Float}
 use mathlib.Core.Logic.{inl}
@@ -24,35 +22,37 @@ use Rattle.tree_trust.specs.Trust.{Uncut, is_trusted}
 use Rattle.tree_trust.proofs.Making.{is-trusted}
 use Rattle.tree_glance.specs.Glances.{no_place, LastCover}
 use Rattle.draw_clip.specs.Clip.{by_sight, clip_filter, Prepared}
+use Rattle.std.specs.Prelude.{Err, None, Ok, Option, Result, Some}
+use Rattle.refusals.specs.declared.Refusal.{Refusal}
 
-module _ (matrix : Matrix) (seen : Vector → Sight) (v w : Vector) (ew : w ≡ mul_position_w matrix v) (b : Bool) (eb : b ≡ contains clip_box w) where
-  pub clipped : b ≡ false → Drop ≡ clip_filter matrix seen v
+module _ (matrix : Matrix) (seen : Vector → Result Sight Refusal) (v w : Vector) (ew : w ≡ mul_position_w matrix v) (b : Bool) (eb : b ≡ contains clip_box w) where
+  pub clipped : b ≡ false → Ok None ≡ clip_filter matrix seen v
   unfolding clip_filter
   clipped e = rw (← ew, ← eb, e)
 
   module _ (e : b ≡ true) (j : Bool) (ej : j ≡ within_point v) where
-    pub beyond : j ≡ false → Refused Point ≡ clip_filter matrix seen v
+    pub beyond : j ≡ false → Err Point ≡ clip_filter matrix seen v
     unfolding clip_filter
     beyond f = rw (← ew, ← eb, e, ← ej, f)
 
-    pub put : j ≡ true → (s : Sight) → s ≡ seen v → (t : Test) → t ≡ by_sight w s → t ≡ clip_filter matrix seen v
+    pub put : j ≡ true → (s : Result Sight Refusal) → s ≡ seen v → (t : Result (Option Vector) Refusal) → t ≡ by_sight w s → t ≡ clip_filter matrix seen v
     unfolding clip_filter
     put f s es t et = rw (← ew, ← eb, e, ← ej, f, ← es, et)
 
 -- ---- what is kept of a test's outcome tells the test
-kept_on : (w : Vector) (a b : Bool) (s : Sight) → outcome_of (cond a (cond b (by_sight w s) (Refused Point)) Drop) ≡ 1 → Keep w ≡ cond a (cond b (by_sight w s) (Refused Point)) Drop
+kept_on : (w : Vector) (a b : Bool) (s : Result Sight Refusal) → outcome_of (cond a (cond b (by_sight w s) (Err Point)) (Ok None)) ≡ 1 → Ok (Some w) ≡ cond a (cond b (by_sight w s) (Err Point)) (Ok None)
 unfolding outcome_of by_sight
 kept_on w false b s e = absurd (omega (arith, e))
 kept_on w true false s e = absurd (omega (arith, e))
-kept_on w true true Visible e = refl
-kept_on w true true Hidden e = absurd (omega (arith, e))
-kept_on w true true (NotSeen k) e = absurd (omega (arith, e))
+kept_on w true true (Ok Visible) e = refl
+kept_on w true true (Ok Hidden) e = absurd (omega (arith, e))
+kept_on w true true (Err k) e = absurd (omega (arith, e))
 
-module _ (matrix : Matrix) (seen : Vector → Sight) (v : Vector) (c : ℕ) (told : outcome_of (clip_filter matrix seen v) ≡ c) where
-  pub told-dropped : c ≡ 0 → Drop ≡ clip_filter matrix seen v
+module _ (matrix : Matrix) (seen : Vector → Result Sight Refusal) (v : Vector) (c : ℕ) (told : outcome_of (clip_filter matrix seen v) ≡ c) where
+  pub told-dropped : c ≡ 0 → Ok None ≡ clip_filter matrix seen v
   told-dropped e = sym (outcome-dropped (clip_filter matrix seen v) (told ∙ e))
 
-  pub told-kept : c ≡ 1 → (w : Vector) → w ≡ mul_position_w matrix v → Keep w ≡ clip_filter matrix seen v
+  pub told-kept : c ≡ 1 → (w : Vector) → w ≡ mul_position_w matrix v → Ok (Some w) ≡ clip_filter matrix seen v
   unfolding clip_filter
   told-kept e w ew = rw ew (kept_on (mul_position_w matrix v) (contains clip_box (mul_position_w matrix v)) (within_point v) (seen v) (told ∙ e))
 

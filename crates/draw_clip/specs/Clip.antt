@@ -1,5 +1,5 @@
 -- The filter of a draw (`ClipFilter` of filter.rs): what is projected into the clip box and seen from the eye is kept, as it is projected.
-use Rattle.std.specs.Prelude.{◌≡◌, Bool, true, cond, List, ℕ, Float}
+use Rattle.std.specs.Prelude.{◌≡◌, Bool, true, cond, List, ℕ, Float, Err, None, Ok, Option, Result, Some}
 use Rattle.geometry.specs.Boxes.{clip_box, contains}
 use Rattle.geometry.specs.Limits.{Within}
 use Rattle.geometry.specs.declared.vector.Vector.{Vector}
@@ -11,31 +11,29 @@ use Rattle.limits.specs.Limits.{within_point}
 use Rattle.tree_walk.specs.Walks.{entry_hit, walk_rows}
 use Rattle.tree_sight.specs.Sights.{sees}
 use Rattle.tree_sight.specs.declared.Sight.{Sight}
-use Rattle.tree_sight.specs.declared.Sight.TheVariants.{Visible, Hidden, Refused as NotSeen}
+use Rattle.tree_sight.specs.declared.Sight.TheVariants.{Visible, Hidden}
 use Rattle.tree_trust.specs.Trust.{Trusted, Uncut}
 use Rattle.tree_glance.specs.Glances.{LastCover}
-use Rattle.paths.specs.Answers.{Answer}
 use Rattle.paths.specs.Paths.{Paths}
 use Rattle.path_filter.specs.Filter.{filter_paths}
-use Rattle.path_filter.specs.declared.Test.{Test}
-use Rattle.path_filter.specs.declared.Test.TheVariants.{Keep, Drop, Refused}
+use Rattle.refusals.specs.declared.Refusal.{Refusal}
 
 -- what the eye test's answer makes of a point that is projected to w
-unfoldable pub by_sight : Vector → Sight → Test
-by_sight w Visible = Keep w
-by_sight w Hidden = Drop
-by_sight w (NotSeen k) = Refused k
+unfoldable pub by_sight : Vector → Result Sight Refusal → Result (Option Vector) Refusal
+by_sight w (Ok Visible) = Ok (Some w)
+by_sight w (Ok Hidden) = Ok None
+by_sight w (Err k) = Err k
 
 -- The clip box first; a point in it is put to the eye test, `seen`, in world coordinates, and is judged by number 9 before.
-unfoldable pub clip_filter : Matrix → (Vector → Sight) → Vector → Test
-clip_filter matrix seen v = cond (contains clip_box (mul_position_w matrix v)) (cond (within_point v) (by_sight (mul_position_w matrix v) (seen v)) (Refused Point)) Drop
+unfoldable pub clip_filter : Matrix → (Vector → Result Sight Refusal) → Vector → Result (Option Vector) Refusal
+clip_filter matrix seen v = cond (contains clip_box (mul_position_w matrix v)) (cond (within_point v) (by_sight (mul_position_w matrix v) (seen v)) (Err Point)) (Ok None)
 
 -- step 4 of a draw
-abbrev pub clip_paths : Matrix → (Vector → Sight) → List Vector → List ℕ → ℕ → ℕ → Answer Paths
+abbrev pub clip_paths : Matrix → (Vector → Result Sight Refusal) → List Vector → List ℕ → ℕ → ℕ → Result Paths Refusal
 clip_paths matrix seen = filter_paths (clip_filter matrix seen)
 
 -- the eye test on the slices of a scene and of a tree
-abbrev pub seen_from : List Float → List Float → List ℕ → List Float → List ℕ → List ℕ → Vector → Vector → Sight
+abbrev pub seen_from : List Float → List Float → List ℕ → List Float → List ℕ → List ℕ → Vector → Vector → Result Sight Refusal
 seen_from numbers inverses marks nodeBoxes nodeMarks order = sees (λ (r : Ray). walk_rows (entry_hit numbers inverses marks r) r nodeBoxes nodeMarks order)
 
 -- What the filter needs so that the eye test may leave something out: what is known of the tree, the eye and the solids; and what is kept from point to point.

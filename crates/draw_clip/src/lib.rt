@@ -13,18 +13,15 @@ ghost use Rattle.draw_clip.specs.Clip.{by_sight, clip_filter, clip_paths, seen_f
 use geometry::bounding_box::BBox;
 use geometry::vector::Vector;
 use matrix::Matrix;
-use path_filter::Test;
-use paths::{Count, Counts};
 use refusals::Refusal;
 use tree_sight::Sight;
 
-fn by_sight(w: Vector, s: Sight) -> Test
+fn by_sight(w: Vector, s: Result<Sight, Refusal>) -> Result<Option<Vector>, Refusal>
     ensures { result ≡ by_sight w s }
 {
-    match s {
-        Sight::Visible => Test::Keep(w),
-        Sight::Hidden => Test::Drop,
-        Sight::Refused(k) => Test::Refused(k),
+    match s? {
+        Sight::Visible => Ok(Some(w)),
+        Sight::Hidden => Ok(None),
     }
 }
 
@@ -39,15 +36,15 @@ pub fn clip_filter(
     node_marks: &[u32],
     order: &[u32],
     v: Vector,
-) -> Test
+) -> Result<Option<Vector>, Refusal>
     ensures { result ≡ clip_filter matrix (seen_from numbers.now inverses.now marks.now node_boxes.now node_marks.now order.now eye) v }
 {
     let projected = matrix.mul_position_w(v);
     if !BBox::clips(projected) {
-        return Test::Drop;
+        return Ok(None);
     }
     if !limits::within_point(v) {
-        return Test::Refused(Refusal::Point);
+        return Err(Refusal::Point);
     }
     let s = tree_sight::visible(
         numbers, inverses, marks, node_boxes, node_marks, order, eye, v,
@@ -80,7 +77,7 @@ fn quick_filter(
     calm: bool,
     cover: &mut [usize],
     stack: &mut [usize],
-) -> Test
+) -> Result<Option<Vector>, Refusal>
     requires { Prepared numbers.now inverses.now marks.now node_boxes.now node_marks.now order.now eye trusted calm cover.old stack.old }
     ensures { (result ≡ clip_filter matrix (seen_from numbers.now inverses.now marks.now node_boxes.now node_marks.now order.now eye) v) × Prepared numbers.now inverses.now marks.now node_boxes.now node_marks.now order.now eye trusted calm cover.new stack.new }
 {
@@ -88,10 +85,10 @@ fn quick_filter(
     let distance = eye.gap(v);
     let w = matrix.mul_position_w(v);
     if !BBox::clips(w) {
-        return Test::Drop;
+        return Ok(None);
     }
     if !limits::within_point(v) {
-        return Test::Refused(Refusal::Point);
+        return Err(Refusal::Point);
     }
     let s = tree_glance::sight(
         numbers, inverses, marks, node_boxes, node_marks, order, eye, v, distance, trusted, calm,
@@ -117,16 +114,16 @@ fn end_filter(
     calm: bool,
     cover: &mut [usize],
     stack: &mut [usize],
-) -> Test
+) -> Result<Option<Vector>, Refusal>
     requires { Remembered (clip_filter matrix (seen_from numbers.now inverses.now marks.now node_boxes.now node_marks.now order.now eye)) ends.old known.old × Prepared numbers.now inverses.now marks.now node_boxes.now node_marks.now order.now eye trusted calm cover.old stack.old }
     ensures { (result ≡ clip_filter matrix (seen_from numbers.now inverses.now marks.now node_boxes.now node_marks.now order.now eye) v) × Remembered (clip_filter matrix (seen_from numbers.now inverses.now marks.now node_boxes.now node_marks.now order.now eye)) ends.new known.new × Prepared numbers.now inverses.now marks.now node_boxes.now node_marks.now order.now eye trusted calm cover.new stack.new }
 {
     let c = draw_memory::recall(ends, known, v);
     if c == 0 {
-        return Test::Drop;
+        return Ok(None);
     }
     if c == 1 {
-        return Test::Keep(matrix.mul_position_w(v));
+        return Ok(Some(matrix.mul_position_w(v)));
     }
     let t = quick_filter(
         matrix, eye, numbers, inverses, marks, node_boxes, node_marks, order, v, trusted, calm,
@@ -154,7 +151,7 @@ fn point_filter(
     calm: bool,
     cover: &mut [usize],
     stack: &mut [usize],
-) -> Test
+) -> Result<Option<Vector>, Refusal>
     requires { Remembered (clip_filter matrix (seen_from numbers.now inverses.now marks.now node_boxes.now node_marks.now order.now eye)) ends.old known.old × Prepared numbers.now inverses.now marks.now node_boxes.now node_marks.now order.now eye trusted calm cover.old stack.old }
     ensures { (result ≡ clip_filter matrix (seen_from numbers.now inverses.now marks.now node_boxes.now node_marks.now order.now eye) v) × Remembered (clip_filter matrix (seen_from numbers.now inverses.now marks.now node_boxes.now node_marks.now order.now eye)) ends.new known.new × Prepared numbers.now inverses.now marks.now node_boxes.now node_marks.now order.now eye trusted calm cover.new stack.new }
 {
@@ -204,14 +201,13 @@ fn filter_from(
     calm: bool,
     cover: &mut [usize],
     stack: &mut [usize],
-) -> Counts
+) -> Result<(usize, usize), Refusal>
     requires { (from ≤ end) × (end * 3 ≤ length path.now) × (n * 3 ≤ length out.old) × (m ≤ length begins.old) × Remembered (clip_filter matrix (seen_from numbers.now inverses.now marks.now node_boxes.now node_marks.now order.now eye)) ends.old known.old × Prepared numbers.now inverses.now marks.now node_boxes.now node_marks.now order.now eye trusted calm cover.old stack.old }
     ensures { (EndsBoth (filtered_from (clip_filter matrix (seen_from numbers.now inverses.now marks.now node_boxes.now node_marks.now order.now eye)) (places out.old) (length begins.old) (slice from end (all_points path.now)) (held n out.old m begins.old)) out.new begins.new result) × Remembered (clip_filter matrix (seen_from numbers.now inverses.now marks.now node_boxes.now node_marks.now order.now eye)) ends.new known.new × Prepared numbers.now inverses.now marks.now node_boxes.now node_marks.now order.now eye trusted calm cover.new stack.new }
 {
-    let mut i = from;
     let mut a = n;
     let mut b = m;
-    while i < end {
+    for i in from..end {
         let v = rows::read_point(path, i);
         let t = point_filter(
             matrix,
@@ -231,17 +227,9 @@ fn filter_from(
             cover,
             stack,
         );
-        let r = path_filter::step(t, out, begins, a, b);
-        match r {
-            Counts::Refused(k) => return Counts::Refused(k),
-            Counts::Both(p, q) => {
-                a = p;
-                b = q;
-            }
-        }
-        i += 1;
+        (a, b) = path_filter::step(t, out, begins, a, b)?;
     }
-    Counts::Both(a, b)
+    Ok((a, b))
 }
 
 // A path is opened and filtered, and the last path opened is closed.
@@ -267,27 +255,17 @@ fn path_filter(
     calm: bool,
     cover: &mut [usize],
     stack: &mut [usize],
-) -> Counts
+) -> Result<(usize, usize), Refusal>
     requires { (from ≤ end) × (end * 3 ≤ length path.now) × (n * 3 ≤ length out.old) × (m ≤ length begins.old) × Remembered (clip_filter matrix (seen_from numbers.now inverses.now marks.now node_boxes.now node_marks.now order.now eye)) ends.old known.old × Prepared numbers.now inverses.now marks.now node_boxes.now node_marks.now order.now eye trusted calm cover.old stack.old }
     ensures { (EndsBoth (path_filter (clip_filter matrix (seen_from numbers.now inverses.now marks.now node_boxes.now node_marks.now order.now eye)) (places out.old) (length begins.old) (slice from end (all_points path.now)) (held n out.old m begins.old)) out.new begins.new result) × Remembered (clip_filter matrix (seen_from numbers.now inverses.now marks.now node_boxes.now node_marks.now order.now eye)) ends.new known.new × Prepared numbers.now inverses.now marks.now node_boxes.now node_marks.now order.now eye trusted calm cover.new stack.new }
 {
-    let o = paths::new_path(begins, m, n);
-    match o {
-        Count::Refused(k) => Counts::Refused(k),
-        Count::At(q) => {
-            let r = filter_from(
-                matrix, eye, numbers, inverses, marks, node_boxes, node_marks, order, ends, known,
-                path, from, end, out, begins, n, q, trusted, calm, cover, stack,
-            );
-            match r {
-                Counts::Refused(k) => Counts::Refused(k),
-                Counts::Both(a, b) => {
-                    let z = paths::close(begins, b, a);
-                    Counts::Both(a, z)
-                }
-            }
-        }
-    }
+    let q = paths::new_path(begins, m, n)?;
+    let (a, b) = filter_from(
+        matrix, eye, numbers, inverses, marks, node_boxes, node_marks, order, ends, known, path,
+        from, end, out, begins, n, q, trusted, calm, cover, stack,
+    )?;
+    let z = paths::close(begins, b, a);
+    Ok((a, z))
 }
 
 // Each path in turn, from the first places of `out` and `begins` on.
@@ -304,7 +282,7 @@ pub fn filter_paths(
     starts: &[usize],
     out: &mut [f64],
     begins: &mut [usize],
-) -> Counts
+) -> Result<(usize, usize), Refusal>
     ensures { EndsBoth (clip_paths matrix (seen_from numbers.now inverses.now marks.now node_boxes.now node_marks.now order.now eye) (all_points path.now) starts.now (places out.old) (length begins.old)) out.new begins.new result }
 {
     let total = path.len() / 3;
@@ -316,22 +294,13 @@ pub fn filter_paths(
     let mut stack = [0usize; 64];
     let mut n = 0;
     let mut m = 0;
-    let mut i = 0;
-    while i < starts.len() {
+    for i in 0..starts.len() {
         let p = paths::range_of(starts, i, total);
-        let r = path_filter(
+        (n, m) = path_filter(
             matrix, eye, numbers, inverses, marks, node_boxes, node_marks, order, &mut ends,
             &mut known, path, p.from, p.end, out, begins, n, m, trusted, calm, &mut cover,
             &mut stack,
-        );
-        match r {
-            Counts::Refused(k) => return Counts::Refused(k),
-            Counts::Both(a, b) => {
-                n = a;
-                m = b;
-            }
-        }
-        i += 1;
+        )?;
     }
-    Counts::Both(n, m)
+    Ok((n, m))
 }

@@ -6,7 +6,7 @@ ghost use Rattle.floats.specs.Arith.{zero_f};
 ghost use Rattle.paths.specs.Ends.{Finished, Zeroed};
 ghost use Rattle.draw.specs.Draw.{draw_in};
 
-use paths::Counts;
+use refusals::Refusal;
 use view::View;
 
 // A scene drawn for a view, in `out` and `begins`, or why it is refused; the work slices end as zeros.
@@ -26,7 +26,7 @@ pub fn draw(
     node_boxes: &mut [f64],
     node_marks: &mut [u32],
     order: &mut [u32],
-) -> Counts
+) -> Result<(usize, usize), Refusal>
     ensures finished { Finished (draw_in numbers.now marks.now points.now starts.now owners.now view out.old begins.old work.old work_starts.old chopped.old chopped_starts.old node_boxes.old node_marks.old order.old) (length out.old) (length begins.old) out.new begins.new result }
     ensures zeroed { Zeroed zero_f work.old work.new }
     ensures zeroed_2 { Zeroed 0 work_starts.old work_starts.new }

@@ -10,11 +10,8 @@ use lib.Ieee.{Float}
 use Rattle.refusals.specs.declared.Refusal.{Refusal}
 use Rattle.scene_shape.specs.Shapes.{Shape}
 use Rattle.rows.specs.Points.{points}
-use Rattle.paths.specs.Answers.{answered}
 use Rattle.paths.specs.Paths.{Paths}
 use Rattle.paths.specs.Ends.{held, EndsBoth}
-use Rattle.paths.specs.declared.Counts.{Counts}
-use Rattle.paths.specs.declared.Counts.TheVariants.{Both, Refused}
 use Rattle.paths.proofs.Ending.{both_at, both-refused, refuses-both}
 use Rattle.paths.proofs.Adding.{next-answered}
 use Rattle.paths.proofs.Parts.{length-points}
@@ -26,9 +23,10 @@ use Rattle.path_append.proofs.LowStarts.{filter-low}
 use Rattle.draw_collect.specs.Collect.{LineRoom, chopped_lines, sifted}
 use Rattle.draw_collect.specs.Slices.{room_of, first_held, Lent, joined}
 use Rattle.draw_collect.proofs.Vectors.{second_is, second-length, second-after}
+use Rattle.std.specs.Prelude.{Err, Ok, Result}
 
 -- no start of what was sifted lies beyond its points
-sifted-low : (a : RenderArgs) (w : LineRoom) (s : Shape) (p q : Paths) → sifted a w s p ≡ answered q → Low (length q.vertices) q.starts
+sifted-low : (a : RenderArgs) (w : LineRoom) (s : Shape) (p q : Paths) → sifted a w s p ≡ Ok q → Low (length q.vertices) q.starts
 unfolding sifted
 sifted-low a w s p q e =
     let one = next-answered (chopped_lines a w.chopped w.begins p) (λ (c : Paths). cut_paths s c.vertices c.starts w.points w.starts) q e in
@@ -52,11 +50,11 @@ module _ (wide many n m : ℕ) (xs : List Float) (ss : List ℕ) (L : Lent 2 wid
   join-fits p q h = rw (second_is xs wide two-wide, second_is ss many two-many) h
 
   module _ (a : RenderArgs) (s : Shape) (chopped : List Float) (choppedStarts : List ℕ) where
-    pub join-none : (ys : List Float) (us : List ℕ) {c : Counts} {e : Refusal} → c ≡ Refused e → EndsBoth (joined a (room_of wide many chopped choppedStarts) s wide many n xs m ss c) ys us (Refused e)
+    pub join-none : (ys : List Float) (us : List ℕ) {c : Result (ℕ × ℕ) Refusal} {e : Refusal} → c ≡ Err e → EndsBoth (joined a (room_of wide many chopped choppedStarts) s wide many n xs m ss c) ys us (Err e)
     join-none ys us h = refuses-both ys us (rw h)
 
-    module _ {c : Counts} {p q : ℕ} (some : c ≡ Both p q) where
-      module _ (ys : List Float) (us : List ℕ) {d : Counts}
+    module _ {c : Result (ℕ × ℕ) Refusal} {p q : ℕ} (some : c ≡ Ok (p, q)) where
+      module _ (ys : List Float) (us : List ℕ) {d : Result (ℕ × ℕ) Refusal}
           (ends : EndsBoth (sifted a (room_of (length (take (wide + wide - wide) (drop wide xs))) (length (take (many + many - many) (drop many ss))) chopped choppedStarts) s
           (held p (take (wide + wide - wide) (drop wide xs)) q (take (many + many - many) (drop many ss)))) ys us d)
           (lx : length ys ≡ length (take (wide + wide - wide) (drop wide xs))) (ls : length us ≡ length (take (many + many - many) (drop many ss))) where
@@ -64,10 +62,10 @@ module _ (wide many n m : ℕ) (xs : List Float) (ss : List ℕ) (L : Lent 2 wid
             ≡ sifted a (room_of (length (take (wide + wide - wide) (drop wide xs))) (length (take (many + many - many) (drop many ss))) chopped choppedStarts) s (held p (take (wide + wide - wide) (drop wide xs)) q (take (many + many - many) (drop many ss)))
         as-told = rw (second_is xs wide two-wide, second_is ss many two-many, second-length xs wide two-wide, second-length ss many two-many)
 
-        pub join-refused : (zs : List Float) (vs : List ℕ) {e : Refusal} → d ≡ Refused e → EndsBoth (joined a (room_of wide many chopped choppedStarts) s wide many n xs m ss c) zs vs (Refused e)
+        pub join-refused : (zs : List Float) (vs : List ℕ) {e : Refusal} → d ≡ Err e → EndsBoth (joined a (room_of wide many chopped choppedStarts) s wide many n xs m ss c) zs vs (Err e)
         join-refused zs vs h = refuses-both zs vs (rw (some, as-told, both-refused ends h))
 
-        module _ {x y : ℕ} (h : d ≡ Both x y) where
+        module _ {x y : ℕ} (h : d ≡ Ok (x, y)) where
           long : length (put_mid wide (wide + wide - wide) xs ys) ≡ length xs
           long = same_len_mid wide (wide + wide - wide) xs ys lx
 
@@ -91,7 +89,7 @@ module _ (wide many n m : ℕ) (xs : List Float) (ss : List ℕ) (L : Lent 2 wid
               × (many + many ≤ length (put_mid many (many + many - many) ss us)) × Low x (take y (drop many (put_mid many (many + many - many) ss us)))
           join-asks = (omega (arith, L.points_fit, wide-first), omega (arith, L.starts_fit, many-first), x_fits, y-fits, omega (arith, long, two-wide), omega (arith, broad, two-many), starts-low)
 
-          pub join-appended : (zs : List Float) (vs : List ℕ) {r : Counts}
+          pub join-appended : (zs : List Float) (vs : List ℕ) {r : Result (ℕ × ℕ) Refusal}
               → EndsBoth (appended (wide / 3) many (held n (take wide (put_mid wide (wide + wide - wide) xs ys)) m (take many (put_mid many (many + many - many) ss us)))
               (held x (take wide (drop wide (put_mid wide (wide + wide - wide) xs ys))) y (take many (drop many (put_mid many (many + many - many) ss us))))) zs vs r
               → EndsBoth (joined a (room_of wide many chopped choppedStarts) s wide many n xs m ss c) zs vs r

@@ -1,12 +1,12 @@
 -- A drawn value: a solid with the lines of its simple parts.
-use Rattle.std.specs.Prelude.{cond, List, ℕ, zero, suc, ◌/◌, length, ltb, Float}
+use Rattle.std.specs.Prelude.{cond, List, ℕ, zero, suc, ◌/◌, length, ltb, Float, None, Option, Some}
 use Rattle.geometry.specs.declared.vector.Vector.{Vector}
 use Rattle.matrix.specs.declared.Matrix.{Matrix}
 use Rattle.solids.specs.declared.solid.Solid.{Solid}
 use Rattle.scene.specs.Entries.{marks_at}
 use Rattle.scene.specs.declared.entry.Op.{Op}
 use Rattle.scene.specs.declared.entry.Entry.{Entry}
-use Rattle.scene.specs.declared.entry.Entry.TheVariants.{Simple, Placed, Cut, None}
+use Rattle.scene.specs.declared.entry.Entry.TheVariants.{Simple, Placed, Cut}
 use Rattle.scene_shape.specs.Shapes.{Shape, none, simple, placed, cut}
 use Rattle.paths.specs.Paths.{paths_of}
 use Rattle.paths.specs.Ends.{all_points}
@@ -27,14 +27,14 @@ bare (placed_lines m v x) = placed m v (bare x)
 bare (cut_lines o x y) = cut o (bare x) (bare y)
 
 -- an entry whose parts are read by f; `own` gives the lines of a simple solid
-unfoldable pub lined_of : (ℕ → Lined) → (Solid → List (List Vector)) → Entry → Lined
-lined_of f own (Simple s) = lined s (own s)
-lined_of f own (Placed m v k) = placed_lines m v (f k)
-lined_of f own (Cut o a b) = cut_lines o (f a) (f b)
+unfoldable pub lined_of : (ℕ → Lined) → (Solid → List (List Vector)) → Option Entry → Lined
+lined_of f own (Some (Simple s)) = lined s (own s)
+lined_of f own (Some (Placed m v k)) = placed_lines m v (f k)
+lined_of f own (Some (Cut o a b)) = cut_lines o (f a) (f b)
 lined_of f own None = no_lines
 
 -- the drawn value at entry i, nested at most so deep, where `at` gives the entries and `own` the lines of each
-unfoldable pub read_lined : ℕ → (ℕ → Entry) → (ℕ → Solid → List (List Vector)) → ℕ → Lined
+unfoldable pub read_lined : ℕ → (ℕ → Option Entry) → (ℕ → Solid → List (List Vector)) → ℕ → Lined
 read_lined zero at own i = no_lines
 read_lined (suc d) at own i = lined_of (read_lined d at own) (own i) (at i)
 

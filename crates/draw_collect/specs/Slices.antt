@@ -1,10 +1,9 @@
 -- The slices that lines are collected in: vectors of `wide` numbers and `many` starts, one after the other.
-use Rattle.std.specs.Prelude.{List, ℕ, ◌*◌, ◌/◌, ◌≤◌, length, take, drop, Float}
+use Rattle.std.specs.Prelude.{List, ℕ, ◌*◌, ◌/◌, ◌≤◌, length, take, drop, Float, Result}
 use Rattle.scene.specs.Entries.{entry_at}
-use Rattle.paths.specs.Answers.{Answer, next}
+use Rattle.paths.specs.Answers.{next}
 use Rattle.paths.specs.Paths.{Paths, no_paths}
 use Rattle.paths.specs.Ends.{places, held, told_both}
-use Rattle.paths.specs.declared.Counts.{Counts}
 use Rattle.scene_shape.specs.Shapes.{Shape}
 use Rattle.view.specs.declared.RenderArgs.{RenderArgs}
 use Rattle.path_append.specs.Append.{appended}
@@ -12,6 +11,7 @@ use Rattle.draw_arcs.specs.Stances.{Placement}
 use Rattle.draw_arcs.specs.declared.Stance.{Stance}
 use Rattle.draw_collect.specs.Lined.{Lined, read_lined, own_lines}
 use Rattle.draw_collect.specs.Collect.{LineRoom, collected, sifted}
+use Rattle.refusals.specs.declared.Refusal.{Refusal}
 
 abbrev pub room_of : ℕ → ℕ → List Float → List ℕ → LineRoom
 room_of wide many chopped choppedStarts = record { points = wide / 3; starts = many; chopped = places chopped; begins = length choppedStarts }
@@ -21,7 +21,7 @@ abbrev pub lined_at : ℕ → List Float → List Float → List ℕ → List Fl
 lined_at depth numbers inverses marks points starts owners = read_lined depth (entry_at numbers inverses marks) (own_lines marks points starts owners)
 
 -- the lines of entry a and then of entry b
-abbrev pub collected_both : Placement → LineRoom → (ℕ → Lined) → ℕ → ℕ → Answer Paths
+abbrev pub collected_both : Placement → LineRoom → (ℕ → Lined) → ℕ → ℕ → Result Paths Refusal
 collected_both t w lined a b = next (collected t w (lined a) no_paths) (collected t w (lined b))
 
 -- the paths that the first vector holds, and those of the second
@@ -41,7 +41,7 @@ pub record Spare (depth : ℕ) (t : Stance) : Type 0 where
   pub most : t.placings.free ≤ 8
 
 -- the second vector's paths, if there are any, sifted and appended to the first's
-abbrev pub joined : RenderArgs → LineRoom → Shape → ℕ → ℕ → ℕ → List Float → ℕ → List ℕ → Counts → Answer Paths
+abbrev pub joined : RenderArgs → LineRoom → Shape → ℕ → ℕ → ℕ → List Float → ℕ → List ℕ → Result (ℕ × ℕ) Refusal → Result Paths Refusal
 joined a w s wide many n xs m ss c =
     next (told_both c (take wide (drop wide xs)) (take many (drop many ss)))
     (λ (q : Paths). next (sifted a w s q) (appended w.points w.starts (first_held wide many n xs m ss)))

@@ -2,12 +2,11 @@
 // stand one after the other in a slice: the first takes the lines, the others those of nested cuts.
 #![tactic(auto)]
 
-ghost use Rattle.std.specs.Prelude.{◌≡◌, ◌++◌, map, ℕ, ◌+◌, ◌*◌, ◌≤◌, length, take, drop};
+ghost use Rattle.std.specs.Prelude.{◌≡◌, ◌++◌, map, ℕ, ◌+◌, ◌*◌, ◌≤◌, length, take, drop, Ok};
 ghost use Rattle.matrix.specs.Matrices.{mul_position};
 ghost use Rattle.rows.specs.Points.{points as points_in};
 ghost use Rattle.paths.specs.Paths.{paths_with, no_paths};
 ghost use Rattle.paths.specs.Ends.{places, all_points, held, EndsBoth};
-ghost use Rattle.paths.specs.declared.Counts.TheVariants.{Both};
 ghost use Rattle.scene_shape.specs.Shapes.{decode};
 ghost use Rattle.draw_arcs.specs.Stances.{placement_of};
 ghost use Rattle.draw_collect.specs.Lined.{detail_at};
@@ -17,7 +16,6 @@ ghost use Rattle.draw_collect.specs.Slices.{room_of, lined_at, first_held, colle
 
 use draw_arcs::Stance;
 use matrix::Matrix;
-use paths::Counts;
 use refusals::Refusal;
 use scene::entry::Entry;
 use view::RenderArgs;
@@ -49,11 +47,11 @@ pub fn chop_lines(
     starts: &[usize],
     out: &mut [f64],
     begins: &mut [usize],
-) -> Counts
+) -> Result<(usize, usize), Refusal>
     ensures { EndsBoth (Collect.chopped_lines args (places out.old) (length begins.old) (paths_with (all_points path.now) starts.now)) out.new begins.new result }
 {
     if !paths::points_ok(path) {
-        return Counts::Refused(Refusal::Point);
+        return Err(Refusal::Point);
     }
     path_chop::chop_paths(args, path, starts, out, begins)
 }
@@ -73,35 +71,30 @@ fn sift(
     m: usize,
     chopped: &mut [f64],
     chopped_starts: &mut [usize],
-) -> Counts
+) -> Result<(usize, usize), Refusal>
     requires { (n * 3 ≤ length path.old) × (m ≤ length begins.old) }
     ensures { EndsBoth (Collect.sifted args (room_of (length path.old) (length begins.old) chopped.old chopped_starts.old) (decode depth numbers.now inverses.now marks.now k) (held n path.old m begins.old)) path.new begins.new result }
 {
     let end = n * 3;
-    let c = chop_lines(args, &path[..end], &begins[..m], chopped, chopped_starts);
-    match c {
-        Counts::Refused(e) => Counts::Refused(e),
-        Counts::Both(p, q) => {
-            let last = p * 3;
-            draw_cuts::filter_paths(
-                numbers,
-                inverses,
-                marks,
-                k,
-                depth,
-                &chopped[..last],
-                &chopped_starts[..q],
-                path,
-                begins,
-            )
-        }
-    }
+    let (p, q) = chop_lines(args, &path[..end], &begins[..m], chopped, chopped_starts)?;
+    let last = p * 3;
+    draw_cuts::filter_paths(
+        numbers,
+        inverses,
+        marks,
+        k,
+        depth,
+        &chopped[..last],
+        &chopped_starts[..q],
+        path,
+        begins,
+    )
 }
 
 // The lines of the parts of a cut, entry k, that the second vector holds, are sifted and appended to
 // the n points and m starts of the first.
 fn join(
-    c: Counts,
+    c: Result<(usize, usize), Refusal>,
     numbers: &[f64],
     inverses: &[f64],
     marks: &[u32],
@@ -116,35 +109,28 @@ fn join(
     m: usize,
     chopped: &mut [f64],
     chopped_starts: &mut [usize],
-) -> Counts
-    requires { Lent 2 wide many n m work.old begins.old × ((p q : ℕ) → c ≡ Both p q → (p * 3 ≤ length (take wide (drop wide work.old))) × (q ≤ length (take many (drop many begins.old)))) }
+) -> Result<(usize, usize), Refusal>
+    requires { Lent 2 wide many n m work.old begins.old × ((p q : ℕ) → c ≡ Ok (p, q) → (p * 3 ≤ length (take wide (drop wide work.old))) × (q ≤ length (take many (drop many begins.old)))) }
     ensures { EndsBoth (joined args (room_of wide many chopped.old chopped_starts.old) (decode depth numbers.now inverses.now marks.now k) wide many n work.old m begins.old c) (take wide work.new) (take many begins.new) result }
 {
-    match c {
-        Counts::Refused(e) => Counts::Refused(e),
-        Counts::Both(p, q) => {
-            let end = wide + wide;
-            let last = many + many;
-            let d = sift(
-                numbers,
-                inverses,
-                marks,
-                k,
-                depth,
-                args,
-                &mut work[wide..end],
-                &mut begins[many..last],
-                p,
-                q,
-                chopped,
-                chopped_starts,
-            );
-            match d {
-                Counts::Refused(e) => Counts::Refused(e),
-                Counts::Both(x, y) => path_append::append(work, begins, wide, many, n, m, x, y),
-            }
-        }
-    }
+    let (p, q) = c?;
+    let end = wide + wide;
+    let last = many + many;
+    let (x, y) = sift(
+        numbers,
+        inverses,
+        marks,
+        k,
+        depth,
+        args,
+        &mut work[wide..end],
+        &mut begins[many..last],
+        p,
+        q,
+        chopped,
+        chopped_starts,
+    )?;
+    path_append::append(work, begins, wide, many, n, m, x, y)
 }
 
 // The lines of entry i, nested at most `depth` deep, after the n points and m starts of the first
@@ -168,17 +154,17 @@ fn entry_paths(
     m: usize,
     chopped: &mut [f64],
     chopped_starts: &mut [usize],
-) -> Counts
+) -> Result<(usize, usize), Refusal>
     requires { Lent depth wide many n m work.old begins.old × Spare depth t }
     ensures { EndsBoth (collected (placement_of t) (room_of wide many chopped.old chopped_starts.old) (lined_at depth numbers.now inverses.now marks.now points.now starts.now owners.now i) (first_held wide many n work.old m begins.old)) (take wide work.new) (take many begins.new) result }
 {
     if depth == 0 {
-        return Counts::Both(n, m);
+        return Ok((n, m));
     }
     let e = scene::entry::entry_at(numbers, inverses, marks, i);
     match e {
-        Entry::None => Counts::Both(n, m),
-        Entry::Simple(s) => draw_shown::shown_paths(
+        None => Ok((n, m)),
+        Some(Entry::Simple(s)) => draw_shown::shown_paths(
             s,
             detail_of(marks, i),
             i,
@@ -191,9 +177,9 @@ fn entry_paths(
             n,
             m,
         ),
-        Entry::Placed(x, v, k) => {
+        Some(Entry::Placed(x, v, k)) => {
             let inner = draw_arcs::placed_stance(x, v, t);
-            let r = entry_paths(
+            let (p, q) = entry_paths(
                 numbers,
                 inverses,
                 marks,
@@ -211,18 +197,13 @@ fn entry_paths(
                 m,
                 chopped,
                 chopped_starts,
-            );
-            match r {
-                Counts::Refused(f) => Counts::Refused(f),
-                Counts::Both(p, q) => {
-                    move_points(x, &mut work[..wide], n, p);
-                    Counts::Both(p, q)
-                }
-            }
+            )?;
+            move_points(x, &mut work[..wide], n, p);
+            Ok((p, q))
         }
-        Entry::Cut(_, a, b) => {
+        Some(Entry::Cut(_, a, b)) => {
             if depth == 1 {
-                return Counts::Both(n, m);
+                return Ok((n, m));
             }
             let c = part_paths(
                 numbers,
@@ -282,11 +263,11 @@ fn part_paths(
     begins: &mut [usize],
     chopped: &mut [f64],
     chopped_starts: &mut [usize],
-) -> Counts
+) -> Result<(usize, usize), Refusal>
     requires { Lent depth wide many 0 0 work.old begins.old × Spare depth t }
     ensures { EndsBoth (collected_both (placement_of t) (room_of wide many chopped.old chopped_starts.old) (lined_at depth numbers.now inverses.now marks.now points.now starts.now owners.now) a b) (take wide work.new) (take many begins.new) result }
 {
-    let r = entry_paths(
+    let (p, q) = entry_paths(
         numbers,
         inverses,
         marks,
@@ -304,29 +285,26 @@ fn part_paths(
         0,
         chopped,
         chopped_starts,
-    );
-    match r {
-        Counts::Refused(e) => Counts::Refused(e),
-        Counts::Both(p, q) => entry_paths(
-            numbers,
-            inverses,
-            marks,
-            points,
-            starts,
-            owners,
-            b,
-            t,
-            depth,
-            wide,
-            many,
-            work,
-            begins,
-            p,
-            q,
-            chopped,
-            chopped_starts,
-        ),
-    }
+    )?;
+    entry_paths(
+        numbers,
+        inverses,
+        marks,
+        points,
+        starts,
+        owners,
+        b,
+        t,
+        depth,
+        wide,
+        many,
+        work,
+        begins,
+        p,
+        q,
+        chopped,
+        chopped_starts,
+    )
 }
 
 // The lines of the first `count` of the listed entries, from the first place of the first vector on;
@@ -347,15 +325,14 @@ pub fn all_paths(
     begins: &mut [usize],
     chopped: &mut [f64],
     chopped_starts: &mut [usize],
-) -> Counts
+) -> Result<(usize, usize), Refusal>
     requires { (count ≤ length listed.now) × Lent 8 wide many 0 0 work.old begins.old }
     ensures { EndsBoth (collected_all args (room_of wide many chopped.old chopped_starts.old) (lined_at 8 numbers.now inverses.now marks.now points.now starts.now owners.now) (take count listed.now) no_paths) (take wide work.new) (take many begins.new) result }
 {
     let mut p = 0;
     let mut q = 0;
-    let mut i = 0;
-    while i < count {
-        let r = entry_paths(
+    for i in 0..count {
+        (p, q) = entry_paths(
             numbers,
             inverses,
             marks,
@@ -373,15 +350,7 @@ pub fn all_paths(
             q,
             chopped,
             chopped_starts,
-        );
-        match r {
-            Counts::Refused(e) => return Counts::Refused(e),
-            Counts::Both(a, b) => {
-                p = a;
-                q = b;
-            }
-        }
-        i += 1;
+        )?;
     }
-    Counts::Both(p, q)
+    Ok((p, q))
 }

@@ -15,8 +15,6 @@ ghost use Rattle.draw_render.specs.Render as Render;
 ghost use Rattle.draw_render.specs.Slices.{Listed};
 ghost use Rattle.draw_counts.specs.Blanks.{places_for};
 
-use paths::Counts;
-use query_scene::Built;
 use refusals::Refusal;
 use view::View;
 
@@ -29,12 +27,12 @@ fn simplified_counts(
     spare: &mut [f64],
     room: usize,
     begins: usize,
-) -> Counts
+) -> Result<(usize, usize), Refusal>
     requires { (length path.now ≤ length spare.old) × (lt threshold zero_f ≡ false) }
     ensures { result ≡ counted (Render.simplified_lines threshold room begins (paths_with (all_points path.now) starts.now)) }
 {
     if !paths::points_ok(path) {
-        return Counts::Refused(Refusal::Point);
+        return Err(Refusal::Point);
     }
     draw_tally::tally_simplified(path, starts, threshold, spare, room, begins)
 }
@@ -55,22 +53,17 @@ fn seen_counts(
     node_boxes: &mut [f64],
     node_marks: &mut [u32],
     order: &mut [u32],
-) -> Counts
+) -> Result<(usize, usize), Refusal>
     requires { Listed boxes.now listed.now count }
     ensures { result ≡ counted (Render.seen_lines view (places_of node_boxes.old node_marks.old) (length order.old) (decode 8 numbers.now inverses.now marks.now) (box_at boxes.now) (take count listed.now) room begins (paths_with (all_points path.now) starts.now)) }
 {
-    let b = query_scene::plant(boxes, listed, count, node_boxes, node_marks, order);
-    match b {
-        Built::Refused(k) => Counts::Refused(k),
-        Built::Nodes(_) => {
-            let matrix = view.matrix;
-            let eye = view.eye;
-            draw_tally::tally_filtered(
-                matrix, eye, numbers, inverses, marks, node_boxes, node_marks, order, path, starts,
-                room, begins,
-            )
-        }
-    }
+    query_scene::plant(boxes, listed, count, node_boxes, node_marks, order)?;
+    let matrix = view.matrix;
+    let eye = view.eye;
+    draw_tally::tally_filtered(
+        matrix, eye, numbers, inverses, marks, node_boxes, node_marks, order, path, starts, room,
+        begins,
+    )
 }
 
 // Steps 2 to 5, on n points and m starts of lines, for a result of `out` numbers and `begins` starts.
@@ -95,7 +88,7 @@ fn stage_counts(
     order: &mut [u32],
     out: usize,
     begins: usize,
-) -> Counts
+) -> Result<(usize, usize), Refusal>
     requires { (lt threshold zero_f ≡ false) × Listed boxes.now listed.now count × (n * 3 ≤ length work.old) × (m ≤ length work_starts.old) }
     ensures { result ≡ counted (Render.staged threshold view (places_for (length work.old) (length work_starts.old) chopped.old chopped_starts.old node_boxes.old node_marks.old order.old out begins) (decode 8 numbers.now inverses.now marks.now) (box_at boxes.now) (take count listed.now) (held n work.old m work_starts.old)) }
 {
@@ -119,49 +112,39 @@ fn stage_counts(
             order,
         );
     }
-    let c = draw_collect::chop_lines(
+    let (p, q) = draw_collect::chop_lines(
         view.args(),
         &work[..end],
         &work_starts[..m],
         chopped,
         chopped_starts,
-    );
-    match c {
-        Counts::Refused(k) => Counts::Refused(k),
-        Counts::Both(p, q) => {
-            let last = p * 3;
-            let d = draw_render::visible_lines(
-                view,
-                numbers,
-                inverses,
-                marks,
-                boxes,
-                listed,
-                count,
-                &chopped[..last],
-                &chopped_starts[..q],
-                work,
-                work_starts,
-                node_boxes,
-                node_marks,
-                order,
-            );
-            match d {
-                Counts::Refused(k) => Counts::Refused(k),
-                Counts::Both(x, y) => {
-                    let z = x * 3;
-                    simplified_counts(
-                        threshold,
-                        &work[..z],
-                        &work_starts[..y],
-                        chopped,
-                        room,
-                        begins,
-                    )
-                }
-            }
-        }
-    }
+    )?;
+    let last = p * 3;
+    let (x, y) = draw_render::visible_lines(
+        view,
+        numbers,
+        inverses,
+        marks,
+        boxes,
+        listed,
+        count,
+        &chopped[..last],
+        &chopped_starts[..q],
+        work,
+        work_starts,
+        node_boxes,
+        node_marks,
+        order,
+    )?;
+    let z = x * 3;
+    simplified_counts(
+        threshold,
+        &work[..z],
+        &work_starts[..y],
+        chopped,
+        room,
+        begins,
+    )
 }
 
 // The counts of a drawing of the first `count` listed solids. `work` and `work_starts` have eight vectors
@@ -187,13 +170,13 @@ pub fn render_counts(
     node_boxes: &mut [f64],
     node_marks: &mut [u32],
     order: &mut [u32],
-) -> Counts
+) -> Result<(usize, usize), Refusal>
     requires { (lt threshold zero_f ≡ false) × Listed boxes.now listed.now count }
     ensures { result ≡ counted (Render.rendered threshold view (places_for (length work.old / 24 * 3) (length work_starts.old / 8) chopped.old chopped_starts.old node_boxes.old node_marks.old order.old out begins) (lined_at 8 numbers.now inverses.now marks.now points.now starts.now owners.now) (box_at boxes.now) (take count listed.now)) }
 {
     let wide = work.len() / 24 * 3;
     let many = work_starts.len() / 8;
-    let c = draw_collect::all_paths(
+    let (n, m) = draw_collect::all_paths(
         numbers,
         inverses,
         marks,
@@ -209,29 +192,26 @@ pub fn render_counts(
         work_starts,
         chopped,
         chopped_starts,
-    );
-    match c {
-        Counts::Refused(k) => Counts::Refused(k),
-        Counts::Both(n, m) => stage_counts(
-            threshold,
-            view,
-            numbers,
-            inverses,
-            marks,
-            boxes,
-            listed,
-            count,
-            &mut work[..wide],
-            &mut work_starts[..many],
-            n,
-            m,
-            chopped,
-            chopped_starts,
-            node_boxes,
-            node_marks,
-            order,
-            out,
-            begins,
-        ),
-    }
+    )?;
+    stage_counts(
+        threshold,
+        view,
+        numbers,
+        inverses,
+        marks,
+        boxes,
+        listed,
+        count,
+        &mut work[..wide],
+        &mut work_starts[..many],
+        n,
+        m,
+        chopped,
+        chopped_starts,
+        node_boxes,
+        node_marks,
+        order,
+        out,
+        begins,
+    )
 }

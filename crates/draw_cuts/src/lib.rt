@@ -9,8 +9,7 @@ ghost use Rattle.scene_shape.specs.Shapes.{decode};
 ghost use Rattle.draw_cuts.specs.Cuts.{cut_filter, cut_paths};
 
 use geometry::vector::Vector;
-use path_filter::Test;
-use paths::{Count, Counts};
+use refusals::Refusal;
 
 // What becomes of a point of the lines of the cut at entry k, nested at most `depth` deep: it is kept
 // exactly if the cut contains it.
@@ -21,13 +20,13 @@ pub fn cut_filter(
     k: usize,
     depth: usize,
     v: Vector,
-) -> Test
+) -> Result<Option<Vector>, Refusal>
     ensures { result ≡ cut_filter (decode depth numbers.now inverses.now marks.now k) v }
 {
     if scene_shape::entry_contains(numbers, inverses, marks, k, v, 0.0, depth) {
-        return Test::Keep(v);
+        return Ok(Some(v));
     }
-    Test::Drop
+    Ok(None)
 }
 
 // Each point of a path from `from` up to `end`, after n points and m starts.
@@ -44,27 +43,18 @@ fn filter_from(
     begins: &mut [usize],
     n: usize,
     m: usize,
-) -> Counts
+) -> Result<(usize, usize), Refusal>
     requires { (from ≤ end) × (end * 3 ≤ length path.now) × (n * 3 ≤ length out.old) × (m ≤ length begins.old) }
     ensures { EndsBoth (filtered_from (cut_filter (decode depth numbers.now inverses.now marks.now k)) (places out.old) (length begins.old) (slice from end (all_points path.now)) (held n out.old m begins.old)) out.new begins.new result }
 {
-    let mut i = from;
     let mut a = n;
     let mut b = m;
-    while i < end {
+    for i in from..end {
         let v = rows::read_point(path, i);
         let t = cut_filter(numbers, inverses, marks, k, depth, v);
-        let r = path_filter::step(t, out, begins, a, b);
-        match r {
-            Counts::Refused(e) => return Counts::Refused(e),
-            Counts::Both(p, q) => {
-                a = p;
-                b = q;
-            }
-        }
-        i += 1;
+        (a, b) = path_filter::step(t, out, begins, a, b)?;
     }
-    Counts::Both(a, b)
+    Ok((a, b))
 }
 
 // A path is opened and filtered, and the last path opened is closed.
@@ -81,26 +71,16 @@ fn path_filter(
     begins: &mut [usize],
     n: usize,
     m: usize,
-) -> Counts
+) -> Result<(usize, usize), Refusal>
     requires { (from ≤ end) × (end * 3 ≤ length path.now) × (n * 3 ≤ length out.old) × (m ≤ length begins.old) }
     ensures { EndsBoth (path_filter (cut_filter (decode depth numbers.now inverses.now marks.now k)) (places out.old) (length begins.old) (slice from end (all_points path.now)) (held n out.old m begins.old)) out.new begins.new result }
 {
-    let o = paths::new_path(begins, m, n);
-    match o {
-        Count::Refused(e) => Counts::Refused(e),
-        Count::At(q) => {
-            let r = filter_from(
-                numbers, inverses, marks, k, depth, path, from, end, out, begins, n, q,
-            );
-            match r {
-                Counts::Refused(e) => Counts::Refused(e),
-                Counts::Both(a, b) => {
-                    let z = paths::close(begins, b, a);
-                    Counts::Both(a, z)
-                }
-            }
-        }
-    }
+    let q = paths::new_path(begins, m, n)?;
+    let (a, b) = filter_from(
+        numbers, inverses, marks, k, depth, path, from, end, out, begins, n, q,
+    )?;
+    let z = paths::close(begins, b, a);
+    Ok((a, z))
 }
 
 // Each path in turn, from the first places of `out` and `begins` on.
@@ -114,26 +94,17 @@ pub fn filter_paths(
     starts: &[usize],
     out: &mut [f64],
     begins: &mut [usize],
-) -> Counts
+) -> Result<(usize, usize), Refusal>
     ensures { EndsBoth (cut_paths (decode depth numbers.now inverses.now marks.now k) (all_points path.now) starts.now (places out.old) (length begins.old)) out.new begins.new result }
 {
     let total = path.len() / 3;
     let mut n = 0;
     let mut m = 0;
-    let mut i = 0;
-    while i < starts.len() {
+    for i in 0..starts.len() {
         let p = paths::range_of(starts, i, total);
-        let r = path_filter(
+        (n, m) = path_filter(
             numbers, inverses, marks, k, depth, path, p.from, p.end, out, begins, n, m,
-        );
-        match r {
-            Counts::Refused(e) => return Counts::Refused(e),
-            Counts::Both(a, b) => {
-                n = a;
-                m = b;
-            }
-        }
-        i += 1;
+        )?;
     }
-    Counts::Both(n, m)
+    Ok((n, m))
 }

@@ -7,8 +7,6 @@ ghost use Rattle.paths.specs.Ends.{places, held, EndsBoth, Finished, Zeroed};
 ghost use Rattle.draw_collect.specs.Slices.{room_of, lined_at};
 ghost use Rattle.draw_entry_lines.specs.EntryLines as EntryLines;
 
-use check_scene::Verdict;
-use paths::Counts;
 use refusals::Refusal;
 use view::View;
 
@@ -21,7 +19,7 @@ fn put_lines(
     m: usize,
     out: &mut [f64],
     begins: &mut [usize],
-) -> Counts
+) -> Result<(usize, usize), Refusal>
     requires { (n * 3 ≤ length work.now) × (m ≤ length work_starts.now) }
     ensures { EndsBoth (EntryLines.chopped_or_copied view (places out.old) (length begins.old) (held n work.now m work_starts.now)) out.new begins.new result }
 {
@@ -48,13 +46,13 @@ fn listed_lines(
     begins: &mut [usize],
     work: &mut [f64],
     work_starts: &mut [usize],
-) -> Counts
+) -> Result<(usize, usize), Refusal>
     requires { (first + some ≤ length listed.now) × (length listed.now ≤ 1024) }
     ensures { EndsBoth (EntryLines.lines_in_room view (room_of (length work.old / 24 * 3) (length work_starts.old / 8) out.old begins.old) (lined_at 8 numbers.now inverses.now marks.now points.now starts.now owners.now) (take some (drop first listed.now))) out.new begins.new result }
 {
     let wide = work.len() / 24 * 3;
     let many = work_starts.len() / 8;
-    let c = draw_collect::all_paths(
+    let (n, m) = draw_collect::all_paths(
         numbers,
         inverses,
         marks,
@@ -70,19 +68,8 @@ fn listed_lines(
         work_starts,
         out,
         begins,
-    );
-    match c {
-        Counts::Refused(k) => Counts::Refused(k),
-        Counts::Both(n, m) => put_lines(
-            view,
-            &work[..wide],
-            &work_starts[..many],
-            n,
-            m,
-            out,
-            begins,
-        ),
-    }
+    )?;
+    put_lines(view, &work[..wide], &work_starts[..many], n, m, out, begins)
 }
 
 // The check of the scene and of the view, then the lines, in the first places of `out` and `begins`.
@@ -99,13 +86,13 @@ fn checked_lines(
     begins: &mut [usize],
     work: &mut [f64],
     work_starts: &mut [usize],
-) -> Counts
+) -> Result<(usize, usize), Refusal>
     ensures { EndsBoth (EntryLines.entry_lines_in first many numbers.now marks.now points.now starts.now owners.now view out.old begins.old work.old work_starts.old) out.new begins.new result }
 {
     let mut inverses = [0.0; 16384];
     let mut boxes = [0.0; 6144];
     let mut drawn = [0u32; 1024];
-    let v = check_scene::check(
+    let n = check_scene::check(
         numbers,
         marks,
         points,
@@ -114,32 +101,27 @@ fn checked_lines(
         &mut inverses,
         &mut boxes,
         &mut drawn,
-    );
-    match v {
-        Verdict::Refused(k) => Counts::Refused(k),
-        Verdict::Accepted(n) => {
-            if !view.is_ok() {
-                return Counts::Refused(Refusal::View);
-            }
-            let range = draw_ranges::range_within(first, many, n);
-            listed_lines(
-                view,
-                numbers,
-                &inverses,
-                marks,
-                points,
-                starts,
-                owners,
-                &drawn,
-                range.first,
-                range.many,
-                out,
-                begins,
-                work,
-                work_starts,
-            )
-        }
+    )?;
+    if !view.is_ok() {
+        return Err(Refusal::View);
     }
+    let range = draw_ranges::range_within(first, many, n);
+    listed_lines(
+        view,
+        numbers,
+        &inverses,
+        marks,
+        points,
+        starts,
+        owners,
+        &drawn,
+        range.first,
+        range.many,
+        out,
+        begins,
+        work,
+        work_starts,
+    )
 }
 
 // The lines of the drawn entries number first, first + 1 and so on of a scene, `many` of them as far as there are any,
@@ -158,7 +140,7 @@ pub fn entry_lines(
     begins: &mut [usize],
     work: &mut [f64],
     work_starts: &mut [usize],
-) -> Counts
+) -> Result<(usize, usize), Refusal>
     ensures finished { Finished (EntryLines.entry_lines_in first many numbers.now marks.now points.now starts.now owners.now view out.old begins.old work.old work_starts.old) (length out.old) (length begins.old) out.new begins.new result }
     ensures zeroed { Zeroed zero_f work.old work.new }
     ensures zeroed_2 { Zeroed 0 work_starts.old work_starts.new }

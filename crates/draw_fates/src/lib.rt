@@ -12,27 +12,23 @@ ghost use Rattle.draw_fates.specs.Fates as Fates;
 use geometry::bounding_box::BBox;
 use geometry::vector::Vector;
 use matrix::Matrix;
-use query_cover::Batch;
-use query_scene::NamedSight;
 use refusals::Refusal;
 use view::View;
 
-// A point is clipped away, or visible, or hidden by this drawn entry; or it meets a number.
+// A point is clipped away, or visible, or hidden by this drawn entry.
 #[derive(Clone, Copy)]
 pub enum Fate {
     Clipped,
     Visible,
     Hidden(u32),
-    Refused(Refusal),
 }
 
-fn by_name(o: NamedSight) -> Fate
+fn by_name(o: Result<Option<u32>, Refusal>) -> Result<Fate, Refusal>
     ensures { result ≡ Fates.by_name o }
 {
-    match o {
-        NamedSight::Clear => Fate::Visible,
-        NamedSight::Hidden(i) => Fate::Hidden(i),
-        NamedSight::Refused(k) => Fate::Refused(k),
+    match o? {
+        None => Ok(Fate::Visible),
+        Some(i) => Ok(Fate::Hidden(i)),
     }
 }
 
@@ -47,14 +43,14 @@ fn point_fate(
     node_marks: &[u32],
     order: &[u32],
     p: Vector,
-) -> Fate
+) -> Result<Fate, Refusal>
     ensures { result ≡ Fates.fate_by matrix (hides (λ (r : Ray). walk_rows (entry_hit numbers.now inverses.now marks.now r) r node_boxes.now node_marks.now order.now) eye) p }
 {
     if !BBox::clips(matrix.mul_position_w(p)) {
-        return Fate::Clipped;
+        return Ok(Fate::Clipped);
     }
     if !limits::within_point(p) {
-        return Fate::Refused(Refusal::Point);
+        return Err(Refusal::Point);
     }
     by_name(query_scene::hider(
         numbers, inverses, marks, node_boxes, node_marks, order, eye, p,
@@ -62,14 +58,14 @@ fn point_fate(
 }
 
 // The word that tells it.
-fn word(f: Fate) -> u32
+fn word(f: Result<Fate, Refusal>) -> u32
     ensures { result ≡ Fates.fate_word f }
 {
     match f {
-        Fate::Clipped => 0xfffffffe,
-        Fate::Visible => 0xffffffff,
-        Fate::Hidden(i) => i,
-        Fate::Refused(k) => {
+        Ok(Fate::Clipped) => 0xfffffffe,
+        Ok(Fate::Visible) => 0xffffffff,
+        Ok(Fate::Hidden(i)) => i,
+        Err(k) => {
             let n = k.number();
             0xffffff00 + n
         }
@@ -119,12 +115,10 @@ fn tell(
     requires { (n * 3 ≤ length tested.now) × (n ≤ length told.old) }
     ensures { told.new ≡ padded 0 (length told.old) (Fates.words_by matrix (hides (λ (r : Ray). walk_rows (entry_hit numbers.now inverses.now marks.now r) r node_boxes.now node_marks.now order.now) eye) n tested.now) }
 {
-    let mut k = 0;
-    while k < told.len() {
+    for k in 0..told.len() {
         told[k] = word_at(
             matrix, eye, numbers, inverses, marks, node_boxes, node_marks, order, tested, n, k,
         );
-        k += 1;
     }
 }
 
@@ -142,7 +136,7 @@ pub fn fates(
     view: View,
     tested: &[f64],
     told: &mut [u32],
-) -> Batch
+) -> Result<(), Refusal>
     ensures { Fates.AllFates (scene_of numbers.now marks.now points.now starts.now owners.now) node_boxes.now node_marks.now order.now view tested.now told.old result told.new }
 {
     let mut inverses = [0.0; 16384];

@@ -10,7 +10,7 @@ ghost use Rattle.draw_lines.specs.Cubes as Cubes;
 ghost use Rattle.draw_lines.specs.Lines.{triangle_paths, owned_by, own_path, own_paths};
 
 use geometry::vector::Vector;
-use paths::{Count, Counts};
+use refusals::Refusal;
 
 // A path of the points from `from` up to `end` is opened, filled and closed.
 fn one_path(
@@ -21,38 +21,30 @@ fn one_path(
     begins: &mut [usize],
     n: usize,
     m: usize,
-) -> Counts
+) -> Result<(usize, usize), Refusal>
     requires { (from ≤ end) × (end * 3 ≤ length path.now) × (n * 3 ≤ length out.old) × (m ≤ length begins.old) }
     ensures { EndsBoth (one_path copied (places out.old) (length begins.old) (slice from end (all_points path.now)) (held n out.old m begins.old)) out.new begins.new result }
 {
-    let o = paths::new_path(begins, m, n);
-    match o {
-        Count::Refused(k) => Counts::Refused(k),
-        Count::At(q) => {
-            let r = paths::extend(path, from, end, out, n);
-            match r {
-                Count::Refused(k) => Counts::Refused(k),
-                Count::At(l) => {
-                    let z = paths::close(begins, q, l);
-                    Counts::Both(l, z)
-                }
-            }
-        }
-    }
+    let q = paths::new_path(begins, m, n)?;
+    let l = paths::extend(path, from, end, out, n)?;
+    let z = paths::close(begins, q, l);
+    Ok((l, z))
 }
 
 // A path of two points, unless there was trouble before.
-pub fn line(c: Counts, a: Vector, b: Vector, out: &mut [f64], begins: &mut [usize]) -> Counts
+pub fn line(
+    c: Result<(usize, usize), Refusal>,
+    a: Vector,
+    b: Vector,
+    out: &mut [f64],
+    begins: &mut [usize],
+) -> Result<(usize, usize), Refusal>
     requires { Fit c out.old begins.old }
     ensures { Adds ((a ∷ b ∷ []) ∷ []) c out.old begins.old out.new begins.new result }
 {
-    match c {
-        Counts::Refused(k) => Counts::Refused(k),
-        Counts::Both(n, m) => {
-            let path = [a.x, a.y, a.z, b.x, b.y, b.z];
-            one_path(&path, 0, 2, out, begins, n, m)
-        }
-    }
+    let (n, m) = c?;
+    let path = [a.x, a.y, a.z, b.x, b.y, b.z];
+    one_path(&path, 0, 2, out, begins, n, m)
 }
 
 // Where a stripe of a cube lies, from either end.
@@ -78,13 +70,13 @@ fn stripe_at(min: Vector, max: Vector, stripes: u32, i: u32) -> Along
 
 // A line on each side.
 fn sides(
-    c: Counts,
+    c: Result<(usize, usize), Refusal>,
     min: Vector,
     max: Vector,
     s: Along,
     out: &mut [f64],
     begins: &mut [usize],
-) -> Counts
+) -> Result<(usize, usize), Refusal>
     requires { Fit c out.old begins.old }
     ensures { Adds (Cubes.sides min max s) c out.old begins.old out.new begins.new result }
 {
@@ -119,7 +111,13 @@ fn sides(
 }
 
 // Two lines on the face at z.
-fn across(c: Counts, s: Along, z: f64, out: &mut [f64], begins: &mut [usize]) -> Counts
+fn across(
+    c: Result<(usize, usize), Refusal>,
+    s: Along,
+    z: f64,
+    out: &mut [f64],
+    begins: &mut [usize],
+) -> Result<(usize, usize), Refusal>
     requires { Fit c out.old begins.old }
     ensures { Adds (Cubes.across s z) c out.old begins.old out.new begins.new result }
 {
@@ -140,13 +138,13 @@ fn across(c: Counts, s: Along, z: f64, out: &mut [f64], begins: &mut [usize]) ->
 }
 
 fn faces(
-    c: Counts,
+    c: Result<(usize, usize), Refusal>,
     min: Vector,
     max: Vector,
     s: Along,
     out: &mut [f64],
     begins: &mut [usize],
-) -> Counts
+) -> Result<(usize, usize), Refusal>
     requires { Fit c out.old begins.old }
     ensures { Adds (Cubes.faces min max s) c out.old begins.old out.new begins.new result }
 {
@@ -164,16 +162,16 @@ fn stripe(
     begins: &mut [usize],
     n: usize,
     m: usize,
-) -> Counts
+) -> Result<(usize, usize), Refusal>
     requires { (n * 3 ≤ length out.old) × (m ≤ length begins.old) }
     ensures { EndsBoth (add_paths (places out.old) (length begins.old) (Cubes.stripe min max stripes i) (held n out.old m begins.old)) out.new begins.new result }
 {
     let s = stripe_at(min, max, stripes, i);
     if i != stripes {
-        let c = sides(Counts::Both(n, m), min, max, s, out, begins);
+        let c = sides(Ok((n, m)), min, max, s, out, begins);
         return faces(c, min, max, s, out, begins);
     }
-    faces(Counts::Both(n, m), min, max, s, out, begins)
+    faces(Ok((n, m)), min, max, s, out, begins)
 }
 
 // The lines of a cube with so many stripes, after n points and m starts.
@@ -185,23 +183,14 @@ pub fn paths_striped(
     begins: &mut [usize],
     n: usize,
     m: usize,
-) -> Counts
+) -> Result<(usize, usize), Refusal>
     requires { (n * 3 ≤ length out.old) × (m ≤ length begins.old) }
     ensures { EndsBoth (add_paths (places out.old) (length begins.old) (Cubes.paths_striped min max stripes) (held n out.old m begins.old)) out.new begins.new result }
 {
     let mut p = n;
     let mut q = m;
-    let mut i = 0;
-    while i < stripes {
-        let r = stripe(min, max, stripes, i, out, begins, p, q);
-        match r {
-            Counts::Refused(k) => return Counts::Refused(k),
-            Counts::Both(a, b) => {
-                p = a;
-                q = b;
-            }
-        }
-        i += 1;
+    for i in 0..stripes {
+        (p, q) = stripe(min, max, stripes, i, out, begins, p, q)?;
     }
     stripe(min, max, stripes, stripes, out, begins, p, q)
 }
@@ -215,7 +204,7 @@ pub fn triangle_paths(
     begins: &mut [usize],
     n: usize,
     m: usize,
-) -> Counts
+) -> Result<(usize, usize), Refusal>
     requires { (n * 3 ≤ length out.old) × (m ≤ length begins.old) }
     ensures { EndsBoth (add_paths (places out.old) (length begins.old) (triangle_paths v1 v2 v3) (held n out.old m begins.old)) out.new begins.new result }
 {
@@ -252,12 +241,12 @@ fn own_path(
     begins: &mut [usize],
     n: usize,
     m: usize,
-) -> Counts
+) -> Result<(usize, usize), Refusal>
     requires { (j < length starts.now) × (n * 3 ≤ length out.old) × (m ≤ length begins.old) }
     ensures { EndsBoth (add_paths (places out.old) (length begins.old) (own_path i j (all_points points.now) starts.now owners.now) (held n out.old m begins.old)) out.new begins.new result }
 {
     if !owned(owners, j, i) {
-        return Counts::Both(n, m);
+        return Ok((n, m));
     }
     let p = paths::range_of(starts, j, points.len() / 3);
     one_path(points, p.from, p.end, out, begins, n, m)
@@ -273,23 +262,14 @@ pub fn handed_paths(
     begins: &mut [usize],
     n: usize,
     m: usize,
-) -> Counts
+) -> Result<(usize, usize), Refusal>
     requires { (n * 3 ≤ length out.old) × (m ≤ length begins.old) }
     ensures { EndsBoth (add_paths (places out.old) (length begins.old) (own_paths i (paths_of (all_points points.now) starts.now) owners.now) (held n out.old m begins.old)) out.new begins.new result }
 {
     let mut p = n;
     let mut q = m;
-    let mut j = 0;
-    while j < starts.len() {
-        let r = own_path(points, starts, owners, j, i, out, begins, p, q);
-        match r {
-            Counts::Refused(k) => return Counts::Refused(k),
-            Counts::Both(a, b) => {
-                p = a;
-                q = b;
-            }
-        }
-        j += 1;
+    for j in 0..starts.len() {
+        (p, q) = own_path(points, starts, owners, j, i, out, begins, p, q)?;
     }
-    Counts::Both(p, q)
+    Ok((p, q))
 }

@@ -18,9 +18,9 @@ use Rattle.geometry.specs.Vectors.{vec}
 use Rattle.rows.specs.Rows.{row, set_row}
 use Rattle.rows.specs.Points.{point_of, point_row}
 use Rattle.rows.proofs.Rows.{row_same, row_other, length-set_row}
-use Rattle.path_filter.specs.declared.Test.{Test}
-use Rattle.path_filter.specs.declared.Test.TheVariants.{Keep, Drop, Refused}
 use Rattle.draw_memory.specs.Memory.{outcome_of, next_place, same_number, same_point, recalled_from, recalled, Recalled, Remembered}
+use Rattle.std.specs.Prelude.{Err, None, Ok, Option, Result, Some}
+use Rattle.refusals.specs.declared.Refusal.{Refusal}
 
 pub one-pattern : (a b : Float) → T (fits binary64 a) → T (fits binary64 b) → to_bits binary64 a ≡ to_bits binary64 b → a ≡ b
 one-pattern a b f g e = sym (of_bits-to_bits binary64 a f) ∙ ap (of_bits binary64) e ∙ of_bits-to_bits binary64 b g
@@ -73,13 +73,13 @@ unfolding recalled
 recall-start ends known v = refl
 
 -- ---- what is kept
-pub outcome-dropped : (t : Test) → outcome_of t ≡ 0 → t ≡ Drop
+pub outcome-dropped : (t : Result (Option Vector) Refusal) → outcome_of t ≡ 0 → t ≡ Ok None
 unfolding outcome_of
-outcome-dropped Drop e = refl
-outcome-dropped (Keep v) e = absurd (omega (arith, e))
-outcome-dropped (Refused k) e = absurd (omega (arith, e))
+outcome-dropped (Ok None) e = refl
+outcome-dropped (Ok (Some v)) e = absurd (omega (arith, e))
+outcome-dropped (Err k) e = absurd (omega (arith, e))
 
-module _ (test : Vector → Test) where
+module _ (test : Vector → Result (Option Vector) Refusal) where
   pub known_start : (z : Float) → Remembered test (replicate 24 z) (replicate 9 2)
   known_start z = record {
     wide = refl;

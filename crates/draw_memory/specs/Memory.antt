@@ -1,19 +1,18 @@
 -- What is kept of the ends of earlier paths: eight points, three numbers each, and of each what became of it; the ninth number says whose place is taken next.
-use Rattle.std.specs.Prelude.{◌≡◌, Bool, cond, ◌&&◌, List, ℕ, zero, suc, ◌+◌, ◌<◌, ◌%◌, length, get_or, eqb, Float}
+use Rattle.std.specs.Prelude.{◌≡◌, Bool, cond, ◌&&◌, List, ℕ, zero, suc, ◌+◌, ◌<◌, ◌%◌, length, get_or, eqb, Float, Err, None, Ok, Option, Result, Some}
 use Rattle.std.specs.Float.{binary64}
 use Rattle.std.specs.Float.Ieee.{to_bits}
 use Rattle.floats.specs.Numbers.{number}
 use Rattle.geometry.specs.declared.vector.Vector.{Vector}
 use Rattle.rows.specs.Rows.{row}
 use Rattle.rows.specs.Points.{point_of}
-use Rattle.path_filter.specs.declared.Test.{Test}
-use Rattle.path_filter.specs.declared.Test.TheVariants.{Keep, Drop, Refused}
+use Rattle.refusals.specs.declared.Refusal.{Refusal}
 
 -- 0 for dropped, 1 for kept, 2 for neither
-unfoldable pub outcome_of : Test → ℕ
-outcome_of Drop = 0
-outcome_of (Keep v) = 1
-outcome_of (Refused k) = 2
+unfoldable pub outcome_of : Result (Option Vector) Refusal → ℕ
+outcome_of (Ok None) = 0
+outcome_of (Ok (Some v)) = 1
+outcome_of (Err k) = 2
 
 -- the place that is taken next
 abbrev pub next_place : List ℕ → ℕ
@@ -42,7 +41,7 @@ pub record Recalled (ends : List Float) (known : List ℕ) (v : Vector) (c : ℕ
   pub is : get_or known place 0 ≡ c
 
 -- whatever is kept of a point is what the test makes of it
-pub record Remembered (test : Vector → Test) (ends : List Float) (known : List ℕ) : Type 0 where
+pub record Remembered (test : Vector → Result (Option Vector) Refusal) (ends : List Float) (known : List ℕ) : Type 0 where
   pub wide : length ends ≡ 24
   pub wide_known : length known ≡ 9
   pub each : (k : ℕ) → k < 8 → get_or known k 0 < 2 → outcome_of (test (point_of (row 3 k ends))) ≡ get_or known k 0

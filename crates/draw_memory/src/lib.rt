@@ -7,7 +7,7 @@ ghost use Rattle.rows.specs.Points.{point_row};
 ghost use Rattle.draw_memory.specs.Memory.{outcome_of, next_place, same_number, same_point, recalled, Recalled};
 
 use geometry::vector::Vector;
-use path_filter::Test;
+use refusals::Refusal;
 
 // Whether two numbers are one and the same: == would take -0 for +0, which can turn a ray's zero.
 fn same_bits(a: f64, b: f64) -> bool
@@ -42,23 +42,21 @@ pub fn recall(ends: &[f64], known: &[u32], v: Vector) -> u32
     ensures value { result ≡ recalled ends.now known.now v }
     ensures recalled { result < 2 → Recalled ends.now known.now v result }
 {
-    let mut k = 0usize;
-    while k < 8 {
+    for k in 0..8 {
         if same_point(rows::read_point(ends, k), v) {
             return known[k];
         }
-        k += 1;
     }
     2
 }
 
-pub fn outcome(t: Test) -> u32
+pub fn outcome(t: Result<Option<Vector>, Refusal>) -> u32
     ensures { result ≡ outcome_of t }
 {
     match t {
-        Test::Keep(_) => 1,
-        Test::Drop => 0,
-        Test::Refused(_) => 2,
+        Ok(Some(_)) => 1,
+        Ok(None) => 0,
+        Err(_) => 2,
     }
 }
 

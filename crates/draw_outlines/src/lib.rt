@@ -12,9 +12,7 @@ ghost use Rattle.draw_outlines.specs.Calls.{matrices_in};
 
 use draw_arcs::{Frame, Placings, Stance};
 use geometry::vector::Vector;
-use paths::Counts;
 use refusals::Refusal;
-use scene::entry::Simple;
 use solids::solid::Solid;
 use view::{RenderArgs, View};
 
@@ -52,7 +50,7 @@ fn second_tangent(r: f64, c: f64, q: f64, e: f64, eye: Vector, z: f64) -> Vector
 
 // The upright lines of a cylinder, from z0.
 fn uprights(
-    c: Counts,
+    c: Result<(usize, usize), Refusal>,
     r: f64,
     e: f64,
     eye: Vector,
@@ -60,7 +58,7 @@ fn uprights(
     z1: f64,
     out: &mut [f64],
     begins: &mut [usize],
-) -> Counts
+) -> Result<(usize, usize), Refusal>
     requires { Fit c out.old begins.old }
     ensures { Adds (Outlines.uprights r e eye z0 z1) c out.old begins.old out.new begins.new result }
 {
@@ -83,14 +81,14 @@ fn uprights(
 
 // The outline of a cylinder: both rings, and the upright lines if the eye stands outside.
 fn cylinder_outline(
-    c: Counts,
+    c: Result<(usize, usize), Refusal>,
     t: Stance,
     r: f64,
     z0: f64,
     z1: f64,
     out: &mut [f64],
     begins: &mut [usize],
-) -> Counts
+) -> Result<(usize, usize), Refusal>
     requires { Fit c out.old begins.old }
     ensures { Adds (Outlines.cylinder_outline (placement_of t) r z0 z1) c out.old begins.old out.new begins.new result }
 {
@@ -113,7 +111,7 @@ fn cone_side(r: f64, h: f64, eye: Vector) -> f64
 
 // The lines of a cone from the tangent points to its apex.
 fn slopes(
-    c: Counts,
+    c: Result<(usize, usize), Refusal>,
     r: f64,
     k: f64,
     e: f64,
@@ -121,7 +119,7 @@ fn slopes(
     h: f64,
     out: &mut [f64],
     begins: &mut [usize],
-) -> Counts
+) -> Result<(usize, usize), Refusal>
     requires { Fit c out.old begins.old }
     ensures { Adds (Outlines.slopes r k e eye h) c out.old begins.old out.new begins.new result }
 {
@@ -133,13 +131,13 @@ fn slopes(
 
 // The outline of a cone: the base ring, and the lines to the apex if the eye stands outside.
 fn cone_outline(
-    c: Counts,
+    c: Result<(usize, usize), Refusal>,
     t: Stance,
     r: f64,
     h: f64,
     out: &mut [f64],
     begins: &mut [usize],
-) -> Counts
+) -> Result<(usize, usize), Refusal>
     requires { Fit c out.old begins.old }
     ensures { Adds (Outlines.cone_outline (placement_of t) r h) c out.old begins.old out.new begins.new result }
 {
@@ -189,13 +187,13 @@ fn facing(eye: Vector, w: Vector, reach: f64) -> Frame
 
 // The outline of a sphere: a ring if the eye stands outside.
 fn sphere_outline(
-    c: Counts,
+    c: Result<(usize, usize), Refusal>,
     t: Stance,
     center: Vector,
     r: f64,
     out: &mut [f64],
     begins: &mut [usize],
-) -> Counts
+) -> Result<(usize, usize), Refusal>
     requires { Fit c out.old begins.old }
     ensures { Adds (Outlines.sphere_outline (placement_of t) center r) c out.old begins.old out.new begins.new result }
 {
@@ -211,7 +209,13 @@ fn sphere_outline(
 }
 
 // The outline of a solid, after the paths that there are.
-pub fn outline(c: Counts, s: Solid, t: Stance, out: &mut [f64], begins: &mut [usize]) -> Counts
+pub fn outline(
+    c: Result<(usize, usize), Refusal>,
+    s: Solid,
+    t: Stance,
+    out: &mut [f64],
+    begins: &mut [usize],
+) -> Result<(usize, usize), Refusal>
     requires { Fit c out.old begins.old }
     ensures { Adds (Outlines.outline_of (placement_of t) s) c out.old begins.old out.new begins.new result }
 {
@@ -238,9 +242,7 @@ fn placings_from(xs: &[f64], n: usize) -> Placings
     ensures { placings_of result ≡ matrices_in n xs.now }
 {
     let mut p = Placings::none();
-    let mut k = n;
-    while k > 0 {
-        k -= 1;
+    for k in (0..n).rev() {
         p = p.with(scene::entry::matrix_of(rows::read_numbers(xs, k)));
     }
     p
@@ -266,31 +268,31 @@ fn stance_at(a: RenderArgs, eye: Vector, placings: Placings) -> Stance
 // The outline of one solid, in `out` and `begins`, and then zeros: by the eye in its own coordinates and its
 // placings, innermost first, 16 numbers each by rows; or why it is refused, and zeros throughout.
 pub fn outline_alone(
-    solid: Simple,
+    solid: Option<Solid>,
     eye: Vector,
     placings: &[f64],
     view: View,
     out: &mut [f64],
     begins: &mut [usize],
-) -> Counts
+) -> Result<(usize, usize), Refusal>
     ensures { Finished (Calls.outline_call solid eye placings.now view (places out.old) (length begins.old)) (length out.old) (length begins.old) out.new begins.new result }
 {
     if placings.len() % 16 != 0 {
-        return paths::finish(out, begins, Counts::Refused(Refusal::Lengths));
+        return paths::finish(out, begins, Err(Refusal::Lengths));
     }
     match solid {
-        Simple::Is(s) => {
+        Some(s) => {
             let n = placings.len() / 16;
             if n > 7 {
-                return paths::finish(out, begins, Counts::Refused(Refusal::Parts));
+                return paths::finish(out, begins, Err(Refusal::Parts));
             }
             if !view.is_ok() {
-                return paths::finish(out, begins, Counts::Refused(Refusal::View));
+                return paths::finish(out, begins, Err(Refusal::View));
             }
             let t = stance_at(view.args(), eye, placings_from(placings, n));
-            let r = outline(Counts::Both(0, 0), s, t, out, begins);
+            let r = outline(Ok((0, 0)), s, t, out, begins);
             paths::finish(out, begins, r)
         }
-        Simple::Other => paths::finish(out, begins, Counts::Refused(Refusal::Values)),
+        None => paths::finish(out, begins, Err(Refusal::Values)),
     }
 }

@@ -7,8 +7,6 @@ ghost use Rattle.floats.specs.Arith.{zero_f};
 ghost use Rattle.paths.specs.Ends.{Zeroed};
 ghost use Rattle.draw_preview.specs.Previews.{preview_in};
 
-use check_scene::Verdict;
-use paths::Counts;
 use refusals::Refusal;
 use view::View;
 
@@ -30,13 +28,13 @@ fn previewing(
     node_boxes: &mut [f64],
     node_marks: &mut [u32],
     order: &mut [u32],
-) -> Counts
+) -> Result<(usize, usize), Refusal>
     ensures { result ≡ preview_in threshold numbers.now marks.now points.now starts.now owners.now view out begins work.old work_starts.old chopped.old chopped_starts.old node_boxes.old node_marks.old order.old }
 {
     let mut inverses = [0.0; 16384];
     let mut boxes = [0.0; 6144];
     let mut drawn = [0u32; 1024];
-    let v = check_scene::check(
+    let n = check_scene::check(
         numbers,
         marks,
         points,
@@ -45,40 +43,35 @@ fn previewing(
         &mut inverses,
         &mut boxes,
         &mut drawn,
-    );
-    match v {
-        Verdict::Refused(k) => Counts::Refused(k),
-        Verdict::Accepted(n) => {
-            if !view.is_ok() {
-                return Counts::Refused(Refusal::View);
-            }
-            if !path_rdp::threshold_ok(threshold) {
-                return Counts::Refused(Refusal::View);
-            }
-            draw_counts::render_counts(
-                threshold,
-                view,
-                numbers,
-                &inverses,
-                marks,
-                points,
-                starts,
-                owners,
-                &boxes,
-                &drawn,
-                n,
-                out,
-                begins,
-                work,
-                work_starts,
-                chopped,
-                chopped_starts,
-                node_boxes,
-                node_marks,
-                order,
-            )
-        }
+    )?;
+    if !view.is_ok() {
+        return Err(Refusal::View);
     }
+    if !path_rdp::threshold_ok(threshold) {
+        return Err(Refusal::View);
+    }
+    draw_counts::render_counts(
+        threshold,
+        view,
+        numbers,
+        &inverses,
+        marks,
+        points,
+        starts,
+        owners,
+        &boxes,
+        &drawn,
+        n,
+        out,
+        begins,
+        work,
+        work_starts,
+        chopped,
+        chopped_starts,
+        node_boxes,
+        node_marks,
+        order,
+    )
 }
 
 // What `draw::draw_with` would answer for result slices of `out` numbers and `begins` starts. The work
@@ -100,7 +93,7 @@ pub fn preview(
     node_boxes: &mut [f64],
     node_marks: &mut [u32],
     order: &mut [u32],
-) -> Counts
+) -> Result<(usize, usize), Refusal>
     ensures value { result ≡ preview_in threshold numbers.now marks.now points.now starts.now owners.now view out begins work.old work_starts.old chopped.old chopped_starts.old node_boxes.old node_marks.old order.old }
     ensures zeroed { Zeroed zero_f work.old work.new }
     ensures zeroed_2 { Zeroed 0 work_starts.old work_starts.new }

@@ -14,8 +14,6 @@ ghost use Rattle.draw_collect.specs.Slices.{lined_at};
 ghost use Rattle.draw_render.specs.Render as Render;
 ghost use Rattle.draw_render.specs.Slices.{places_in, Listed};
 
-use paths::Counts;
-use query_scene::Built;
 use refusals::Refusal;
 use view::View;
 
@@ -26,12 +24,12 @@ fn simplify_lines(
     starts: &[usize],
     out: &mut [f64],
     begins: &mut [usize],
-) -> Counts
+) -> Result<(usize, usize), Refusal>
     requires { lt threshold zero_f ≡ false }
     ensures { EndsBoth (Render.simplified_lines threshold (places out.old) (length begins.old) (paths_with (all_points path.now) starts.now)) out.new begins.new result }
 {
     if !paths::points_ok(path) {
-        return Counts::Refused(Refusal::Point);
+        return Err(Refusal::Point);
     }
     path_simplify::simplify_paths(path, starts, threshold, out, begins)
 }
@@ -53,22 +51,17 @@ pub fn visible_lines(
     node_boxes: &mut [f64],
     node_marks: &mut [u32],
     order: &mut [u32],
-) -> Counts
+) -> Result<(usize, usize), Refusal>
     requires { Listed boxes.now listed.now count }
     ensures { EndsBoth (Render.seen_lines view (places_of node_boxes.old node_marks.old) (length order.old) (decode 8 numbers.now inverses.now marks.now) (box_at boxes.now) (take count listed.now) (places out.old) (length begins.old) (paths_with (all_points path.now) starts.now)) out.new begins.new result }
 {
-    let b = query_scene::plant(boxes, listed, count, node_boxes, node_marks, order);
-    match b {
-        Built::Refused(k) => Counts::Refused(k),
-        Built::Nodes(_) => {
-            let matrix = view.matrix;
-            let eye = view.eye;
-            draw_clip::filter_paths(
-                matrix, eye, numbers, inverses, marks, node_boxes, node_marks, order, path, starts,
-                out, begins,
-            )
-        }
-    }
+    query_scene::plant(boxes, listed, count, node_boxes, node_marks, order)?;
+    let matrix = view.matrix;
+    let eye = view.eye;
+    draw_clip::filter_paths(
+        matrix, eye, numbers, inverses, marks, node_boxes, node_marks, order, path, starts, out,
+        begins,
+    )
 }
 
 pub fn stepping(view: View) -> bool
@@ -99,7 +92,7 @@ fn stages(
     order: &mut [u32],
     out: &mut [f64],
     begins: &mut [usize],
-) -> Counts
+) -> Result<(usize, usize), Refusal>
     requires { (lt threshold zero_f ≡ false) × Listed boxes.now listed.now count × (n * 3 ≤ length work.old) × (m ≤ length work_starts.old) }
     ensures { EndsBoth (Render.staged threshold view (places_in (length work.old) (length work_starts.old) chopped.old chopped_starts.old node_boxes.old node_marks.old order.old out.old begins.old) (decode 8 numbers.now inverses.now marks.now) (box_at boxes.now) (take count listed.now) (held n work.old m work_starts.old)) out.new begins.new result }
 {
@@ -122,42 +115,32 @@ fn stages(
             order,
         );
     }
-    let c = draw_collect::chop_lines(
+    let (p, q) = draw_collect::chop_lines(
         view.args(),
         &work[..end],
         &work_starts[..m],
         chopped,
         chopped_starts,
-    );
-    match c {
-        Counts::Refused(k) => Counts::Refused(k),
-        Counts::Both(p, q) => {
-            let last = p * 3;
-            let d = visible_lines(
-                view,
-                numbers,
-                inverses,
-                marks,
-                boxes,
-                listed,
-                count,
-                &chopped[..last],
-                &chopped_starts[..q],
-                work,
-                work_starts,
-                node_boxes,
-                node_marks,
-                order,
-            );
-            match d {
-                Counts::Refused(k) => Counts::Refused(k),
-                Counts::Both(x, y) => {
-                    let z = x * 3;
-                    simplify_lines(threshold, &work[..z], &work_starts[..y], out, begins)
-                }
-            }
-        }
-    }
+    )?;
+    let last = p * 3;
+    let (x, y) = visible_lines(
+        view,
+        numbers,
+        inverses,
+        marks,
+        boxes,
+        listed,
+        count,
+        &chopped[..last],
+        &chopped_starts[..q],
+        work,
+        work_starts,
+        node_boxes,
+        node_marks,
+        order,
+    )?;
+    let z = x * 3;
+    simplify_lines(threshold, &work[..z], &work_starts[..y], out, begins)
 }
 
 // The drawing of the lines of some listed solids, `some` from place `first` on, in `out` and `begins`; the first
@@ -185,13 +168,13 @@ pub fn render_part(
     node_boxes: &mut [f64],
     node_marks: &mut [u32],
     order: &mut [u32],
-) -> Counts
+) -> Result<(usize, usize), Refusal>
     requires { (lt threshold zero_f ≡ false) × Listed boxes.now listed.now count × (first + some ≤ count) }
     ensures { EndsBoth (Render.rendered_part threshold view (places_in (length work.old / 24 * 3) (length work_starts.old / 8) chopped.old chopped_starts.old node_boxes.old node_marks.old order.old out.old begins.old) (lined_at 8 numbers.now inverses.now marks.now points.now starts.now owners.now) (box_at boxes.now) (take count listed.now) (take some (drop first listed.now))) out.new begins.new result }
 {
     let wide = work.len() / 24 * 3;
     let many = work_starts.len() / 8;
-    let c = draw_collect::all_paths(
+    let (n, m) = draw_collect::all_paths(
         numbers,
         inverses,
         marks,
@@ -207,40 +190,30 @@ pub fn render_part(
         work_starts,
         chopped,
         chopped_starts,
-    );
-    match c {
-        Counts::Refused(k) => Counts::Refused(k),
-        Counts::Both(n, m) => {
-            let r = stages(
-                threshold,
-                view,
-                numbers,
-                inverses,
-                marks,
-                boxes,
-                listed,
-                count,
-                &mut work[..wide],
-                &mut work_starts[..many],
-                n,
-                m,
-                chopped,
-                chopped_starts,
-                node_boxes,
-                node_marks,
-                order,
-                out,
-                begins,
-            );
-            match r {
-                Counts::Refused(k) => Counts::Refused(k),
-                Counts::Both(p, q) => {
-                    path_transform::transform(view::viewport(view.width, view.height), out, p);
-                    Counts::Both(p, q)
-                }
-            }
-        }
-    }
+    )?;
+    let (p, q) = stages(
+        threshold,
+        view,
+        numbers,
+        inverses,
+        marks,
+        boxes,
+        listed,
+        count,
+        &mut work[..wide],
+        &mut work_starts[..many],
+        n,
+        m,
+        chopped,
+        chopped_starts,
+        node_boxes,
+        node_marks,
+        order,
+        out,
+        begins,
+    )?;
+    path_transform::transform(view::viewport(view.width, view.height), out, p);
+    Ok((p, q))
 }
 
 // The drawing of the first `count` listed solids, in `out` and `begins`. `work` and `work_starts` have
@@ -266,7 +239,7 @@ pub fn render(
     node_boxes: &mut [f64],
     node_marks: &mut [u32],
     order: &mut [u32],
-) -> Counts
+) -> Result<(usize, usize), Refusal>
     requires { (lt threshold zero_f ≡ false) × Listed boxes.now listed.now count }
     ensures { EndsBoth (Render.rendered threshold view (places_in (length work.old / 24 * 3) (length work_starts.old / 8) chopped.old chopped_starts.old node_boxes.old node_marks.old order.old out.old begins.old) (lined_at 8 numbers.now inverses.now marks.now points.now starts.now owners.now) (box_at boxes.now) (take count listed.now)) out.new begins.new result }
 {

@@ -1,15 +1,14 @@
 -- The whole budget of a ring point's middle, on whole numbers alone, and what it comes to: 17 parts in 2 ^ 53 of the 32 that are allowed. Assumes nothing.
-use mathlib.Core.Path.{◌≡◌, refl, sym, ap, ◌∙◌, subst}
+use mathlib.Core.Path.{◌≡◌, refl, ap, ◌∙◌}
 use mathlib.Core.Logic.{inl, inr}
-use Prim.Native.Nat.{ℕ, zero, suc, ◌+◌, ◌*◌, ◌^◌, ◌≤◌, ◌<◌}
-use native.Mathlib.Nat.{le_trans, mul-le-mul, mul-le-mul_left, mul-le-mul_right, le_of_mul-le-mul_right, mul-pos, mul-mul-mul_comm}
+use Prim.Native.Nat.{ℕ, suc, ◌+◌, ◌*◌, ◌^◌, ◌≤◌, ◌<◌}
+use native.Mathlib.Nat.{mul-le-mul, mul-pos, mul-mul-mul_comm}
 use native.Mathlib.Omega.{arith}
 use lib.Dec.{T as Holds}
 use lib.Ieee.{Float}
 use lib.Ieee.Scale.{finite}
-use lib.Ieee.Positive.{num, den, den_pos}
+use lib.Ieee.Positive.{num, den}
 use Rattle.floats.proofs.Order.{le-or-lt}
-use Rattle.sqrt.specs.Nearest.{square}
 use Rattle.draw_rings.specs.Ring.{distance_num, radius_num, OnRing}
 use Rattle.draw_rings.proofs.Relative.{Near, near-is, near_add, near-scale, near-cancel, near-sym, near-trans, near_mul, near_le}
 

@@ -3,23 +3,22 @@
 use mathlib.Core.Path.{◌≡◌, refl, sym, ap, ◌∙◌, subst}
 use mathlib.Core.Logic.{◌⊎◌, inl, inr}
 use mathlib.Core.Bool.{Bool, true, false, not, true≢false}
-use Prim.Native.Nat.{ℕ, zero, suc, ◌+◌, ◌-◌, ◌*◌, ◌/◌, ◌%◌, ◌^◌, ◌≤◌, ◌<◌, compare, Ordering}
-use native.Mathlib.Nat.{le_trans, le_of_eq, le_of_suc-le-suc, lt_of_lt_of_le, mul-le-mul, mul-le-mul_left, mul-le-mul_right, le_of_mul-le-mul_right, mul_comm, mul_assoc, mul-pos, zero-mul, mod-lt, div-add-mod', div-div-eq-div-mul, le-div_iff_mul-le, pow-suc, eq_of_mul-eq-mul_right}
+use Prim.Native.Nat.{ℕ, zero, suc, ◌+◌, ◌*◌, ◌/◌, ◌%◌, ◌^◌, ◌≤◌, ◌<◌, compare, Ordering}
+use native.Mathlib.Nat.{le_trans, mul-le-mul_right, le_of_mul-le-mul_right, mul-pos, zero-mul, mod-lt, div-add-mod', div-div-eq-div-mul, le-div_iff_mul-le, pow-suc, eq_of_mul-eq-mul_right}
 use native.Mathlib.Omega.{arith}
 use lib.Dec.{T, is_le, compare_is_eq, leb, leb→le, nleb→lt, eqb→eq}
 use lib.Pow.{pow-add, pow_pos, pow_mono}
-use lib.Ieee.{Float, nan, inf, fin, binary64, up, down, size, nearest, round, neg, sum, add, mul, div}
+use lib.Ieee.{Float, nan, inf, fin, binary64, up, size, nearest, round, neg}
 use lib.Ieee.Digits.{size_reaches}
-use lib.Ieee.Fits.{up_pos, down_pos, round_is}
+use lib.Ieee.Fits.{round_is}
 use lib.Ieee.Exact.{HasValue, units_val}
 use lib.Ieee.Nearest.{closest, nearest-ge}
 use lib.Ieee.Order.{drop, kept}
 use lib.Ieee.Scale.{finite, grid, overflow, round_under, normal_of_fraction}
-use lib.Ieee.Positive.{num, den, den_pos, positive}
-use Rattle.floats.specs.Arith.{◌⊕◌, ◌⊗◌, ◌⊘◌}
-use Rattle.floats.proofs.Order.{pp, nn, pp-mul, nn-mul, plus, less}
-use Rattle.floats.proofs.Rounding.{Off, Rounded, round-neg, zero-pp, zero-nn, sum-rounded, div-rounded, square-is, num_pos}
-use Rattle.draw_rings.proofs.Relative.{Near, near-sym, near-is, near-scale, near-cancel, near-zero, near_le}
+use lib.Ieee.Positive.{num, den}
+use Rattle.floats.proofs.Order.{plus, less}
+use Rattle.floats.proofs.Rounding.{Off, Rounded, round-neg, zero-pp, zero-nn}
+use Rattle.draw_rings.proofs.Relative.{Near, near-sym, near-is, near-zero, near_le}
 
 -- ---- to the nearest whole number: within half a unit
 abbrev pub Half : ℕ → ℕ → ℕ → Type 0

@@ -1,18 +1,16 @@
 -- A sum of two ends, normalised and times the radius, lies on the ring. Assumes nothing.
 use mathlib.Core.Path.{◌≡◌, refl, sym, ap, ◌∙◌, subst}
-use mathlib.Core.Logic.{◌⊎◌, inl, inr}
-use mathlib.Core.Bool.{Bool, true, false, not}
+use mathlib.Core.Logic.{inl, inr}
+use mathlib.Core.Bool.{Bool, true, false}
 use Prim.Native.Nat.{ℕ, zero, suc, ◌+◌, ◌*◌, ◌^◌, ◌≤◌, ◌<◌}
-use native.Mathlib.Nat.{le_trans, lt_of_lt_of_le, lt_irrefl, eq-zero-or-pos, mul-le-mul, mul-le-mul_left, mul-le-mul_right, le_of_mul-le-mul_right, mul-pos, zero-mul, mul-mul-mul_comm, pow-suc, eq_of_mul-eq-mul_right}
+use native.Mathlib.Nat.{eq-zero-or-pos, mul-le-mul_right, le_of_mul-le-mul_right, mul-pos, zero-mul, pow-suc, eq_of_mul-eq-mul_right}
 use native.Mathlib.Omega.{arith}
-use lib.Dec.{T, leb, leb→le, le→leb, lt→ltb}
+use lib.Dec.{T, leb, le→leb, lt→ltb}
 use lib.Pow.{pow-add, pow_pos}
-use lib.Ieee.{Float, nan, inf, fin, up, le}
-use lib.Ieee.Fits.{up_pos}
+use lib.Ieee.{Float, nan, inf, fin, up}
 use lib.Ieee.Scale.{finite}
 use lib.Ieee.Positive.{num, den, den_pos, positive, positive-finite, first_pos}
-use Rattle.floats.specs.Arith.{◌⊕◌, ◌⊗◌, ◌⊘◌, zero_f}
-use Rattle.floats.proofs.Order.{plus, less}
+use Rattle.floats.specs.Arith.{◌⊕◌, ◌⊗◌, ◌⊘◌}
 use Rattle.floats.proofs.Rounding.{num_pos}
 use Rattle.floats.proofs.Nonneg.{positive-nonneg}
 use Rattle.floats.proofs.Bounds.{Small, small-finite, small-num, small-wider, small-add, small_mul, small-div, of_num}
@@ -20,7 +18,7 @@ use Rattle.sqrt.specs.Root.{sqrt_of}
 use Rattle.sqrt.proofs.Monotone.{small-sqrt, sqrt-positive}
 use Rattle.draw_rings.specs.Ring.{OnRing}
 use Rattle.draw_rings.proofs.Relative.{Near, near-is, near-sym, near-zero, near_le}
-use Rattle.draw_rings.proofs.Errors.{Counts, counts_zero, Side, zero-side, BigF, Big, big-wider, Result, result-big}
+use Rattle.draw_rings.proofs.Errors.{Counts, counts_zero, Side, Big, Result, result-big}
 use Rattle.draw_rings.proofs.Operations.{big-add, big-mul, big-div, sum-result, square-result, product-result, quotient-result, sum-units, product-units, quotient-units, times-units, Rooted, root-result}
 use Rattle.draw_rings.proofs.Circle.{square_le, circle-near, on-ring}
 

@@ -1,25 +1,25 @@
 -- Sum, square, product, quotient and root: each gives a value that counts units, near the exact result, on a known side, 0 or at least 2 ^ -k. Assumes nothing.
-use mathlib.Core.Path.{◌≡◌, refl, sym, ap, ◌∙◌, subst}
-use mathlib.Core.Logic.{◌⊎◌, inl, inr}
-use mathlib.Core.Bool.{Bool, true, false, not}
-use Prim.Native.Nat.{ℕ, zero, suc, ◌+◌, ◌-◌, ◌*◌, ◌/◌, ◌^◌, ◌≤◌, ◌<◌}
-use native.Mathlib.Nat.{le_trans, le_of_eq, le_of_lt, lt_of_lt_of_le, mul-le-mul, mul-le-mul_left, mul-le-mul_right, le_of_mul-le-mul_right, mul_comm, mul_assoc, mul_right_comm, mul-pos, zero-mul, mul-div_cancel, div-mul-le_self, lt-div-mul-add, eq_of_mul-eq-mul_right}
+use mathlib.Core.Path.{◌≡◌, refl, ap, ◌∙◌, subst}
+use mathlib.Core.Logic.{inl, inr}
+use mathlib.Core.Bool.{Bool, true, false}
+use Prim.Native.Nat.{ℕ, ◌+◌, ◌*◌, ◌/◌, ◌^◌, ◌≤◌, ◌<◌}
+use native.Mathlib.Nat.{le_of_lt, lt_of_lt_of_le, mul-le-mul, mul-le-mul_right, mul-pos, mul-div_cancel, div-mul-le_self, lt-div-mul-add}
 use native.Mathlib.Omega.{arith}
-use lib.Dec.{T, leb, leb→le, le→leb}
+use lib.Dec.{T, leb, leb→le}
 use lib.Pow.{pow-add, pow_pos}
-use lib.Ieee.{Float, nan, inf, fin, binary64, up, down, round, sum, add, mul, le}
+use lib.Ieee.{Float, nan, inf, fin, up, down, add, mul}
 use lib.Ieee.Scale.{finite}
 use lib.Ieee.Positive.{num, den, den_pos, positive, positive-finite}
-use Rattle.floats.specs.Arith.{◌⊕◌, ◌⊗◌, ◌⊘◌, zero_f}
-use Rattle.floats.proofs.Order.{pp, nn, pp-mul, nn-mul, plus, less}
+use Rattle.floats.specs.Arith.{◌⊕◌, ◌⊗◌, ◌⊘◌}
+use Rattle.floats.proofs.Order.{pp-mul, nn-mul, plus, less}
 use Rattle.floats.proofs.Rounding.{Rounded, sum-rounded, div-rounded, square-is, num_pos}
 use Rattle.floats.proofs.Nonneg.{positive-nonneg}
 use Rattle.sqrt.specs.Root.{nearest_root, dropped, scaled, sqrt_of}
 use Rattle.sqrt.proofs.Roots.{nearest-near}
 use Rattle.sqrt.proofs.Values.{four, four-pos}
 use Rattle.sqrt.proofs.Monotone.{root_units, units_of, rooted, scaled-lt, scaled-full, root-full, least-dropped}
-use Rattle.draw_rings.proofs.Relative.{Near, near-is, near-scale, near-cancel, near-sym, near_le}
-use Rattle.draw_rings.proofs.Errors.{Counts, Sided, Side, BigF, Big, Result, rounded-result, result-big}
+use Rattle.draw_rings.proofs.Relative.{Near, near-is, near-scale, near-cancel}
+use Rattle.draw_rings.proofs.Errors.{Counts, Sided, Side, BigF, Big, Result, rounded-result}
 
 pub whole : (x : Float) → plus x + less x ≡ num x
 whole nan = refl

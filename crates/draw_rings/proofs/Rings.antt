@@ -1,18 +1,16 @@
 -- Each point of a ring lies on it: the corners exactly, each middle by the theorem of one middle. Assumes nothing.
-use mathlib.Core.Path.{◌≡◌, refl, sym, ap, ◌∙◌, subst}
-use mathlib.Core.Logic.{◌⊎◌, inl, inr}
-use mathlib.Core.Bool.{Bool, true, false, not, cond}
+use mathlib.Core.Path.{◌≡◌, sym, ap, ◌∙◌, subst}
+use mathlib.Core.Logic.{inl, inr}
+use mathlib.Core.Bool.{Bool, true, false}
 use mathlib.Core.List.Memᴰ
-use mathlib.Core.List.{List, [], ◌∷◌, ◌++◌, Memᴰ}
+use mathlib.Core.List.{List, [], ◌∷◌, Memᴰ}
 use Prim.Native.Nat.{ℕ, zero, suc, ◌+◌, ◌*◌, ◌^◌, ◌≤◌, ◌<◌}
-use native.Mathlib.Nat.{le_trans, eq-zero-or-pos, mul-pos, zero-mul, mul-le-mul_right}
+use native.Mathlib.Nat.{eq-zero-or-pos, mul-pos, zero-mul}
 use native.Mathlib.Omega.{arith}
-use lib.Dec.{T, leb, leb→le, le→leb, ltb→lt, not_T}
-use lib.Pow.{pow_pos}
-use lib.Ieee.{Float, nan, inf, fin, up, down, neg, eq, of_bits}
+use lib.Dec.{T, leb, le→leb, not_T}
+use lib.Ieee.{Float, fin, up, down, neg, eq, of_bits}
 use lib.IntN.{ℤ, pos}
 use lib.Ieee.Bits.{is_false}
-use lib.Ieee.Fits.{up_pos, down_pos}
 use lib.Ieee.Scale.{finite}
 use lib.Ieee.Positive.{num, den, den_pos, positive, positive-finite}
 use Rattle.floats.specs.Arith.{◌⊕◌, ◌⊗◌, ◌⊘◌, zero_f}
@@ -20,16 +18,14 @@ use Rattle.floats.proofs.Order.{le_refl, eq→le}
 use Rattle.floats.proofs.Rounding.{num_pos}
 use Rattle.floats.proofs.Nonneg.{le→sizes, positive-nonneg}
 use Rattle.floats.proofs.Bounds.{Small, small-finite, small-wider, small-add, of_num}
-use Rattle.sqrt.specs.Root.{sqrt_of}
 use Rattle.geometry.specs.Vectors.{vec, add_v, mul_scalar, div_scalar, dot, length_squared, length_of, normalize_of}
 use Rattle.geometry.specs.declared.vector.Vector.{Vector}
-use Rattle.geometry.specs.declared.vector.Normalized.{Normalized}
-use Rattle.geometry.specs.declared.vector.Normalized.TheVariants.{Unit as One, Zero}
 use Rattle.draw_rings.specs.Ring.{OnRing}
 use Rattle.draw_rings.specs.Pieces.{times_radius, ring_middle, halved_at, pieces, east, north, west, south, ring_pairs, AllOn}
-use Rattle.draw_rings.proofs.Errors.{Counts, counts_zero, Side, zero-side, BigF, Big, big-wider, Result, result-big}
-use Rattle.draw_rings.proofs.Operations.{big-add, sum-result, quotient-result, product-result}
+use Rattle.draw_rings.proofs.Errors.{Counts, counts_zero, Side, zero-side, Big, big-wider, Result, result-big}
+use Rattle.draw_rings.proofs.Operations.{big-add, sum-result}
 use Rattle.draw_rings.proofs.Middle.{Radius, Arm, result-zero, result-some, middle-on, u-small, w-small, middle-some, L, over, times, times-big, l-positive, u-is, w-is}
+use Rattle.std.specs.Prelude.{Option, Some}
 
 -- an end: a point of the ring in the quarter s, t, each of whose coordinates is 0 or at least 2 ^ -k
 pub record End (r : Float) (s t : Bool) (k : ℕ) (p : Vector) : Type 0 where
@@ -133,7 +129,7 @@ module _ (r : Float) (R : Radius r) (s t : Bool) (k : ℕ) (K : k ≤ 300) (p q 
   a = arm r s t k K p q e f
 
   -- the sum's length is never 0: a piece of a quarter is always halved
-  pub middle-is : ring_middle r p q ≡ One middle
+  pub middle-is : ring_middle r p q ≡ Some middle
   unfolding ring_middle normalize_of times_radius length_of length_squared dot add_v
   middle-is = rw (positive-not-zero (length_of (add_v p q)) (l-positive r (p.x ⊕ q.x) (p.y ⊕ q.y) (p.z ⊕ q.z) s t (suc k) K1 R a))
 
@@ -203,7 +199,7 @@ module _ (stop : Vector → Vector → Bool) (r : Float) (R : Radius r) (s t : B
   just : (q v : Vector) → OnRing r q.x q.y → Memᴰ v (q ∷ []) → OnRing r v.x v.y
   just q v h m = subst (λ (w : Vector). OnRing r w.x w.y) (sym (Memᴰ.eq_of_singleton m)) h
 
-  halved : (again : Vector → Vector → List Vector) (p q m : Vector) (b : Bool) → OnRing r q.x q.y → AllOn r (again p m) → AllOn r (again m q) → AllOn r (halved_at again p q b (One m))
+  halved : (again : Vector → Vector → List Vector) (p q m : Vector) (b : Bool) → OnRing r q.x q.y → AllOn r (again p m) → AllOn r (again m q) → AllOn r (halved_at again p q b (Some m))
   unfolding halved_at
   halved again p q m true h i j v k = just q v h k
   halved again p q m false h i j v k = elim (Memᴰ.append_cases (again p m) k) [ inl g ↦ i v g | inr g ↦ j v g ]
@@ -217,7 +213,7 @@ module _ (stop : Vector → Vector → Bool) (r : Float) (R : Radius r) (s t : B
       let g = middle-end r R s t k K p q e f in
       let l' : suc k + 39 + 40 * n ≤ 340 = omega arith in
       let w : T (leb k (suc k + 39)) = le→leb k (suc k + 39) (omega arith) in
-      subst (λ (x : Normalized). AllOn r (halved_at (pieces stop r n) p q (stop p q) x)) (sym (middle-is r R s t k K p q e f))
+      subst (λ (x : Option Vector). AllOn r (halved_at (pieces stop r n) p q (stop p q) x)) (sym (middle-is r R s t k K p q e f))
       (halved (pieces stop r n) p q m (stop p q) f.on
       (pieces-on n (suc k + 39) l' p m (end-wider k (suc k + 39) w e) g)
       (pieces-on n (suc k + 39) l' m q g (end-wider k (suc k + 39) w f)))

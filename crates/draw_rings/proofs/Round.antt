@@ -1,18 +1,15 @@
 -- Each point of a ring lies on it. Assumes nothing.
-use mathlib.Core.Path.{◌≡◌, refl, subst}
-use mathlib.Core.Bool.{Bool, true, false}
-use Prim.Native.Nat.{ℕ, ◌+◌, ◌*◌, ◌^◌, ◌≤◌, ◌<◌}
-use native.Mathlib.Nat.{mul-le-mul_right, le_of_mul-le-mul_right}
+use mathlib.Core.Bool.{true, false}
+use Prim.Native.Nat.{ℕ, ◌*◌, ◌^◌, ◌≤◌, ◌<◌}
 use native.Mathlib.Omega.{arith}
-use lib.Dec.{T, leb, leb→le, lit<}
+use lib.Dec.{T}
 use lib.Ieee.{Float, nan, inf, fin, le, of_bits}
 use lib.Ieee.Scale.{finite}
-use lib.Ieee.Positive.{num, den, den_pos, positive}
-use Rattle.floats.specs.Arith.{bits, zero_f, thousandth}
-use Rattle.floats.proofs.Order.{le_trans, le-number-l, finite-between}
+use lib.Ieee.Positive.{num, den, den_pos}
+use Rattle.floats.specs.Arith.{zero_f, thousandth}
+use Rattle.floats.proofs.Order.{le_trans, finite-between}
 use Rattle.floats.proofs.Nonneg.{le→sizes, positive-num}
-use Rattle.floats.proofs.Bounds.{Small, of_num}
-use Rattle.geometry.specs.declared.vector.Vector.{Vector}
+use Rattle.floats.proofs.Bounds.{of_num}
 use Rattle.draw_rings.specs.Pieces.{ring_pairs, AllOn}
 use Rattle.draw_rings.specs.Promise.{widest, RingsRound}
 use Rattle.draw_rings.proofs.Middle.{Radius}

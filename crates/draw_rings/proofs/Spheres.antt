@@ -1,35 +1,34 @@
 -- A sphere's ring is at most sixteen times as wide as the sphere, whatever is rounded or lost below the normal range: each rounding at most doubles. So `rings-round` holds for it
 -- wherever its radius is finite. Assumes nothing.
-use mathlib.Core.Path.{◌≡◌, refl, sym, ap, ◌∙◌, subst}
-use mathlib.Core.Logic.{◌⊎◌, inl, inr}
-use mathlib.Core.Bool.{Bool, true, false, not, cond}
-use Prim.Native.Nat.{ℕ, zero, suc, ◌+◌, ◌*◌, ◌^◌, ◌≤◌, ◌<◌, zero-le}
-use native.Mathlib.Nat.{le_trans, le_of_eq, eq-zero-or-pos, mul-le-mul, mul-le-mul_right, le_of_mul-le-mul_right, mul-pos, zero-mul, mul-mul-mul_comm, zero-lt-suc}
+use mathlib.Core.Path.{◌≡◌, sym, ap, ◌∙◌, subst}
+use mathlib.Core.Logic.{inl, inr}
+use mathlib.Core.Bool.{Bool, true, false, cond}
+use Prim.Native.Nat.{ℕ, zero, suc, ◌+◌, ◌*◌, ◌^◌, ◌≤◌, ◌<◌}
+use native.Mathlib.Nat.{eq-zero-or-pos, mul-le-mul, mul-le-mul_right, le_of_mul-le-mul_right, mul-pos, zero-mul, mul-mul-mul_comm, zero-lt-suc}
 use native.Mathlib.Omega.{arith}
 use lib.IntN.{pos}
-use lib.Dec.{T, leb, leb→le, eqb}
+use lib.Dec.{T, eqb}
 use lib.Pow.{pow_pos}
-use lib.Ieee.{Float, nan, inf, fin, binary64, up, down, unlike, round, neg, sub, add, mul, div, lt, le, of_bits}
+use lib.Ieee.{Float, nan, inf, fin, binary64, up, down, unlike, round, sub, mul, div, lt, le, of_bits}
 use lib.Ieee.Fits.{up_pos}
 use lib.Ieee.Order.{drop, kept}
 use lib.Ieee.Scale.{finite, grid}
-use lib.Ieee.Positive.{num, den, den_pos, positive, positive-finite}
+use lib.Ieee.Positive.{num, den, den_pos, positive}
 use Rattle.floats.specs.Arith.{◌⊖◌, ◌⊗◌, ◌⊘◌, zero_f}
-use Rattle.floats.specs.Numbers.{within}
 use Rattle.floats.proofs.Order.{plus, less, finite_number, lt→le, lt→cross}
 use Rattle.floats.proofs.Order as Order
-use Rattle.floats.proofs.Rounding.{Off, Rounded, sub-rounded, div-rounded, square-is, num_pos}
+use Rattle.floats.proofs.Rounding.{Off, Rounded, sub-rounded, div-rounded, num_pos}
 use Rattle.floats.proofs.Nonneg.{unsigned, le→sizes, positive-num}
-use Rattle.floats.proofs.Bounds.{Small, of_num, small-num, small-finite, small_mul, small-le, within-small, within-finite}
+use Rattle.floats.proofs.Bounds.{of_num, small-num, small-finite, small_mul, small-le, within-small, within-finite}
 use Rattle.sqrt.specs.Root.{sqrt_of}
 use Rattle.sqrt.proofs.Monotone.{sqrt-nonneg}
 use Rattle.draw_rings.specs.Spheres.{sphere_ring}
 use Rattle.draw_rings.proofs.Relative.{near_le}
-use Rattle.draw_rings.proofs.Errors.{Half, closest-half, Counts, round-value, value-counts, value-side}
-use Rattle.draw_rings.proofs.Operations.{whole, Rooted, root-result}
+use Rattle.draw_rings.proofs.Errors.{Half, closest-half, Counts, round-value, value-counts}
+use Rattle.draw_rings.proofs.Operations.{whole, root-result}
 use Rattle.draw_rings.proofs.Circle.{square_le}
 use Rattle.draw_rings.proofs.Middle.{counts_some}
-use Rattle.draw_rings.specs.Promise.{widest, SphereRingNarrow}
+use Rattle.draw_rings.specs.Promise.{SphereRingNarrow}
 
 -- ---- a rounding at most doubles
 twice : (n u q : ℕ) → Half n u q → q * u ≤ 2 * n

@@ -1,26 +1,24 @@
 -- A ring in its own plane (document 02 (vii)): the vectors (u, v), with z 0, that its path goes through.
-use Rattle.std.specs.Prelude.{Bool, true, false, ℕ, zero, suc, Float}
+use Rattle.std.specs.Prelude.{Bool, true, false, ℕ, zero, suc, Float, None, Option, Some}
 use mathlib.Core.List.{List, [], ◌∷◌, ◌++◌, Memᴰ}
 use Rattle.std.specs.Float.Ieee.{neg}
 use Rattle.floats.specs.Arith.{zero_f}
 use Rattle.geometry.specs.Vectors.{vec, add_v, mul_scalar, normalize_of}
 use Rattle.geometry.specs.declared.vector.Vector.{Vector}
-use Rattle.geometry.specs.declared.vector.Normalized.{Normalized}
-use Rattle.geometry.specs.declared.vector.Normalized.TheVariants.{Unit, Zero}
 use Rattle.draw_rings.specs.Ring.{OnRing}
 
-unfoldable pub times_radius : Float → Normalized → Normalized
-times_radius r (Unit v) = Unit (mul_scalar v r)
-times_radius r Zero = Zero
+unfoldable pub times_radius : Float → Option Vector → Option Vector
+times_radius r (Some v) = Some (mul_scalar v r)
+times_radius r None = None
 
 -- a piece's middle: the sum of its end vectors, normalised, times the radius; none where that sum has computed length 0
-unfoldable pub ring_middle : Float → Vector → Vector → Normalized
+unfoldable pub ring_middle : Float → Vector → Vector → Option Vector
 ring_middle r p q = times_radius r (normalize_of (add_v p q))
 
-unfoldable pub halved_at : (Vector → Vector → List Vector) → Vector → Vector → Bool → Normalized → List Vector
+unfoldable pub halved_at : (Vector → Vector → List Vector) → Vector → Vector → Bool → Option Vector → List Vector
 halved_at again p q true m = q ∷ []
-halved_at again p q false Zero = q ∷ []
-halved_at again p q false (Unit m) = again p m ++ again m q
+halved_at again p q false None = q ∷ []
+halved_at again p q false (Some m) = again p m ++ again m q
 
 -- the ends of the pieces from p to q, p left out, with so many nested halvings left; `stop` is the rule that ends halving
 unfoldable pub pieces : (Vector → Vector → Bool) → Float → ℕ → Vector → Vector → List Vector

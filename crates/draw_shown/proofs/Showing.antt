@@ -2,7 +2,7 @@
 use mathlib.Core.Path.{◌≡◌, refl, sym, ap, ◌∙◌}
 use mathlib.Core.Bool.{Bool, true, false}
 use mathlib.Core.List.{List, [], ◌∷◌, ◌++◌, map, append-nil}
-use Prim.Native.Nat.{ℕ, suc, ◌+◌, ◌*◌, ◌/◌, ◌≤◌, ◌<◌}
+use Prim.Native.Nat.{ℕ, suc, ◌+◌, ◌/◌, ◌≤◌, ◌<◌}
 use lib.ListN.{length}
 use lib.Ieee.{Float}
 use Rattle.geometry.specs.declared.vector.Vector.{Vector}
@@ -11,9 +11,7 @@ use Rattle.solids.specs.declared.solid.Solid.TheVariants.{Sphere, Cylinder, Cone
 use Rattle.draw_arcs.specs.Stances.{Placement}
 use Rattle.paths.specs.Paths.{paths_of}
 use Rattle.paths.specs.Ends.{places, held, EndsBoth}
-use Rattle.paths.specs.declared.Counts.{Counts}
-use Rattle.paths.specs.declared.Counts.TheVariants.{Both}
-use Rattle.draw_lines.specs.Lines.{owned_by, own_path, own_paths}
+use Rattle.draw_lines.specs.Lines.{owned_by, own_paths}
 use Rattle.draw_lines.specs.Pushing.{add_paths, Adds}
 use Rattle.draw_solids.specs.Lines.{solid_paths}
 use Rattle.draw_solids.specs.Stripes.{degrees_from, stripe_degrees, round_striped}
@@ -23,6 +21,8 @@ use Rattle.draw_lines.proofs.Owning.{ownLeft, own_turn, own-end, own-none, own-o
 use Rattle.draw_lines.proofs.Adding.{adds_then, adds-as}
 use Rattle.draw_outlines.specs.Outlines.{outline_of}
 use Rattle.draw_shown.specs.Shown.{or_outline, shown_paths, has_paths, no_stripes, stripeless}
+use Rattle.std.specs.Prelude.{Ok, Result}
+use Rattle.refusals.specs.declared.Refusal.{Refusal}
 
 -- ---- the loop over the owners
 pub record Owning (starts owners : List ℕ) (i j : ℕ) : Type 0 where
@@ -122,9 +122,9 @@ module _ (t : Placement) where
     shown-outline (ClosedCone r k) own h g = bare-outlined (ClosedCone r k) (Slanted r k) detail own g h
 
     -- the code's three ways out
-    module _ (s : Solid) (own : List (List Vector)) (xs : List Float) (ss : List ℕ) (n m : ℕ) (ys : List Float) (us : List ℕ) {c : Counts}
+    module _ (s : Solid) (own : List (List Vector)) (xs : List Float) (ss : List ℕ) (n m : ℕ) (ys : List Float) (us : List ℕ) {c : Result (ℕ × ℕ) Refusal}
         (w : EndsBoth (add_paths (places xs) (length ss) (solid_paths s detail own) (held n xs m ss)) ys us c) {o : Bool} (e : o ≡ has_paths own) where
-      before : Adds (solid_paths s detail own) (Both n m) xs ss ys us c
+      before : Adds (solid_paths s detail own) (Ok (n, m)) xs ss ys us c
       before = record { ends = w }
 
       pub shows-own : o ≡ true → EndsBoth (add_paths (places xs) (length ss) (shown_paths t s detail own) (held n xs m ss)) ys us c
@@ -134,8 +134,8 @@ module _ (t : Placement) where
       shows-striped d g = (adds-as (solid_paths s detail own) (shown_paths t s detail own) before (shown-striped s own (sym d ∙ g))).ends
 
       pub shows-outline : o ≡ false → {b : Bool} → b ≡ stripeless s detail → b ≡ true → length ys ≡ length xs → length us ≡ length ss
-          → (zs : List Float) (vs : List ℕ) {d : Counts} → Adds (outline_of t s) c ys us zs vs d
+          → (zs : List Float) (vs : List ℕ) {d : Result (ℕ × ℕ) Refusal} → Adds (outline_of t s) c ys us zs vs d
           → EndsBoth (add_paths (places xs) (length ss) (shown_paths t s detail own) (held n xs m ss)) zs vs d
       shows-outline f d g k l zs vs h =
           (adds-as (solid_paths s detail own ++ outline_of t s) (shown_paths t s detail own)
-          (adds_then (solid_paths s detail own) (outline_of t s) (Both n m) xs ss ys us zs vs before k l h) (shown-outline s own (sym e ∙ f) (sym d ∙ g))).ends
+          (adds_then (solid_paths s detail own) (outline_of t s) (Ok (n, m)) xs ss ys us zs vs before k l h) (shown-outline s own (sym e ∙ f) (sym d ∙ g))).ends

@@ -11,19 +11,17 @@ ghost use Rattle.draw_arcs.specs.Stances.{placement_of};
 ghost use Rattle.draw_shown.specs.Shown as Shown;
 
 use draw_arcs::Stance;
-use paths::Counts;
+use refusals::Refusal;
 use solids::solid::Solid;
 
 // Whether entry i owns a handed-in path.
 fn owns_path(starts: &[usize], owners: &[u32], i: usize) -> bool
     ensures { (vs : List Vector) → result ≡ Shown.has_paths (own_paths i (paths_of vs starts.now) owners.now) }
 {
-    let mut j = 0;
-    while j < starts.len() {
+    for j in 0..starts.len() {
         if draw_lines::owned(owners, j, i) {
             return true;
         }
-        j += 1;
     }
     false
 }
@@ -88,7 +86,7 @@ pub fn shown_paths(
     begins: &mut [usize],
     n: usize,
     m: usize,
-) -> Counts
+) -> Result<(usize, usize), Refusal>
     requires { (n * 3 ≤ length out.old) × (m ≤ length begins.old) }
     ensures { EndsBoth (add_paths (places out.old) (length begins.old) (Shown.shown_paths (placement_of t) solid detail (own_paths i (paths_of (all_points points.now) starts.now) owners.now)) (held n out.old m begins.old)) out.new begins.new result }
 {

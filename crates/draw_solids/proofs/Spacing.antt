@@ -12,12 +12,11 @@ use Rattle.degrees.specs.Degrees.{cosine_of, sine_of, float_table}
 use Rattle.degrees.proofs.Reading.{cosine-read, sine-read}
 use Rattle.refusals.specs.declared.Refusal.{Refusal}
 use Rattle.paths.specs.Ends.{places, held, EndsBoth}
-use Rattle.paths.specs.declared.Counts.{Counts}
-use Rattle.paths.specs.declared.Counts.TheVariants.{Both, Refused}
 use Rattle.draw_lines.specs.Pushing.{add_paths}
 use Rattle.draw_lines.proofs.Adding.{Adding, adding-start, adding-turn, adding-refused, adding-last}
 use Rattle.draw_solids.specs.Stripes.{degrees_from, stripe_degrees, stripe_by, round_striped}
 use Rattle.draw_solids.specs.declared.Flank.{Flank}
+use Rattle.std.specs.Prelude.{Err, Ok, Result}
 
 -- as many places as are left do as well as more
 module _ (step : ℕ) (h : 1 ≤ step) where
@@ -69,14 +68,14 @@ step-one count z l = (le-div_iff_mul-le {k = count} {x = 1} {y = 360} (omega (ar
 
 -- ---- some lines, and then others
 module _ (ps qs : List (List Vector)) (xs : List Float) (ss : List ℕ) (n m : ℕ) (f : n * 3 ≤ length xs) (g : m ≤ length ss)
-    (ys : List Float) (us : List ℕ) {r : Counts} (w : EndsBoth (add_paths (places xs) (length ss) ps (held n xs m ss)) ys us r) where
+    (ys : List Float) (us : List ℕ) {r : Result (ℕ × ℕ) Refusal} (w : EndsBoth (add_paths (places xs) (length ss) ps (held n xs m ss)) ys us r) where
   start : Adding (ps ++ qs) xs ss n m (ps ++ qs) xs ss n m
   start = adding-start (ps ++ qs) xs ss n m (ps ++ qs) refl f g
 
-  pub joined-refused : {k : Refusal} → r ≡ Refused k → EndsBoth (add_paths (places xs) (length ss) (ps ++ qs) (held n xs m ss)) ys us (Refused k)
+  pub joined-refused : {k : Refusal} → r ≡ Err k → EndsBoth (add_paths (places xs) (length ss) (ps ++ qs) (held n xs m ss)) ys us (Err k)
   joined-refused q = adding-refused (ps ++ qs) xs ss n m (ps ++ qs) xs ss n m start ps qs refl ys us w q
 
-  pub joined : {a b : ℕ} → length ys ≡ length xs → length us ≡ length ss → r ≡ Both a b → (zs : List Float) (vs : List ℕ) {t : Counts}
+  pub joined : {a b : ℕ} → length ys ≡ length xs → length us ≡ length ss → r ≡ Ok (a, b) → (zs : List Float) (vs : List ℕ) {t : Result (ℕ × ℕ) Refusal}
       → EndsBoth (add_paths (places ys) (length us) qs (held a ys b us)) zs vs t → EndsBoth (add_paths (places xs) (length ss) (ps ++ qs) (held n xs m ss)) zs vs t
   joined {a} {b} kx ks q zs vs v =
       adding-last (ps ++ qs) xs ss n m qs ys us a b (adding-turn (ps ++ qs) xs ss n m (ps ++ qs) xs ss n m start ps qs refl ys us w kx ks q) qs refl zs vs v

@@ -11,7 +11,7 @@ ghost use Rattle.draw_solids.specs.Stripes.{degrees_from, stripe_by, round_strip
 ghost use Rattle.draw_solids.specs.Lines.{solid_paths};
 
 use geometry::vector::Vector;
-use paths::Counts;
+use refusals::Refusal;
 use solids::solid::Solid;
 
 // Where stripes lie: on a cylinder's wall, or on a cone's, up to its apex.
@@ -30,20 +30,20 @@ fn stripe(
     begins: &mut [usize],
     n: usize,
     m: usize,
-) -> Counts
+) -> Result<(usize, usize), Refusal>
     requires { (n * 3 ≤ length out.old) × (m ≤ length begins.old) }
     ensures { EndsBoth (add_paths (places out.old) (length begins.old) (stripe_by flank c s ∷ []) (held n out.old m begins.old)) out.new begins.new result }
 {
     match flank {
         Flank::Upright { radius, z0, z1 } => draw_lines::line(
-            Counts::Both(n, m),
+            Ok((n, m)),
             Vector::new(radius * c, radius * s, z0),
             Vector::new(radius * c, radius * s, z1),
             out,
             begins,
         ),
         Flank::Slanted { radius, height } => draw_lines::line(
-            Counts::Both(n, m),
+            Ok((n, m)),
             Vector::new(radius * c, radius * s, 0.0),
             Vector::new(0.0, 0.0, height),
             out,
@@ -61,25 +61,19 @@ fn spaced(
     begins: &mut [usize],
     n: usize,
     m: usize,
-) -> Counts
+) -> Result<(usize, usize), Refusal>
     requires { (table.now ≡ float_table) × (1 ≤ step) × (step ≤ 360) × (n * 3 ≤ length out.old) × (m ≤ length begins.old) }
     ensures { EndsBoth (add_paths (places out.old) (length begins.old) (map (λ a. stripe_by flank (cosine_of a) (sine_of a)) (degrees_from step 360 0)) (held n out.old m begins.old)) out.new begins.new result }
 {
     let mut p = n;
     let mut q = m;
     let mut a: usize = 0;
+    // no `for`: the definition goes on by `step` degrees, with no count of the turns
     while a < 360 {
-        let r = stripe(flank, table[2 * a], table[2 * a + 1], out, begins, p, q);
-        match r {
-            Counts::Refused(k) => return Counts::Refused(k),
-            Counts::Both(x, y) => {
-                p = x;
-                q = y;
-            }
-        }
+        (p, q) = stripe(flank, table[2 * a], table[2 * a + 1], out, begins, p, q)?;
         a += step;
     }
-    Counts::Both(p, q)
+    Ok((p, q))
 }
 
 // The stripes of a cylinder or a cone with this stripe count (`paths_striped` of cylinder.rs and cone.rs),
@@ -91,15 +85,15 @@ fn round_striped(
     begins: &mut [usize],
     n: usize,
     m: usize,
-) -> Counts
+) -> Result<(usize, usize), Refusal>
     requires { (n * 3 ≤ length out.old) × (m ≤ length begins.old) }
     ensures { EndsBoth (add_paths (places out.old) (length begins.old) (round_striped flank count) (held n out.old m begins.old)) out.new begins.new result }
 {
     if count == 0 {
-        return Counts::Both(n, m);
+        return Ok((n, m));
     }
     if count > 360 {
-        return Counts::Both(n, m);
+        return Ok((n, m));
     }
     let table = degrees::floats();
     spaced(flank, &table, (360 / count) as usize, out, begins, n, m)
@@ -117,17 +111,12 @@ fn round_paths(
     begins: &mut [usize],
     n: usize,
     m: usize,
-) -> Counts
+) -> Result<(usize, usize), Refusal>
     requires { (n * 3 ≤ length out.old) × (m ≤ length begins.old) }
     ensures { EndsBoth (add_paths (places out.old) (length begins.old) (round_striped flank count ++ own_paths i (paths_of (all_points points.now) starts.now) owners.now) (held n out.old m begins.old)) out.new begins.new result }
 {
-    let c = round_striped(flank, count, out, begins, n, m);
-    match c {
-        Counts::Refused(k) => Counts::Refused(k),
-        Counts::Both(p, q) => {
-            draw_lines::handed_paths(points, starts, owners, i, out, begins, p, q)
-        }
-    }
+    let (p, q) = round_striped(flank, count, out, begins, n, m)?;
+    draw_lines::handed_paths(points, starts, owners, i, out, begins, p, q)
 }
 
 // The lines of entry i, a solid of kinds 1 to 5, 8 or 9, after n points and m starts.
@@ -142,7 +131,7 @@ pub fn solid_paths(
     begins: &mut [usize],
     n: usize,
     m: usize,
-) -> Counts
+) -> Result<(usize, usize), Refusal>
     requires { (n * 3 ≤ length out.old) × (m ≤ length begins.old) }
     ensures { EndsBoth (add_paths (places out.old) (length begins.old) (solid_paths solid detail (own_paths i (paths_of (all_points points.now) starts.now) owners.now)) (held n out.old m begins.old)) out.new begins.new result }
 {

@@ -13,11 +13,8 @@ use Rattle.floats.specs.Arith.{zero_f}
 use Rattle.geometry.specs.declared.vector.Vector.{Vector}
 use Rattle.refusals.specs.declared.Refusal.{Refusal}
 use Rattle.rows.specs.Points.{points}
-use Rattle.paths.specs.Answers.{answered}
 use Rattle.paths.specs.Paths.{push_all}
 use Rattle.paths.specs.Ends.{places, all_points, Ends}
-use Rattle.paths.specs.declared.Count.{Count}
-use Rattle.paths.specs.declared.Count.TheVariants.{At, Refused}
 use Rattle.paths.proofs.Adding.{no_answer, same_answer}
 use Rattle.paths.proofs.Ending.{ends_at, ends-refused}
 use Rattle.paths.proofs.Parts.{length-points, part_length}
@@ -25,6 +22,7 @@ use Rattle.paths.proofs.Runs.{length_front, extend_fits}
 use Rattle.path_rdp.specs.Rdp.{farthest_of, halved, thinned, rdp, simplified}
 use Rattle.path_rdp.proofs.Scanning.{far-inside}
 use Rattle.path_simplify.specs.Simplify.{path_simplify}
+use Rattle.std.specs.Prelude.{Err, Ok, Result}
 
 module _ (t : Float) (low : lt t zero_f ≡ false) where
   halves-few : (again : List Vector → List Vector) (p : List Vector) (s : Bool) → 3 ≤ length p → lt t (farthest_of p).distance ≡ s → ((q : List Vector) → length (again q) ≤ length q)
@@ -55,16 +53,16 @@ module _ (t : Float) (low : lt t zero_f ≡ false) where
 
 -- what is kept of a path in a slice that is no shorter than the path's
 module _ (t : Float) (low : lt t zero_f ≡ false) (path spare : List Float) (from end : ℕ) (inside : end * 3 ≤ length path) (long : length path ≤ length spare)
-    {ys : List Float} {r : Count} (h : Ends (path_simplify t (places spare) (slice from end (all_points path)) (points 0 spare)) ys r) where
-  kept-fits : push_all (places spare) (points 0 spare) (simplified t (slice from end (all_points path))) ≡ answered (points 0 spare ++ simplified t (slice from end (all_points path)))
+    {ys : List Float} {r : Result ℕ Refusal} (h : Ends (path_simplify t (places spare) (slice from end (all_points path)) (points 0 spare)) ys r) where
+  kept-fits : push_all (places spare) (points 0 spare) (simplified t (slice from end (all_points path))) ≡ Ok (points 0 spare ++ simplified t (slice from end (all_points path)))
   kept-fits =
       extend_fits (places spare) (points 0 spare) (simplified t (slice from end (all_points path)))
       (omega (arith, length-points 0 spare, simplified-few t low (slice from end (all_points path)), part_length path from end inside))
 
-  pub kept-count : {k : ℕ} → r ≡ At k → k ≡ length (simplified t (slice from end (all_points path)))
+  pub kept-count : {k : ℕ} → r ≡ Ok k → k ≡ length (simplified t (slice from end (all_points path)))
   kept-count {k} e =
       let s : points k ys ≡ points 0 spare ++ simplified t (slice from end (all_points path)) = same_answer (sym (ends_at h e) ∙ kept-fits) in
       omega (arith, length-points k ys, ap length s, length-append (points 0 spare) (simplified t (slice from end (all_points path))), length-points 0 spare)
 
-  pub kept-all : {k : Refusal} {A : Type 0} → r ≡ Refused k → A
+  pub kept-all : {k : Refusal} {A : Type 0} → r ≡ Err k → A
   kept-all {k} e = no_answer k (sym (ends-refused h e) ∙ kept-fits)

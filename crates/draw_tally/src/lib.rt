@@ -13,17 +13,7 @@ ghost use Rattle.draw_tally.specs.Tallies.{paths_left, tallied, tallied_from, fi
 
 use geometry::vector::Vector;
 use matrix::Matrix;
-use path_filter::Test;
-use paths::{Count, Counts};
 use refusals::Refusal;
-
-// While a path is open: how many points there are, how many paths before it, and how many points there
-// were when it was opened; or why it is refused.
-#[derive(Clone, Copy)]
-pub enum Tallied {
-    So(usize, usize, usize),
-    Refused(Refusal),
-}
 
 // How many paths there are once the open one is closed: without points it vanishes.
 fn paths_left(points: usize, done: usize, from: usize) -> usize
@@ -39,30 +29,29 @@ fn paths_left(points: usize, done: usize, from: usize) -> usize
 // A point by the outcome of its test: a kept one takes a place; a dropped one closes the path and opens
 // another.
 fn tally_step(
-    t: Test,
+    t: Result<Option<Vector>, Refusal>,
     points: usize,
     done: usize,
     from: usize,
     room: usize,
     begins: usize,
-) -> Tallied
+) -> Result<(usize, usize, usize), Refusal>
     requires { (points ≤ room) × (done < begins) }
     ensures { result ≡ tallied room begins t points done from }
 {
-    match t {
-        Test::Refused(k) => Tallied::Refused(k),
-        Test::Keep(_) => {
+    match t? {
+        Some(_) => {
             if points < room {
-                return Tallied::So(points + 1, done, from);
+                return Ok((points + 1, done, from));
             }
-            Tallied::Refused(Refusal::Room)
+            Err(Refusal::Room)
         }
-        Test::Drop => {
+        None => {
             let l = paths_left(points, done, from);
             if l < begins {
-                return Tallied::So(points, l, points);
+                return Ok((points, l, points));
             }
-            Tallied::Refused(Refusal::Room)
+            Err(Refusal::Room)
         }
     }
 }
@@ -84,31 +73,21 @@ fn tally_from(
     begins: usize,
     n: usize,
     m: usize,
-) -> Tallied
+) -> Result<(usize, usize, usize), Refusal>
     requires { (from ≤ end) × (end * 3 ≤ length path.now) × (n ≤ room) × (m < begins) }
     ensures { result ≡ tallied_from (clip_filter matrix (seen_from numbers.now inverses.now marks.now node_boxes.now node_marks.now order.now eye)) room begins (slice from end (all_points path.now)) n m n }
 {
-    let mut i = from;
     let mut a = n;
     let mut b = m;
     let mut o = n;
-    while i < end {
+    for i in from..end {
         let v = rows::read_point(path, i);
         let t = draw_clip::clip_filter(
             matrix, eye, numbers, inverses, marks, node_boxes, node_marks, order, v,
         );
-        let r = tally_step(t, a, b, o, room, begins);
-        match r {
-            Tallied::Refused(k) => return Tallied::Refused(k),
-            Tallied::So(p, q, s) => {
-                a = p;
-                b = q;
-                o = s;
-            }
-        }
-        i += 1;
+        (a, b, o) = tally_step(t, a, b, o, room, begins)?;
     }
-    Tallied::So(a, b, o)
+    Ok((a, b, o))
 }
 
 // A path is opened and filtered, and the last path opened is closed.
@@ -128,24 +107,19 @@ fn tally_path(
     begins: usize,
     n: usize,
     m: usize,
-) -> Counts
+) -> Result<(usize, usize), Refusal>
     requires { (from ≤ end) × (end * 3 ≤ length path.now) × (n ≤ room) }
     ensures { result ≡ filter_tally (clip_filter matrix (seen_from numbers.now inverses.now marks.now node_boxes.now node_marks.now order.now eye)) room begins (slice from end (all_points path.now)) n m }
 {
     if begins <= m {
-        return Counts::Refused(Refusal::Room);
+        return Err(Refusal::Room);
     }
-    let r = tally_from(
+    let (a, b, o) = tally_from(
         matrix, eye, numbers, inverses, marks, node_boxes, node_marks, order, path, from, end,
         room, begins, n, m,
-    );
-    match r {
-        Tallied::Refused(k) => Counts::Refused(k),
-        Tallied::So(a, b, o) => {
-            let l = paths_left(a, b, o);
-            Counts::Both(a, l)
-        }
-    }
+    )?;
+    let l = paths_left(a, b, o);
+    Ok((a, l))
 }
 
 // Each path in turn: the counts of `draw_clip::filter_paths` with places for `room` points and `begins`
@@ -163,29 +137,20 @@ pub fn tally_filtered(
     starts: &[usize],
     room: usize,
     begins: usize,
-) -> Counts
+) -> Result<(usize, usize), Refusal>
     ensures { result ≡ counted (clip_paths matrix (seen_from numbers.now inverses.now marks.now node_boxes.now node_marks.now order.now eye) (all_points path.now) starts.now room begins) }
 {
     let total = path.len() / 3;
     let mut n = 0;
     let mut m = 0;
-    let mut i = 0;
-    while i < starts.len() {
+    for i in 0..starts.len() {
         let p = paths::range_of(starts, i, total);
-        let r = tally_path(
+        (n, m) = tally_path(
             matrix, eye, numbers, inverses, marks, node_boxes, node_marks, order, path, p.from,
             p.end, room, begins, n, m,
-        );
-        match r {
-            Counts::Refused(k) => return Counts::Refused(k),
-            Counts::Both(a, b) => {
-                n = a;
-                m = b;
-            }
-        }
-        i += 1;
+        )?;
     }
-    Counts::Both(n, m)
+    Ok((n, m))
 }
 
 // A path is opened, simplified in `spare`, which has places for all its points, and closed.
@@ -199,24 +164,19 @@ fn tally_kept(
     begins: usize,
     n: usize,
     m: usize,
-) -> Counts
+) -> Result<(usize, usize), Refusal>
     requires { (from ≤ end) × (end * 3 ≤ length path.now) × (length path.now ≤ length spare.old) × (lt threshold zero_f ≡ false) × (n ≤ room) }
     ensures { result ≡ simplify_tally threshold room begins (slice from end (all_points path.now)) n m }
 {
     if begins <= m {
-        return Counts::Refused(Refusal::Room);
+        return Err(Refusal::Room);
     }
-    let r = path_simplify::path_simplify(path, from, end, threshold, spare, 0);
-    match r {
-        Count::Refused(k) => Counts::Refused(k),
-        Count::At(k) => {
-            if room - n < k {
-                return Counts::Refused(Refusal::Room);
-            }
-            let l = paths_left(n + k, m, n);
-            Counts::Both(n + k, l)
-        }
+    let k = path_simplify::path_simplify(path, from, end, threshold, spare, 0)?;
+    if room - n < k {
+        return Err(Refusal::Room);
     }
+    let l = paths_left(n + k, m, n);
+    Ok((n + k, l))
 }
 
 // Each path in turn: the counts of `path_simplify::simplify_paths` with places for `room` points and
@@ -228,25 +188,16 @@ pub fn tally_simplified(
     spare: &mut [f64],
     room: usize,
     begins: usize,
-) -> Counts
+) -> Result<(usize, usize), Refusal>
     requires { (length path.now ≤ length spare.old) × (lt threshold zero_f ≡ false) }
     ensures { result ≡ counted (simplify_paths threshold (all_points path.now) starts.now room begins) }
 {
     let total = path.len() / 3;
     let mut n = 0;
     let mut m = 0;
-    let mut i = 0;
-    while i < starts.len() {
+    for i in 0..starts.len() {
         let p = paths::range_of(starts, i, total);
-        let r = tally_kept(path, p.from, p.end, threshold, spare, room, begins, n, m);
-        match r {
-            Counts::Refused(k) => return Counts::Refused(k),
-            Counts::Both(a, b) => {
-                n = a;
-                m = b;
-            }
-        }
-        i += 1;
+        (n, m) = tally_kept(path, p.from, p.end, threshold, spare, room, begins, n, m)?;
     }
-    Counts::Both(n, m)
+    Ok((n, m))
 }

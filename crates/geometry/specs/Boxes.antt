@@ -1,12 +1,12 @@
 -- Boxes (bounding_box.rs), and the box test by slabs: a box is where three slabs overlap, each between two parallel planes, and a ray is in the box
 -- from where it enters the last slab to where it leaves the first.
-use Rattle.std.specs.Prelude.{Bool, false, not, cond, ◌&&◌, ◌||◌, Float}
+use Rattle.std.specs.Prelude.{Bool, false, not, cond, ◌&&◌, ◌||◌, Float, None, Option, Some}
 use Rattle.std.specs.Float.Ieee.{lt, le}
 use Rattle.floats.specs.Arith.{◌⊖◌, ◌⊘◌, zero_f, half_f, one_f, bits}
 use Rattle.floats.specs.Numbers.{min_of, max_of}
 use Rattle.geometry.specs.Vectors.{vec, add_v, sub_v, mul_v, min_v, max_v}
 use Rattle.geometry.specs.declared.axis.Axis.{Axis}
-use Rattle.geometry.specs.declared.axis.Axis.TheVariants.{X, Y, Z, None}
+use Rattle.geometry.specs.declared.axis.Axis.TheVariants.{X, Y, Z}
 use Rattle.geometry.specs.declared.vector.Vector.{Vector}
 use Rattle.geometry.specs.declared.ray.Ray.{Ray}
 use Rattle.geometry.specs.declared.bounding_box.BBox.{BBox}
@@ -77,8 +77,8 @@ skips s best = lt s.tmax s.tmin || le s.tmax zero_f || le best s.tmin
 abbrev pub sides_of : Bool → Bool → Sides
 sides_of a b = record { left = a; right = b }
 
-unfoldable pub partition_of : BBox → Axis → Float → Sides
-partition_of b X p = sides_of (le b.min.x p) (le p b.max.x)
-partition_of b Y p = sides_of (le b.min.y p) (le p b.max.y)
-partition_of b Z p = sides_of (le b.min.z p) (le p b.max.z)
+unfoldable pub partition_of : BBox → Option Axis → Float → Sides
+partition_of b (Some X) p = sides_of (le b.min.x p) (le p b.max.x)
+partition_of b (Some Y) p = sides_of (le b.min.y p) (le p b.max.y)
+partition_of b (Some Z) p = sides_of (le b.min.z p) (le p b.max.z)
 partition_of b None p = sides_of false false

@@ -1,12 +1,10 @@
 -- Vectors (vector.rs): the Rust's formulas, in its order of operations.
-use Rattle.std.specs.Prelude.{Bool, cond, ◌&&◌, ℤ, Float}
+use Rattle.std.specs.Prelude.{Bool, cond, ◌&&◌, ℤ, Float, None, Option, Some}
 use Rattle.std.specs.Float.Ieee.{eq, lt, le}
 use Rattle.floats.specs.Arith.{◌⊕◌, ◌⊖◌, ◌⊗◌, ◌⊘◌, zero_f, one_f, EPS}
 use Rattle.floats.specs.Numbers.{min_of, max_of, abs_of}
 use Rattle.sqrt.specs.Root.{sqrt_of, rest_of}
 use Rattle.geometry.specs.declared.vector.Vector.{Vector}
-use Rattle.geometry.specs.declared.vector.Normalized.{Normalized}
-use Rattle.geometry.specs.declared.vector.Normalized.TheVariants.{Unit, Zero}
 
 abbrev pub vec : Float → Float → Float → Vector
 vec a b c = record { x = a; y = b; z = c }
@@ -62,8 +60,8 @@ unfoldable pub distance_rest : Vector → Vector → ℤ
 distance_rest a b = length_rest (sub_v a b)
 
 -- over the length; where that is 0 the Rust panics, and the answer is `Zero`
-unfoldable pub normalize_of : Vector → Normalized
-normalize_of a = cond (eq (length_of a) zero_f) Zero (Unit (div_scalar a (length_of a)))
+unfoldable pub normalize_of : Vector → Option Vector
+normalize_of a = cond (eq (length_of a) zero_f) None (Some (div_scalar a (length_of a)))
 
 unfoldable pub min_v : Vector → Vector → Vector
 min_v a b = vec (min_of a.x b.x) (min_of a.y b.y) (min_of a.z b.z)

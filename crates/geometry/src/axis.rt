@@ -4,5 +4,4 @@ pub enum Axis {
     X,
     Y,
     Z,
-    None,
 }

@@ -127,23 +127,23 @@ impl BBox {
         }
     }
 
-    pub fn partition(self, axis: Axis, point: f64) -> Sides
+    pub fn partition(self, axis: Option<Axis>, point: f64) -> Sides
         ensures { result ≡ Boxes.partition_of self axis point }
     {
         match axis {
-            Axis::X => Sides {
+            Some(Axis::X) => Sides {
                 left: self.min.x <= point,
                 right: self.max.x >= point,
             },
-            Axis::Y => Sides {
+            Some(Axis::Y) => Sides {
                 left: self.min.y <= point,
                 right: self.max.y >= point,
             },
-            Axis::Z => Sides {
+            Some(Axis::Z) => Sides {
                 left: self.min.z <= point,
                 right: self.max.z >= point,
             },
-            Axis::None => Sides {
+            None => Sides {
                 left: false,
                 right: false,
             },

@@ -12,13 +12,6 @@ pub struct Vector {
     pub z: f64,
 }
 
-// A vector over its length, where the computed length is not 0.
-#[derive(Clone, Copy)]
-pub enum Normalized {
-    Unit(Vector),
-    Zero,
-}
-
 impl Vector {
     pub const EPS: f64 = 1e-9;
 
@@ -105,14 +98,14 @@ impl Vector {
         }
     }
 
-    pub fn normalize(self) -> Normalized
+    pub fn normalize(self) -> Option<Vector>
         ensures { result ≡ Vectors.normalize_of self }
     {
         let d = self.norm();
         if d == 0.0 {
-            return Normalized::Zero;
+            return None;
         }
-        Normalized::Unit(self.div_scalar(d))
+        Some(self.div_scalar(d))
     }
 
     pub fn add(self, other: Vector) -> Vector

@@ -16,15 +16,13 @@ use Rattle.rows.specs.Rows.{padded}
 use Rattle.rows.specs.Points.{box_row}
 use Rattle.solids.specs.Solids.{hit_of, solid_box, contains_of}
 use Rattle.solids.specs.declared.solid.Solid.{Solid}
-use Rattle.scene.specs.declared.entry.Simple.{Simple}
-use Rattle.scene.specs.declared.entry.Simple.TheVariants.{Is, Other}
 use Rattle.check_scene.specs.Checks.{if_accepted}
 use Rattle.scene.specs.Scenes.{Scene}
-use Rattle.check_scene.specs.declared.Verdict.{Verdict}
 use Rattle.query_solid.specs.Simples.{simple_hit, simple_contains}
 use Rattle.query_solid.specs.Own.{own_contains}
-use Rattle.query_solid.specs.declared.Contained.{Contained}
 use Rattle.host.specs.Calls.{matrix_row, simple_number, distance_to, strikes, box_numbers, inside_simple}
+use Rattle.std.specs.Prelude.{None, Option, Result, Some}
+use Rattle.refusals.specs.declared.Refusal.{Refusal}
 
 pub inverted-is : (m m' : Matrix) (i : Inverted) → m ≡ m' → i ≡ inverted m → (i.determinant ≡ (inverted m').determinant) × (matrix_row i.inverse ≡ matrix_row (inverted m').inverse)
 inverted-is m m' i e h =
@@ -32,41 +30,41 @@ inverted-is m m' i e h =
     (ap (λ (j : Inverted). j.determinant) k, ap (λ (j : Inverted). matrix_row j.inverse) k)
 
 -- the kind is one of 1 to 5, 8 and 9
-module _ (x y : Simple) (s : Solid) (read : y ≡ x) (is : y ≡ Is s) where
+module _ (x y : Option Solid) (s : Solid) (read : y ≡ x) (is : y ≡ Some s) where
   pub hit-is : (r r' : Ray) (h : Hit) → r ≡ r' → h ≡ simple_hit x r → (0 ≡ simple_number x) × ((h.t ≡ distance_to x r') × (h.ok ≡ strikes x r'))
   unfolding simple_number distance_to strikes simple_hit
   hit-is r r' h e k =
-      let g : h ≡ hit_of s r' = k ∙ ap (λ (z : Simple). simple_hit z r) (sym read ∙ is) ∙ ap (hit_of s) e in
-      subst (λ (z : Simple). (0 ≡ simple_number z) × ((h.t ≡ distance_to z r') × (h.ok ≡ strikes z r'))) (sym is ∙ read)
+      let g : h ≡ hit_of s r' = k ∙ ap (λ (z : Option Solid). simple_hit z r) (sym read ∙ is) ∙ ap (hit_of s) e in
+      subst (λ (z : Option Solid). (0 ≡ simple_number z) × ((h.t ≡ distance_to z r') × (h.ok ≡ strikes z r'))) (sym is ∙ read)
       (refl, (ap (λ (i : Hit). i.t) g, ap (λ (i : Hit). i.ok) g))
 
   pub box-is : (b : BBox) → b ≡ solid_box s → (0 ≡ simple_number x) × (box_row b ≡ box_numbers x)
   unfolding simple_number box_numbers
-  box-is b k = subst (λ (z : Simple). (0 ≡ simple_number z) × (box_row b ≡ box_numbers z)) (sym is ∙ read) (refl, ap box_row k)
+  box-is b k = subst (λ (z : Option Solid). (0 ≡ simple_number z) × (box_row b ≡ box_numbers z)) (sym is ∙ read) (refl, ap box_row k)
 
   pub inside_is : (p p' : Vector) (f : Float) (a : Bool) → p ≡ p' → a ≡ simple_contains x p f → (0 ≡ simple_number x) × (a ≡ inside_simple x p' f)
   unfolding simple_number inside_simple simple_contains
   inside_is p p' f a e k =
-      subst (λ (z : Simple). (0 ≡ simple_number z) × (a ≡ inside_simple z p' f)) (sym is ∙ read) (refl, k ∙ ap (λ (z : Simple). simple_contains z p f) (sym read ∙ is) ∙ ap (λ (q : Vector). contains_of s q f) e)
+      subst (λ (z : Option Solid). (0 ≡ simple_number z) × (a ≡ inside_simple z p' f)) (sym is ∙ read) (refl, k ∙ ap (λ (z : Option Solid). simple_contains z p f) (sym read ∙ is) ∙ ap (λ (q : Vector). contains_of s q f) e)
 
 -- and none of them
-module _ (x y : Simple) (read : y ≡ x) (is : y ≡ Other) where
+module _ (x y : Option Solid) (read : y ≡ x) (is : y ≡ None) where
   pub no_hit : (r : Ray) → (3 ≡ simple_number x) × ((zero_f ≡ distance_to x r) × (false ≡ strikes x r))
   unfolding simple_number distance_to strikes
-  no_hit r = subst (λ (z : Simple). (3 ≡ simple_number z) × ((zero_f ≡ distance_to z r) × (false ≡ strikes z r))) (sym is ∙ read) (refl, (refl, refl))
+  no_hit r = subst (λ (z : Option Solid). (3 ≡ simple_number z) × ((zero_f ≡ distance_to z r) × (false ≡ strikes z r))) (sym is ∙ read) (refl, (refl, refl))
 
-  pub no-box : (3 ≡ simple_number x) × (box_numbers Other ≡ box_numbers x)
+  pub no-box : (3 ≡ simple_number x) × (box_numbers None ≡ box_numbers x)
   unfolding simple_number
-  no-box = subst (λ (z : Simple). (3 ≡ simple_number z) × (box_numbers Other ≡ box_numbers z)) (sym is ∙ read) (refl, refl)
+  no-box = subst (λ (z : Option Solid). (3 ≡ simple_number z) × (box_numbers None ≡ box_numbers z)) (sym is ∙ read) (refl, refl)
 
   pub no-inside : (p : Vector) (f : Float) → (3 ≡ simple_number x) × (false ≡ inside_simple x p f)
   unfolding simple_number inside_simple
-  no-inside p f = subst (λ (z : Simple). (3 ≡ simple_number z) × (false ≡ inside_simple z p f)) (sym is ∙ read) (refl, refl)
+  no-inside p f = subst (λ (z : Option Solid). (3 ≡ simple_number z) × (false ≡ inside_simple z p f)) (sym is ∙ read) (refl, refl)
 
 -- ---- calls on a scene
 -- how a slice is left, by the verdict that the check gave
-pub left_so : {A : Type 0} (z : A) {v w : Verdict} {L : ℕ} (M : ℕ) {xs : List A} (l : List A) → v ≡ w → L ≡ M → xs ≡ padded z L (if_accepted v l) → xs ≡ padded z M (if_accepted w l)
+pub left_so : {A : Type 0} (z : A) {v w : Result ℕ Refusal} {L : ℕ} (M : ℕ) {xs : List A} (l : List A) → v ≡ w → L ≡ M → xs ≡ padded z L (if_accepted v l) → xs ≡ padded z M (if_accepted w l)
 left_so z M l e m h = h ∙ rw (e, m)
 
-pub contains-so : (s : Scene) (i : ℕ) (f : Float) (p q : Vector) {c : Contained} → c ≡ own_contains s i p f → p ≡ q → c ≡ own_contains s i q f
+pub contains-so : (s : Scene) (i : ℕ) (f : Float) (p q : Vector) {c : Result Bool Refusal} → c ≡ own_contains s i p f → p ≡ q → c ≡ own_contains s i q f
 contains-so s i f p q h e = h ∙ ap (λ (v : Vector). own_contains s i v f) e

@@ -1,16 +1,14 @@
 -- A view as the array that holds it, and document 01's number and values for each case of an answer on paths.
-use Rattle.std.specs.Prelude.{ℕ, ◌≡◌, List, get_or, Float}
+use Rattle.std.specs.Prelude.{ℕ, ◌≡◌, List, get_or, Float, Err, Ok, Result}
 use Rattle.std.specs.Float.{nan}
 use Rattle.geometry.specs.Vectors.{vec}
-use Rattle.refusals.specs.Refusals.{number_of}
-use Rattle.paths.specs.Answers.{Answer}
+use Rattle.refusals.specs.Refusals.{number_of, answer_number}
 use Rattle.paths.specs.Paths.{Paths}
 use Rattle.paths.specs.Ends.{counted, laid_points, laid_starts}
-use Rattle.paths.specs.declared.Counts.{Counts}
-use Rattle.paths.specs.declared.Counts.TheVariants.{Both, Refused as NotBoth}
 use Rattle.view.specs.declared.View.{View}
 use Rattle.floats.specs.Arith.{ten_thousandth}
 use Rattle.draw.specs.Draw.{draw_with_in}
+use Rattle.refusals.specs.declared.Refusal.{Refusal}
 
 -- the matrix by rows, the eye, width, height and step
 abbrev pub view_of_row : List Float → View
@@ -41,31 +39,26 @@ view_of_row v =
       step = get_or v 21 nan;
     }
 
--- 0, or the number of the refusal; there is then nothing
-unfoldable pub counts_number : Counts → ℕ
-counts_number (Both n m) = 0
-counts_number (NotBoth k) = number_of k
+unfoldable pub points_told : Result (ℕ × ℕ) Refusal → ℕ
+points_told (Ok (n, m)) = n
+points_told (Err k) = 0
 
-unfoldable pub points_told : Counts → ℕ
-points_told (Both n m) = n
-points_told (NotBoth k) = 0
-
-unfoldable pub paths_told : Counts → ℕ
-paths_told (Both n m) = m
-paths_told (NotBoth k) = 0
+unfoldable pub paths_told : Result (ℕ × ℕ) Refusal → ℕ
+paths_told (Ok (n, m)) = m
+paths_told (Err k) = 0
 
 -- what a call on paths answers and leaves, where `a` is what it is to answer: its number, the two slices, of x numbers and y starts, and how many points and paths they hold
-abbrev pub PathsTold : Answer Paths → ℕ → ℕ → ℕ → List Float → List ℕ → ℕ → ℕ → Type 0
+abbrev pub PathsTold : Result Paths Refusal → ℕ → ℕ → ℕ → List Float → List ℕ → ℕ → ℕ → Type 0
 PathsTold a x y number out begins points paths =
-    (number ≡ counts_number (counted a))
+    (number ≡ answer_number (counted a))
     × ((out ≡ laid_points a x)
     × ((begins ≡ laid_starts a y)
     × ((points ≡ points_told (counted a))
     × (paths ≡ paths_told (counted a)))))
 
 -- a draw of the slices that are handed in, in the places of those that are lent
-abbrev pub draw_call_with : Float → List Float → List ℕ → List Float → List ℕ → List ℕ → List Float → List Float → List ℕ → List Float → List ℕ → List Float → List ℕ → List Float → List ℕ → List ℕ → Answer Paths
+abbrev pub draw_call_with : Float → List Float → List ℕ → List Float → List ℕ → List ℕ → List Float → List Float → List ℕ → List Float → List ℕ → List Float → List ℕ → List Float → List ℕ → List ℕ → Result Paths Refusal
 draw_call_with t numbers marks points starts owners view = draw_with_in t numbers marks points starts owners (view_of_row view)
 
-abbrev pub draw_call : List Float → List ℕ → List Float → List ℕ → List ℕ → List Float → List Float → List ℕ → List Float → List ℕ → List Float → List ℕ → List Float → List ℕ → List ℕ → Answer Paths
+abbrev pub draw_call : List Float → List ℕ → List Float → List ℕ → List ℕ → List Float → List Float → List ℕ → List Float → List ℕ → List Float → List ℕ → List Float → List ℕ → List ℕ → Result Paths Refusal
 draw_call = draw_call_with ten_thousandth

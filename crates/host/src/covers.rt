@@ -6,16 +6,7 @@ ghost use Rattle.query_cover.specs.Covered.{covered_of};
 ghost use Rattle.host.specs.TreeCalls.{SightTold};
 ghost use Rattle.host.specs.CoverCalls as CoverCalls;
 
-use query_cover::Batch;
-
-pub fn batch_number(b: Batch) -> u32
-    ensures { result ≡ CoverCalls.batch_number b }
-{
-    match b {
-        Batch::Answered => 0,
-        Batch::Refused(k) => k.number(),
-    }
-}
+use refusals::Refusal;
 
 // Whether the eye sees a point past the solids of a tree, by a walk that stops at the first solid that falls
 // short: numbers 2 to 9 and 14, then 11 and 12.
@@ -47,7 +38,7 @@ pub fn larnt_covered(
         crate::point(point),
     );
     *seen = crate::trees::in_sight(s);
-    crate::trees::sight_number(s)
+    refusals::answer_number(s)
 }
 
 // The same of many points, three numbers each: a byte a point, 1 yes, 2 no, or the point's number 9, 11 or
@@ -80,5 +71,5 @@ pub fn larnt_covered_all(
         tested,
         told,
     );
-    batch_number(b)
+    refusals::answer_number(b)
 }

@@ -1,4 +1,4 @@
-// The calls for a host program, by C's calling convention: each is thin over the proved one, and takes
+// The calls for a host program, which `host_c` exports: each is thin over the proved one, and takes
 // any numbers. host/larnt.h declares them, with what its pointers must be.
 #![tactic(auto)]
 
@@ -24,7 +24,6 @@ use geometry::bounding_box::BBox;
 use geometry::ray::Ray;
 use geometry::vector::Vector;
 use rows::Numbers;
-use scene::entry::Simple;
 
 fn point(p: &[f64; 3]) -> Vector
     ensures { result ≡ point_of p.now }
@@ -163,13 +162,13 @@ pub fn larnt_solid_hit(kind: u32, n: &[f64; 16], ray: &[f64; 6], t: &mut f64, ok
     ensures struck { ok.new ≡ strikes (simple_of kind (numbers_of n.now)) (ray_of_row ray.now) }
 {
     match scene::entry::simple_of(kind, sixteen(n)) {
-        Simple::Is(_) => {
+        Some(_) => {
             let h = query_solid::simple::hit(kind, n, ray_from(ray));
             *t = h.t;
             *ok = h.ok;
             0
         }
-        Simple::Other => {
+        None => {
             *t = 0.0;
             *ok = false;
             3
@@ -183,12 +182,12 @@ pub fn larnt_solid_box(kind: u32, n: &[f64; 16], b: &mut [f64; 6]) -> u32
     ensures lent { b.new ≡ box_numbers (simple_of kind (numbers_of n.now)) }
 {
     match scene::entry::simple_of(kind, sixteen(n)) {
-        Simple::Is(s) => {
+        Some(s) => {
             let x = s.bounding_box();
             *b = [x.min.x, x.min.y, x.min.z, x.max.x, x.max.y, x.max.z];
             0
         }
-        Simple::Other => {
+        None => {
             *b = [0.0, 0.0, 0.0, 0.0, 0.0, 0.0];
             3
         }
@@ -207,11 +206,11 @@ pub fn larnt_solid_contains(
     ensures lent { inside.new ≡ inside_simple (simple_of kind (numbers_of n.now)) (point_of p.now) f }
 {
     match scene::entry::simple_of(kind, sixteen(n)) {
-        Simple::Is(_) => {
+        Some(_) => {
             *inside = query_solid::simple::contains(kind, n, point(p), f);
             0
         }
-        Simple::Other => {
+        None => {
             *inside = false;
             3
         }
@@ -237,7 +236,7 @@ pub fn larnt_check(
         numbers, marks, points, starts, owners, inverses, boxes, drawn,
     );
     *count = query_solid::answers::drawn_count(v);
-    query_solid::answers::verdict_number(v)
+    refusals::answer_number(v)
 }
 
 // The hit that the solid at an entry of a scene gives a ray, with no tree and no other solid: numbers 2
@@ -258,7 +257,7 @@ pub fn larnt_own_hit(
     let h = query_solid::own_hit(numbers, marks, points, starts, owners, i, ray_from(ray));
     *t = query_solid::answers::distance(h);
     *ok = query_solid::answers::met(h);
-    query_solid::answers::struck_number(h)
+    refusals::answer_number(h)
 }
 
 // Whether the solid at an entry of a scene, widened by f, contains a point: numbers 2 to 7 and 14.
@@ -277,5 +276,5 @@ pub fn larnt_own_contains(
 {
     let c = query_solid::own_contains(numbers, marks, points, starts, owners, i, point(p), f);
     *inside = query_solid::answers::inside(c);
-    query_solid::answers::contained_number(c)
+    refusals::answer_number(c)
 }

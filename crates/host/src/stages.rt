@@ -12,33 +12,24 @@ ghost use Rattle.host.specs.StageCalls as StageCalls;
 
 use geometry::vector::Vector;
 use matrix::Matrix;
-use paths::Counts;
+use refusals::Refusal;
 use view::View;
 
-pub fn counts_number(c: Counts) -> u32
-    ensures { result ≡ StageCalls.counts_number c }
-{
-    match c {
-        Counts::Both(_, _) => 0,
-        Counts::Refused(k) => k.number(),
-    }
-}
-
-pub fn point_count(c: Counts) -> usize
+pub fn point_count(c: Result<(usize, usize), Refusal>) -> usize
     ensures { result ≡ StageCalls.points_told c }
 {
     match c {
-        Counts::Both(n, _) => n,
-        Counts::Refused(_) => 0,
+        Ok((n, _)) => n,
+        Err(_) => 0,
     }
 }
 
-pub fn path_count(c: Counts) -> usize
+pub fn path_count(c: Result<(usize, usize), Refusal>) -> usize
     ensures { result ≡ StageCalls.paths_told c }
 {
     match c {
-        Counts::Both(_, m) => m,
-        Counts::Refused(_) => 0,
+        Ok((_, m)) => m,
+        Err(_) => 0,
     }
 }
 
@@ -92,7 +83,7 @@ pub fn larnt_chop(
     let c = path_chop::chop_adaptive(view_from(view), points, starts, out, begins);
     *points_out = point_count(c);
     *paths_out = path_count(c);
-    counts_number(c)
+    refusals::answer_number(c)
 }
 
 // The outline that step 1 of a draw adds for a solid of kinds 1 to 5, 8 or 9 without lines of its own, in the
@@ -122,7 +113,7 @@ pub fn larnt_outline(
     );
     *points_out = point_count(c);
     *paths_out = path_count(c);
-    counts_number(c)
+    refusals::answer_number(c)
 }
 
 // The paths simplified with a threshold: numbers 2, 4, 8 and 9, then 13. What is filled is as above.
@@ -140,7 +131,7 @@ pub fn larnt_simplify(
     let c = path_simplify::simplify(points, starts, threshold, out, begins);
     *points_out = point_count(c);
     *paths_out = path_count(c);
-    counts_number(c)
+    refusals::answer_number(c)
 }
 
 // The scene drawn for a view, simplified with 1e-4: numbers 2 to 8 and 14, then the first of 9 to 13 that the work
@@ -193,7 +184,7 @@ pub fn larnt_draw(
     );
     *points_out = point_count(c);
     *paths_out = path_count(c);
-    counts_number(c)
+    refusals::answer_number(c)
 }
 
 // The same simplified with a threshold, which meets 8 where it is not finite or is negative.
@@ -246,5 +237,5 @@ pub fn larnt_draw_with(
     );
     *points_out = point_count(c);
     *paths_out = path_count(c);
-    counts_number(c)
+    refusals::answer_number(c)
 }

@@ -6,45 +6,25 @@ ghost use Rattle.query_scene.specs.Queries.{intersect_of, visible_of, occluder_o
 ghost use Rattle.host.specs.Calls.{ray_of_row};
 ghost use Rattle.host.specs.TreeCalls as TreeCalls;
 
-use query_scene::{Built, NamedSight};
+use refusals::Refusal;
 use tree_sight::Sight;
-use tree_walk::Found;
 
-fn built_number(b: Built) -> u32
-    ensures { result ≡ TreeCalls.built_number b }
-{
-    match b {
-        Built::Nodes(_) => 0,
-        Built::Refused(k) => k.number(),
-    }
-}
-
-fn node_count(b: Built) -> usize
+fn node_count(b: Result<usize, Refusal>) -> usize
     ensures { result ≡ TreeCalls.node_count b }
 {
     match b {
-        Built::Nodes(n) => n,
-        Built::Refused(_) => 0,
+        Ok(n) => n,
+        Err(_) => 0,
     }
 }
 
-pub fn sight_number(s: Sight) -> u32
-    ensures { result ≡ TreeCalls.sight_number s }
-{
-    match s {
-        Sight::Visible => 0,
-        Sight::Hidden => 0,
-        Sight::Refused(k) => k.number(),
-    }
-}
-
-pub fn in_sight(s: Sight) -> bool
+pub fn in_sight(s: Result<Sight, Refusal>) -> bool
     ensures { result ≡ TreeCalls.in_sight s }
 {
     match s {
-        Sight::Visible => true,
-        Sight::Hidden => false,
-        Sight::Refused(_) => false,
+        Ok(Sight::Visible) => true,
+        Ok(Sight::Hidden) => false,
+        Err(_) => false,
     }
 }
 
@@ -67,7 +47,7 @@ pub fn larnt_build(
         numbers, marks, points, starts, owners, node_boxes, node_marks, order,
     );
     *count = node_count(b);
-    built_number(b)
+    refusals::answer_number(b)
 }
 
 // The nearest hit that the solids of a tree give a ray, with the entry whose t last became the best, FFFFFFFF
@@ -100,13 +80,13 @@ pub fn larnt_intersect(
         crate::ray_from(ray),
     );
     match f {
-        Found::Best(b) => {
+        Ok(b) => {
             *t = b.hit.t;
             *ok = b.hit.ok;
             *entry = b.entry;
             0
         }
-        Found::Refused(k) => {
+        Err(k) => {
             *t = 0.0;
             *ok = false;
             *entry = 0;
@@ -144,7 +124,7 @@ pub fn larnt_visible(
         crate::point(point),
     );
     *seen = in_sight(s);
-    sight_number(s)
+    refusals::answer_number(s)
 }
 
 // The entry that hides a point from the eye past the solids of a tree, FFFFFFFF (hexadecimal) where the point is
@@ -177,15 +157,15 @@ pub fn larnt_occluder(
         crate::point(point),
     );
     match o {
-        NamedSight::Clear => {
+        Ok(None) => {
             *entry = 0xffffffff;
             0
         }
-        NamedSight::Hidden(i) => {
+        Ok(Some(i)) => {
             *entry = i;
             0
         }
-        NamedSight::Refused(k) => {
+        Err(k) => {
             *entry = 0;
             k.number()
         }

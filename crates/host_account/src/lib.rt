@@ -1,4 +1,4 @@
-// The account of a sheet for a host program, by C's calling convention: the lines that a draw puts to step 4, and what
+// The account of a sheet for a host program, which `host_account_c` exports: the lines that a draw puts to step 4, and what
 // becomes of their points. host/larnt.h declares the calls, with what their pointers must be.
 #![tactic(auto)]
 
@@ -40,7 +40,7 @@ pub fn larnt_fates(
         tested,
         told,
     );
-    host::covers::batch_number(b)
+    refusals::answer_number(b)
 }
 
 // The lines of the drawn entries number first, first + 1 and so on, `many` of them as far as there are any, as a draw
@@ -81,5 +81,5 @@ pub fn larnt_entry_lines(
     );
     *points_out = host::stages::point_count(c);
     *paths_out = host::stages::path_count(c);
-    host::stages::counts_number(c)
+    refusals::answer_number(c)
 }

@@ -13,7 +13,6 @@ ghost use Rattle.host.specs.TreeCalls as TreeCalls;
 
 use geometry::ray::Ray;
 use geometry::vector::Vector;
-use tree_walk::Found;
 
 fn ray_from(r: &[f64; 6]) -> Ray
     ensures { result ≡ ray_of_row r.now }
@@ -67,13 +66,13 @@ pub fn bench_intersect(
         ray_from(ray),
     );
     match f {
-        Found::Best(b) => {
+        Ok(b) => {
             *t = b.hit.t;
             *ok = b.hit.ok;
             *entry = b.entry;
             0
         }
-        Found::Refused(k) => {
+        Err(k) => {
             *t = 0.0;
             *ok = false;
             *entry = 0;
@@ -107,7 +106,7 @@ pub fn bench_visible(
         point(p),
     );
     *seen = host::trees::in_sight(s);
-    host::trees::sight_number(s)
+    refusals::answer_number(s)
 }
 
 // The same by the walk that stops.
@@ -135,5 +134,5 @@ pub fn bench_covered(
         point(p),
     );
     *seen = host::trees::in_sight(s);
-    host::trees::sight_number(s)
+    refusals::answer_number(s)
 }

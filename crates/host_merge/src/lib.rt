@@ -1,4 +1,4 @@
-// The call that merges two scenes, for a host program, by C's calling convention: it is thin over the proved one,
+// The call that merges two scenes, for a host program, which `host_merge_c` exports: it is thin over the proved one,
 // and takes any numbers. host/larnt.h declares it, with what its pointers must be.
 #![tactic(auto)]
 
@@ -6,35 +6,35 @@ ghost use Rattle.std.specs.Prelude.{◌≡◌};
 ghost use Rattle.scene.specs.Scenes.{scene_of};
 ghost use Rattle.host_merge.specs.MergeCalls as MergeCalls;
 
-use query_merge::Merged;
+use refusals::Refusal;
 
 // How many entries the merged scene has.
-fn entries_told(r: Merged) -> usize
+fn entries_told(r: Result<(usize, usize, usize), Refusal>) -> usize
     ensures { result ≡ MergeCalls.merged_entries r }
 {
     match r {
-        Merged::Into(n, _, _) => n,
-        Merged::Refused(_) => 0,
+        Ok((n, _, _)) => n,
+        Err(_) => 0,
     }
 }
 
 // How many points.
-fn points_told(r: Merged) -> usize
+fn points_told(r: Result<(usize, usize, usize), Refusal>) -> usize
     ensures { result ≡ MergeCalls.merged_points r }
 {
     match r {
-        Merged::Into(_, p, _) => p,
-        Merged::Refused(_) => 0,
+        Ok((_, p, _)) => p,
+        Err(_) => 0,
     }
 }
 
 // How many paths.
-fn paths_told(r: Merged) -> usize
+fn paths_told(r: Result<(usize, usize, usize), Refusal>) -> usize
     ensures { result ≡ MergeCalls.merged_paths r }
 {
     match r {
-        Merged::Into(_, _, q) => q,
-        Merged::Refused(_) => 0,
+        Ok((_, _, q)) => q,
+        Err(_) => 0,
     }
 }
 
@@ -83,5 +83,5 @@ pub fn larnt_merge(
     *entry_count = entries_told(r);
     *point_count = points_told(r);
     *path_count = paths_told(r);
-    r.number()
+    refusals::answer_number(r)
 }

@@ -1,4 +1,4 @@
-// The draw of some parts of a scene for a host program, by C's calling convention. host/larnt.h declares it, with
+// The draw of some parts of a scene for a host program, which `host_parts_c` exports. host/larnt.h declares it, with
 // what its pointers must be.
 #![tactic(auto)]
 
@@ -63,5 +63,5 @@ pub fn larnt_draw_range(
     );
     *points_out = host::stages::point_count(c);
     *paths_out = host::stages::path_count(c);
-    host::stages::counts_number(c)
+    refusals::answer_number(c)
 }

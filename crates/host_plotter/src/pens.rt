@@ -7,40 +7,41 @@ ghost use Rattle.host_plotter.specs.PenCalls as PenCalls;
 use geometry::vector::Vector;
 use paths::Range;
 use plotter_pens::Choice;
+use refusals::Refusal;
 
 // Whether the path is one of the dimension lines.
-fn in_lines(c: Choice) -> bool
+fn in_lines(c: Result<Option<Choice>, Refusal>) -> bool
     ensures { result ≡ PenCalls.in_lines c }
 {
     match c {
-        Choice::Yard(_, _) => false,
-        Choice::Lines(_, _) => true,
-        Choice::UsedUp => false,
-        Choice::Refused(_) => false,
+        Ok(Some(Choice::Yard(_, _))) => false,
+        Ok(Some(Choice::Lines(_, _))) => true,
+        Ok(None) => false,
+        Err(_) => false,
     }
 }
 
 // Its place among the paths of its drawing.
-fn path_told(c: Choice) -> usize
+fn path_told(c: Result<Option<Choice>, Refusal>) -> usize
     ensures { result ≡ PenCalls.path_told c }
 {
     match c {
-        Choice::Yard(k, _) => k,
-        Choice::Lines(k, _) => k,
-        Choice::UsedUp => 0,
-        Choice::Refused(_) => 0,
+        Ok(Some(Choice::Yard(k, _))) => k,
+        Ok(Some(Choice::Lines(k, _))) => k,
+        Ok(None) => 0,
+        Err(_) => 0,
     }
 }
 
 // Where it lies among the points of its drawing.
-fn range_told(c: Choice) -> Range
+fn range_told(c: Result<Option<Choice>, Refusal>) -> Range
     ensures { result ≡ PenCalls.range_told c }
 {
     match c {
-        Choice::Yard(_, r) => r,
-        Choice::Lines(_, r) => r,
-        Choice::UsedUp => Range { from: 0, end: 0 },
-        Choice::Refused(_) => Range { from: 0, end: 0 },
+        Ok(Some(Choice::Yard(_, r))) => r,
+        Ok(Some(Choice::Lines(_, r))) => r,
+        Ok(None) => Range { from: 0, end: 0 },
+        Err(_) => Range { from: 0, end: 0 },
     }
 }
 
@@ -72,5 +73,5 @@ pub fn larnt_pick(
     *path = path_told(c);
     *from = r.from;
     *end = r.end;
-    c.number()
+    plotter_pens::pick_number(c)
 }

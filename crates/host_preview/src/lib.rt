@@ -1,4 +1,4 @@
-// The preview of a draw for a host program, by C's calling convention. host/larnt.h declares it, with what
+// The preview of a draw for a host program, which `host_preview_c` exports. host/larnt.h declares it, with what
 // its pointers must be.
 #![tactic(auto)]
 
@@ -58,5 +58,5 @@ pub fn larnt_preview(
     );
     *points_out = host::stages::point_count(c);
     *paths_out = host::stages::path_count(c);
-    host::stages::counts_number(c)
+    refusals::answer_number(c)
 }

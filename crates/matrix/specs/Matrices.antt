@@ -1,12 +1,11 @@
 -- Matrices of 4 rows and 4 columns (matrix.rs): the Rust's formulas, in its order of operations.
-use Rattle.std.specs.Prelude.{Float}
+use Rattle.std.specs.Prelude.{Float, Option}
 use Rattle.std.specs.Float.Ieee.{neg}
 use Rattle.floats.specs.Arith.{◌⊕◌, ◌⊖◌, ◌⊗◌, ◌⊘◌, zero_f, one_f, two_f}
 use Rattle.geometry.specs.Vectors.{vec, add_v, min_v, max_v, mul_scalar, div_scalar, length_of, normalize_of}
 use Rattle.geometry.specs.Rays.{ray_of}
 use Rattle.geometry.specs.Boxes.{box_of}
 use Rattle.geometry.specs.declared.vector.Vector.{Vector}
-use Rattle.geometry.specs.declared.vector.Normalized.{Normalized}
 use Rattle.geometry.specs.declared.ray.Ray.{Ray}
 use Rattle.geometry.specs.declared.bounding_box.BBox.{BBox}
 use Rattle.matrix.specs.declared.Matrix.{Matrix}
@@ -122,7 +121,7 @@ mul_vector a b =
     vec (a.x00 ⊗ b.x ⊕ a.x01 ⊗ b.y ⊕ a.x02 ⊗ b.z) (a.x10 ⊗ b.x ⊕ a.x11 ⊗ b.y ⊕ a.x12 ⊗ b.z)
     (a.x20 ⊗ b.x ⊕ a.x21 ⊗ b.y ⊕ a.x22 ⊗ b.z)
 
-unfoldable pub mul_direction : Matrix → Vector → Normalized
+unfoldable pub mul_direction : Matrix → Vector → Option Vector
 mul_direction a b = normalize_of (mul_vector a b)
 
 -- the ray with its direction over its length, and that length

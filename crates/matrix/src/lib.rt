@@ -6,7 +6,7 @@ ghost use Rattle.matrix.specs.Matrices as Matrices;
 
 use geometry::bounding_box::BBox;
 use geometry::ray::Ray;
-use geometry::vector::{Normalized, Vector};
+use geometry::vector::Vector;
 
 #[derive(Clone, Copy)]
 pub struct Matrix {
@@ -273,7 +273,7 @@ impl Matrix {
         self.mul_position(b).div_scalar(w)
     }
 
-    pub fn mul_direction(self, b: Vector) -> Normalized
+    pub fn mul_direction(self, b: Vector) -> Option<Vector>
         ensures { result ≡ Matrices.mul_direction self b }
     {
         self.mul_vector(b).normalize()

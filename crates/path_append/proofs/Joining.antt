@@ -12,14 +12,15 @@ use Rattle.refusals.specs.declared.Refusal.TheVariants.{Room}
 use Rattle.rows.specs.Rows.{view}
 use Rattle.rows.specs.Points.{points, point_of}
 use Rattle.rows.proofs.Rows.{view-append, view-take}
-use Rattle.paths.specs.Answers.{Answer, answered, next}
+use Rattle.paths.specs.Answers.{next}
 use Rattle.paths.specs.Paths.{Paths, paths_with, push_all}
 use Rattle.paths.specs.Ends.{held, EndsBoth}
-use Rattle.paths.specs.declared.Counts.TheVariants.{Both, Refused}
 use Rattle.paths.proofs.Ending.{refuses-both, answers-both}
 use Rattle.paths.proofs.Parts.{length-points}
 use Rattle.paths.proofs.Runs.{extend_fits, extend-full}
 use Rattle.path_append.specs.Append.{Low, Movable, shifted, appended}
+use Rattle.std.specs.Prelude.{Err, Ok, Result}
+use Rattle.refusals.specs.declared.Refusal.{Refusal}
 
 -- ---- what is stored after i elements stands after them
 module _ {A : Type 0} where
@@ -48,7 +49,7 @@ low-movable n p l ss low h r = λ j i. omega (arith, low j i)
 -- ---- the call
 module _ (wide many n m p q : ℕ) (xs : List Float) (ss : List ℕ) (fn : n * 3 ≤ wide) (fm : m ≤ many) (fp : p * 3 ≤ wide) (fq : q ≤ many)
     (fx : wide + wide ≤ length xs) (fs : many + many ≤ length ss) where
-  abbrev whole : Answer Paths
+  abbrev whole : Result Paths Refusal
   whole = appended (wide / 3) many (held n (take wide xs) m (take many ss)) (held p (take wide (drop wide xs)) q (take many (drop many ss)))
 
   first : take m (take many ss) ≡ take m ss
@@ -63,7 +64,7 @@ module _ (wide many n m p q : ℕ) (xs : List Float) (ss : List ℕ) (fn : n * 3
   many-second : (k : ℕ) → length (shifted k (take q (take many (drop many ss)))) ≡ q
   many-second k = rw second (length-map (take q (drop many ss)) (λ (s : ℕ). s + k) ∙ length-take-le q (drop many ss) (simp length-drop (omega arith)))
 
-  pub starts-full : many - m < q → (ys : List Float) (us : List ℕ) → EndsBoth whole ys us (Refused Room)
+  pub starts-full : many - m < q → (ys : List Float) (us : List ℕ) → EndsBoth whole ys us (Err Room)
   unfolding appended
   starts-full h ys us =
       let k = length (points n (take wide xs)) in
@@ -72,12 +73,12 @@ module _ (wide many n m p q : ℕ) (xs : List Float) (ss : List ℕ) (fn : n * 3
 
   module _ (h : q ≤ many - m) where
     begun : whole ≡ next (push_all (wide / 3) (points n (take wide xs)) (points p (take wide (drop wide xs))))
-        (λ (vs : List Vector). answered (paths_with vs (take m ss ++ shifted n (take q (drop many ss)))))
+        (λ (vs : List Vector). Ok (paths_with vs (take m ss ++ shifted n (take q (drop many ss)))))
     unfolding appended
     begun =
         rw (length-points n (take wide xs), extend_fits many (take m (take many ss)) (shifted n (take q (take many (drop many ss)))) (omega (arith, many-first, many-second n)), first, second)
 
-    pub points-full : wide / 3 - n < p → (ys : List Float) (us : List ℕ) → EndsBoth whole ys us (Refused Room)
+    pub points-full : wide / 3 - n < p → (ys : List Float) (us : List ℕ) → EndsBoth whole ys us (Err Room)
     points-full l ys us =
         refuses-both ys us
         (begun
@@ -85,13 +86,13 @@ module _ (wide many n m p q : ℕ) (xs : List Float) (ss : List ℕ) (fn : n * 3
         (rw (length-points n (take wide xs), length-points p (take wide (drop wide xs))) (omega arith))))
 
     pub joined : p ≤ wide / 3 - n → (ys : List Float) (us : List ℕ) → us ≡ sets ss m (shifted n (take q (drop many ss)))
-        → ys ≡ sets xs (n * 3) (take (p * 3) (drop wide xs)) → EndsBoth whole (take wide ys) (take many us) (Both (n + p) (m + q))
+        → ys ≡ sets xs (n * 3) (take (p * 3) (drop wide xs)) → EndsBoth whole (take wide ys) (take many us) (Ok (n + p, m + q))
     joined l ys us es ex =
         answers-both (n + p) (m + q) (take wide ys) (take many us) (begun ∙ rw (fits, points-joined, starts-joined))
         (rw (length-take-le wide ys (rw (ex, length-sets xs (n * 3) (take (p * 3) (drop wide xs))) (omega arith))) (omega (arith, add-mul n p 3)))
         (rw (length-take-le many us (rw (es, length-sets ss m (shifted n (take q (drop many ss)))) (omega arith))) (omega arith))
       where
-        fits : push_all (wide / 3) (points n (take wide xs)) (points p (take wide (drop wide xs))) ≡ answered (points n (take wide xs) ++ points p (take wide (drop wide xs)))
+        fits : push_all (wide / 3) (points n (take wide xs)) (points p (take wide (drop wide xs))) ≡ Ok (points n (take wide xs) ++ points p (take wide (drop wide xs)))
         fits = extend_fits (wide / 3) (points n (take wide xs)) (points p (take wide (drop wide xs))) (rw (length-points n (take wide xs), length-points p (take wide (drop wide xs))) (omega arith))
 
         starts-joined : take (m + q) (take many us) ≡ take m ss ++ shifted n (take q (drop many ss))

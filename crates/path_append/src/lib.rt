@@ -6,7 +6,6 @@ ghost use Rattle.std.proofs.lemmas.List.Edits.{sets};
 ghost use Rattle.paths.specs.Ends.{held, EndsBoth};
 ghost use Rattle.path_append.specs.Append.{Low, Movable, shifted, appended};
 
-use paths::Counts;
 use refusals::Refusal;
 
 // The numbers from `from` on, so many, are written from `to` on too; they do not reach `from`.
@@ -14,10 +13,8 @@ fn copy(xs: &mut [f64], from: usize, to: usize, count: usize)
     requires { (to + count ≤ from) × (from + count ≤ length xs.old) }
     ensures { xs.new ≡ sets xs.old to (take count (drop from xs.old)) }
 {
-    let mut j = 0;
-    while j < count {
+    for j in 0..count {
         xs[to + j] = xs[from + j];
-        j += 1;
     }
 }
 
@@ -26,10 +23,8 @@ fn shift(ss: &mut [usize], from: usize, to: usize, count: usize, by: usize)
     requires { (to + count ≤ from) × (from + count ≤ length ss.old) × Movable by (take count (drop from ss.old)) }
     ensures { ss.new ≡ sets ss.old to (shifted by (take count (drop from ss.old))) }
 {
-    let mut j = 0;
-    while j < count {
+    for j in 0..count {
         ss[to + j] = ss[from + j] + by;
-        j += 1;
     }
 }
 
@@ -44,17 +39,17 @@ pub fn append(
     m: usize,
     p: usize,
     q: usize,
-) -> Counts
+) -> Result<(usize, usize), Refusal>
     requires { (n * 3 ≤ wide) × (m ≤ many) × (p * 3 ≤ wide) × (q ≤ many) × (wide + wide ≤ length work.old) × (many + many ≤ length begins.old) × Low p (take q (drop many begins.old)) }
     ensures { EndsBoth (appended (wide / 3) many (held n (take wide work.old) m (take many begins.old)) (held p (take wide (drop wide work.old)) q (take many (drop many begins.old)))) (take wide work.new) (take many begins.new) result }
 {
     if many - m < q {
-        return Counts::Refused(Refusal::Room);
+        return Err(Refusal::Room);
     }
     if wide / 3 - n < p {
-        return Counts::Refused(Refusal::Room);
+        return Err(Refusal::Room);
     }
     shift(begins, many, m, q, n);
     copy(work, wide, n * 3, p * 3);
-    Counts::Both(n + p, m + q)
+    Ok((n + p, m + q))
 }

@@ -13,16 +13,11 @@ use Rattle.geometry.specs.declared.vector.Vector.{Vector}
 use Rattle.refusals.specs.declared.Refusal.{Refusal}
 use Rattle.rows.specs.Rows.{row, set_row}
 use Rattle.rows.specs.Points.{points, point_of}
-use Rattle.paths.specs.Answers.{Answer, answered, refused, next}
+use Rattle.paths.specs.Answers.{next}
 use Rattle.paths.specs.Paths.{push, one_path, stage}
 use Rattle.paths.specs.Ends.{places, all_points, Ends, EndsBoth}
 use Rattle.paths.specs.Judged.{paths_judged}
-use Rattle.paths.specs.declared.Count.{Count}
-use Rattle.paths.specs.declared.Count.TheVariants.{At, Refused}
-use Rattle.paths.specs.declared.Counts.{Counts}
-use Rattle.paths.specs.declared.Judgement.{Judgement}
-use Rattle.paths.specs.declared.Judgement.TheVariants.{Fine, Refused as NotFine}
-use Rattle.paths.proofs.Ending.{ends_at, ends-refused, ends_as, refuses, answers}
+use Rattle.paths.proofs.Ending.{ends_at, ends-refused, refuses, answers}
 use Rattle.paths.proofs.Parts.{part-cons}
 use Rattle.paths.proofs.Judging.{unless-refused, unless-fine}
 use Rattle.view.specs.Views.{view_ok, args_of}
@@ -33,6 +28,7 @@ use Rattle.path_chop.specs.declared.Spot.{Spot}
 use Rattle.path_chop.specs.Chop.{screen_of, spot_of, middle_of, stops, push_or, subdivide, done, most_halvings, chop_from, path_chop, chop_paths, call_upto, chop_call}
 use Rattle.path_chop.specs.Waits.{spot_in, spot_row}
 use Rattle.path_chop.proofs.Waiting.{waiting, ahead, Within, waiting-more, within_more, waiting-next, within-next, turns, turns_of, turns_more, next-next, next-none}
+use Rattle.std.specs.Prelude.{Err, Ok, Result, ⊤}
 
 -- ---- a segment, by whether it is halved
 module _ (s : Screen) (room : ℕ) (a b : Spot) (vs : List Vector) (t : Bool) where
@@ -89,7 +85,7 @@ module _ (s : Screen) (a b : Spot) (out₀ : List Float) (n : ℕ) where
           unfolding ahead
           still =
               sym (next-next (subdivide s (places out₀) (left - 1) from mid (points m out)) (subdivide s (places out₀) (left - 1) mid to) (ahead s (places out₀) (waiting es ls k) to))
-              ∙ sym (ap (λ (x : Answer (List Vector)). next x (ahead s (places out₀) (waiting es ls k) to)) (halve s (places out₀) from to (points m out) t left mid et e em))
+              ∙ sym (ap (λ (x : Result (List Vector) Refusal). next x (ahead s (places out₀) (waiting es ls k) to)) (halve s (places out₀) from to (points m out) t left mid et e em))
               ∙ h.rest
 
           pub subdividing-halved : Subdividing s a b out₀ n es' ls' out from mid (left - 1) m (k + 1)
@@ -104,18 +100,18 @@ module _ (s : Screen) (a b : Spot) (out₀ : List Float) (n : ℕ) where
               }
 
     -- the piece is done: its end is pushed
-    module _ (e : t ≡ true) (out' : List Float) {r : Count} (w : Ends (push (places out) (points m out) to.at) out' r) where
+    module _ (e : t ≡ true) (out' : List Float) {r : Result ℕ Refusal} (w : Ends (push (places out) (points m out) to.at) out' r) where
       pushed : subdivide s (places out₀) most_halvings a b (points n out₀) ≡ next (push (places out) (points m out) to.at) (ahead s (places out₀) (waiting es ls k) to)
-      pushed = sym h.rest ∙ ap (λ (x : Answer (List Vector)). next x (ahead s (places out₀) (waiting es ls k) to)) (stop-here s (places out₀) from to (points m out) t left et e ∙ ap (λ (l : ℕ). push (l / 3) (points m out) to.at) (sym h.same))
+      pushed = sym h.rest ∙ ap (λ (x : Result (List Vector) Refusal). next x (ahead s (places out₀) (waiting es ls k) to)) (stop-here s (places out₀) from to (points m out) t left et e ∙ ap (λ (l : ℕ). push (l / 3) (points m out) to.at) (sym h.same))
 
-      pub subdividing-refused : {x : Refusal} → r ≡ Refused x → Ends (subdivide s (places out₀) most_halvings a b (points n out₀)) out' (Refused x)
+      pub subdividing-refused : {x : Refusal} → r ≡ Err x → Ends (subdivide s (places out₀) most_halvings a b (points n out₀)) out' (Err x)
       subdividing-refused p = refuses out' (pushed ∙ rw (ends-refused w p))
 
-      module _ {q : ℕ} (p : r ≡ At q) where
+      module _ {q : ℕ} (p : r ≡ Ok q) where
         goes_on : subdivide s (places out₀) most_halvings a b (points n out₀) ≡ ahead s (places out₀) (waiting es ls k) to (points q out')
         goes_on = pushed ∙ rw (ends_at w p)
 
-        pub subdividing-end : k ≡ 0 → Ends (subdivide s (places out₀) most_halvings a b (points n out₀)) out' (At q)
+        pub subdividing-end : k ≡ 0 → Ends (subdivide s (places out₀) most_halvings a b (points n out₀)) out' (Ok q)
         unfolding waiting ahead
         subdividing-end z = answers q out' (goes_on ∙ rw z) (w.fits q p)
 
@@ -142,25 +138,25 @@ module _ (s : Screen) (path out₀ : List Float) (first : Spot) (from end n : �
   chopping-start h k f = record { same = refl; upto = h; within = k; fits = f; left = refl }
 
   module _ (out : List Float) (a : Spot) (i m : ℕ) (h : Chopping s path out₀ first from end n out a i m) where
-    module _ (l : i < end) (v : Vector) (b : Spot) (ev : v ≡ point_of (row 3 i path)) (eb : b ≡ spot_of s v) (out' : List Float) {r : Count} (w : Ends (subdivide s (places out) most_halvings a b (points m out)) out' r) where
+    module _ (l : i < end) (v : Vector) (b : Spot) (ev : v ≡ point_of (row 3 i path)) (eb : b ≡ spot_of s v) (out' : List Float) {r : Result ℕ Refusal} (w : Ends (subdivide s (places out) most_halvings a b (points m out)) out' r) where
       onward : chop_from most_halvings s (places out₀) a (slice i end (all_points path)) (points m out) ≡ next (subdivide s (places out) most_halvings a b (points m out)) (chop_from most_halvings s (places out₀) b (slice (i + 1) end (all_points path)))
       unfolding chop_from
       onward = rw (part-cons path i end h.within v l ev, ← eb, h.same)
 
-      pub chopping-turn : {q : ℕ} → length out' ≡ length out → r ≡ At q → Chopping s path out₀ first from end n out' b (i + 1) q
+      pub chopping-turn : {q : ℕ} → length out' ≡ length out → r ≡ Ok q → Chopping s path out₀ first from end n out' b (i + 1) q
       chopping-turn {q} k t = record {
         same = k ∙ h.same;
         upto = omega arith;
         within = h.within;
         fits = w.fits q t;
-        left = sym (onward ∙ ap (λ (x : Answer (List Vector)). next x (chop_from most_halvings s (places out₀) b (slice (i + 1) end (all_points path)))) (ends_at w t)) ∙ h.left;
+        left = sym (onward ∙ ap (λ (x : Result (List Vector) Refusal). next x (chop_from most_halvings s (places out₀) b (slice (i + 1) end (all_points path)))) (ends_at w t)) ∙ h.left;
       }
 
-      pub chopping-refused : {k : Refusal} → r ≡ Refused k → Ends (chop_from most_halvings s (places out₀) first (slice from end (all_points path)) (points n out₀)) out' (Refused k)
+      pub chopping-refused : {k : Refusal} → r ≡ Err k → Ends (chop_from most_halvings s (places out₀) first (slice from end (all_points path)) (points n out₀)) out' (Err k)
       chopping-refused t =
-          refuses out' (sym h.left ∙ onward ∙ ap (λ (x : Answer (List Vector)). next x (chop_from most_halvings s (places out₀) b (slice (i + 1) end (all_points path)))) (ends-refused w t))
+          refuses out' (sym h.left ∙ onward ∙ ap (λ (x : Result (List Vector) Refusal). next x (chop_from most_halvings s (places out₀) b (slice (i + 1) end (all_points path)))) (ends-refused w t))
 
-    pub chopping-end : end ≤ i → Ends (chop_from most_halvings s (places out₀) first (slice from end (all_points path)) (points n out₀)) out (At m)
+    pub chopping-end : end ≤ i → Ends (chop_from most_halvings s (places out₀) first (slice from end (all_points path)) (points n out₀)) out (Ok m)
     unfolding chop_from
     chopping-end l =
         let e : i ≡ end = omega (arith, h.upto) in
@@ -168,7 +164,7 @@ module _ (s : Screen) (path out₀ : List Float) (first : Spot) (from end n : �
 
 -- ---- a whole path: empty, or its first point and then the segments
 module _ (s : Screen) (path : List Float) (from end room : ℕ) (vs : List Vector) where
-  pub chop-none : from ≤ end → end ≤ from → path_chop most_halvings s room (slice from end (all_points path)) vs ≡ answered vs
+  pub chop-none : from ≤ end → end ≤ from → path_chop most_halvings s room (slice from end (all_points path)) vs ≡ Ok vs
   unfolding path_chop
   chop-none h l = let e : from ≡ end = omega arith in rw (e, slice_empty end (all_points path))
 
@@ -178,16 +174,16 @@ module _ (s : Screen) (path : List Float) (from end room : ℕ) (vs : List Vecto
   chop-some v b l fit e eb = rw (part-cons path from end fit v l e, ← eb)
 
 -- ---- the public call
-module _ (view : View) (xs : List Float) (ss : List ℕ) (room startRoom : ℕ) (b : Bool) (eb : b ≡ view_ok view) (v : Judgement) (ev : v ≡ paths_judged xs ss b) where
-  pub call-refused : {k : Refusal} → v ≡ NotFine k → refused k ≡ chop_call view xs ss room startRoom
+module _ (view : View) (xs : List Float) (ss : List ℕ) (room startRoom : ℕ) (b : Bool) (eb : b ≡ view_ok view) (v : Result ⊤ Refusal) (ev : v ≡ paths_judged xs ss b) where
+  pub call-refused : {k : Refusal} → v ≡ Err k → Err k ≡ chop_call view xs ss room startRoom
   unfolding call_upto
   call-refused e = unless-refused (chop_paths (args_of view) (all_points xs) ss room startRoom) e ∙ rw (ev, eb)
 
-  pub call-fine : (a : RenderArgs) → a ≡ args_of view → v ≡ Fine → chop_paths a (all_points xs) ss room startRoom ≡ chop_call view xs ss room startRoom
+  pub call-fine : (a : RenderArgs) → a ≡ args_of view → v ≡ Ok tt → chop_paths a (all_points xs) ss room startRoom ≡ chop_call view xs ss room startRoom
   unfolding call_upto
   call-fine a ea e = rw ea (unless-fine (chop_paths (args_of view) (all_points xs) ss room startRoom) e ∙ rw (ev, eb))
 
 -- the screen is made once
-pub chopped-as : (a : RenderArgs) (vs : List Vector) (ss : List ℕ) (room startRoom : ℕ) {s : Screen} {ys : List Float} {us : List ℕ} {r : Counts} → s ≡ screen_of a
+pub chopped-as : (a : RenderArgs) (vs : List Vector) (ss : List ℕ) (room startRoom : ℕ) {s : Screen} {ys : List Float} {us : List ℕ} {r : Result (ℕ × ℕ) Refusal} → s ≡ screen_of a
     → EndsBoth (stage (one_path (path_chop most_halvings s)) vs ss room startRoom) ys us r → EndsBoth (chop_paths a vs ss room startRoom) ys us r
 chopped-as a vs ss room startRoom {ys = ys} {us = us} {r = r} e w = subst (λ (x : Screen). EndsBoth (stage (one_path (path_chop most_halvings x)) vs ss room startRoom) ys us r) e w

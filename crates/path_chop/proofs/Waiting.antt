@@ -11,11 +11,13 @@ use lib.Ieee.{Float}
 use Rattle.geometry.specs.declared.vector.Vector.{Vector}
 use Rattle.rows.specs.Rows.{row, set_row}
 use Rattle.rows.proofs.Rows.{row_same, row_other}
-use Rattle.paths.specs.Answers.{Answer, answered, refused, next}
+use Rattle.paths.specs.Answers.{next}
 use Rattle.path_chop.specs.declared.Screen.{Screen}
 use Rattle.path_chop.specs.declared.Spot.{Spot}
 use Rattle.path_chop.specs.Chop.{subdivide, most_halvings}
 use Rattle.path_chop.specs.Waits.{spot_in, spot_row}
+use Rattle.std.specs.Prelude.{Err, Ok, Result}
+use Rattle.refusals.specs.declared.Refusal.{Refusal}
 
 -- an end that waits, with how many halvings are left for the piece that leads to it
 pub record Wait : Type 0 where
@@ -28,8 +30,8 @@ waiting es ls zero = []
 waiting es ls (suc k) = record { end = spot_in (row 6 k es); left = get_or ls k 0 } ∷ waiting es ls k
 
 -- the pieces that lead from a spot to each of them in turn
-unfoldable pub ahead : Screen → ℕ → List Wait → Spot → List Vector → Answer (List Vector)
-ahead s room [] from vs = answered vs
+unfoldable pub ahead : Screen → ℕ → List Wait → Spot → List Vector → Result (List Vector) Refusal
+ahead s room [] from vs = Ok vs
 ahead s room (w ∷ ws) from vs = next (subdivide s room w.left from w.end vs) (λ (us : List Vector). ahead s room ws w.end us)
 
 -- how many turns a piece takes at most, and all that wait
@@ -105,10 +107,10 @@ module _ (es : List Float) (ls : List ℕ) (k left : ℕ) where
   turns_more es' ls' p fit fit' ee el h = rw (waiting-more es ls k p (left - 1) es' ls' fit fit' ee el) (omega (arith, turns-halved left h))
 
 -- ---- one after the other
-pub next-next : {A : Type 0} (a : Answer A) (f g : A → Answer A) → next (next a f) g ≡ next a (λ (x : A). next (f x) g)
-next-next (answered x) f g = refl
-next-next (refused k) f g = refl
+pub next-next : {A : Type 0} (a : Result A Refusal) (f g : A → Result A Refusal) → next (next a f) g ≡ next a (λ (x : A). next (f x) g)
+next-next (Ok x) f g = refl
+next-next (Err k) f g = refl
 
-pub next-none : {A : Type 0} (a : Answer A) → next a (λ (x : A). answered x) ≡ a
-next-none (answered x) = refl
-next-none (refused k) = refl
+pub next-none : {A : Type 0} (a : Result A Refusal) → next a (λ (x : A). Ok x) ≡ a
+next-none (Ok x) = refl
+next-none (Err k) = refl

@@ -13,7 +13,7 @@ ghost use Rattle.path_chop.specs.Waits.{spot_in, spot_row};
 use geometry::bounding_box::BBox;
 use geometry::vector::Vector;
 use matrix::Matrix;
-use paths::{Count, Counts, Judgement};
+use refusals::Refusal;
 use view::{RenderArgs, View};
 
 // What the stop rule looks at: the matrix to the sheet, its width and height, and the step squared.
@@ -150,7 +150,7 @@ fn subdivide(
     lefts: &mut [usize; 37],
     out: &mut [f64],
     n: usize,
-) -> Count
+) -> Result<usize, Refusal>
     requires { n * 3 ≤ length out.old }
     ensures { Ends (Chop.subdivide s (places out.old) Chop.most_halvings a b (points n out.old)) out.new result }
 {
@@ -159,6 +159,7 @@ fn subdivide(
     let mut left = 37;
     let mut m = n;
     let mut k = 0;
+    // no `for`: the ends that wait grow and shrink
     loop {
         if !done(s, from, to, left) {
             left -= 1;
@@ -168,15 +169,9 @@ fn subdivide(
             continue;
         }
         let p = to.at;
-        let r = paths::push(out, m, p);
-        match r {
-            Count::Refused(e) => return Count::Refused(e),
-            Count::At(q) => {
-                m = q;
-            }
-        }
+        m = paths::push(out, m, p)?;
         if k == 0 {
-            return Count::At(m);
+            return Ok(m);
         }
         k -= 1;
         from = to;
@@ -196,27 +191,19 @@ fn chop_from(
     lefts: &mut [usize; 37],
     out: &mut [f64],
     n: usize,
-) -> Count
+) -> Result<usize, Refusal>
     requires { (from ≤ end) × (end * 3 ≤ length path.now) × (n * 3 ≤ length out.old) }
     ensures { Ends (Chop.chop_from Chop.most_halvings s (places out.old) first (slice from end (all_points path.now)) (points n out.old)) out.new result }
 {
     let mut a = first;
-    let mut i = from;
     let mut m = n;
-    while i < end {
+    for i in from..end {
         let v = rows::read_point(path, i);
         let b = spot_of(s, v);
-        let r = subdivide(s, a, b, ends, lefts, out, m);
-        match r {
-            Count::Refused(k) => return Count::Refused(k),
-            Count::At(q) => {
-                m = q;
-            }
-        }
+        m = subdivide(s, a, b, ends, lefts, out, m)?;
         a = b;
-        i += 1;
     }
-    Count::At(m)
+    Ok(m)
 }
 
 fn path_chop_adaptive(
@@ -228,20 +215,17 @@ fn path_chop_adaptive(
     lefts: &mut [usize; 37],
     out: &mut [f64],
     n: usize,
-) -> Count
+) -> Result<usize, Refusal>
     requires { (from ≤ end) × (end * 3 ≤ length path.now) × (n * 3 ≤ length out.old) }
     ensures { Ends (Chop.path_chop Chop.most_halvings s (places out.old) (slice from end (all_points path.now)) (points n out.old)) out.new result }
 {
     if end <= from {
-        return Count::At(n);
+        return Ok(n);
     }
     let v = rows::read_point(path, from);
     let a = spot_of(s, v);
-    let r = paths::push(out, n, v);
-    match r {
-        Count::Refused(k) => Count::Refused(k),
-        Count::At(q) => chop_from(s, path, a, from + 1, end, ends, lefts, out, q),
-    }
+    let q = paths::push(out, n, v)?;
+    chop_from(s, path, a, from + 1, end, ends, lefts, out, q)
 }
 
 // A path is opened, chopped and closed.
@@ -256,24 +240,14 @@ fn one_path(
     begins: &mut [usize],
     n: usize,
     m: usize,
-) -> Counts
+) -> Result<(usize, usize), Refusal>
     requires { (from ≤ end) × (end * 3 ≤ length path.now) × (n * 3 ≤ length out.old) × (m ≤ length begins.old) }
     ensures { EndsBoth (one_path (Chop.path_chop Chop.most_halvings s) (places out.old) (length begins.old) (slice from end (all_points path.now)) (held n out.old m begins.old)) out.new begins.new result }
 {
-    let o = paths::new_path(begins, m, n);
-    match o {
-        Count::Refused(k) => Counts::Refused(k),
-        Count::At(q) => {
-            let r = path_chop_adaptive(s, path, from, end, ends, lefts, out, n);
-            match r {
-                Count::Refused(k) => Counts::Refused(k),
-                Count::At(l) => {
-                    let z = paths::close(begins, q, l);
-                    Counts::Both(l, z)
-                }
-            }
-        }
-    }
+    let q = paths::new_path(begins, m, n)?;
+    let l = path_chop_adaptive(s, path, from, end, ends, lefts, out, n)?;
+    let z = paths::close(begins, q, l);
+    Ok((l, z))
 }
 
 // Each path in turn, from the first places of `out` and `begins` on.
@@ -283,7 +257,7 @@ pub fn chop_paths(
     starts: &[usize],
     out: &mut [f64],
     begins: &mut [usize],
-) -> Counts
+) -> Result<(usize, usize), Refusal>
     ensures { EndsBoth (Chop.chop_paths args (all_points path.now) starts.now (places out.old) (length begins.old)) out.new begins.new result }
 {
     let s = screen_of(args);
@@ -292,22 +266,13 @@ pub fn chop_paths(
     let total = path.len() / 3;
     let mut n = 0;
     let mut m = 0;
-    let mut i = 0;
-    while i < starts.len() {
+    for i in 0..starts.len() {
         let p = paths::range_of(starts, i, total);
-        let r = one_path(
+        (n, m) = one_path(
             s, path, p.from, p.end, &mut ends, &mut lefts, out, begins, n, m,
-        );
-        match r {
-            Counts::Refused(k) => return Counts::Refused(k),
-            Counts::Both(a, b) => {
-                n = a;
-                m = b;
-            }
-        }
-        i += 1;
+        )?;
     }
-    Counts::Both(n, m)
+    Ok((n, m))
 }
 
 // The paths chopped for a view, in `out` and `begins`, and then zeros; or why it is refused, and zeros
@@ -318,13 +283,13 @@ pub fn chop_adaptive(
     starts: &[usize],
     out: &mut [f64],
     begins: &mut [usize],
-) -> Counts
+) -> Result<(usize, usize), Refusal>
     ensures { Finished (Chop.chop_call view path.now starts.now (places out.old) (length begins.old)) (length out.old) (length begins.old) out.new begins.new result }
 {
     let v = paths::judge(path, starts, view.is_ok());
     match v {
-        Judgement::Refused(k) => paths::finish(out, begins, Counts::Refused(k)),
-        Judgement::Fine => {
+        Err(k) => paths::finish(out, begins, Err(k)),
+        Ok(()) => {
             let r = chop_paths(view.args(), path, starts, out, begins);
             paths::finish(out, begins, r)
         }

@@ -6,38 +6,28 @@ ghost use Rattle.paths.specs.Ends.{places, held, EndsBoth};
 ghost use Rattle.path_filter.specs.Filter.{stepped};
 
 use geometry::vector::Vector;
-use paths::{Count, Counts};
 use refusals::Refusal;
 
-// What a test makes of a point: kept, as what; dropped; or why it is refused.
-#[derive(Clone, Copy)]
-pub enum Test {
-    Keep(Vector),
-    Drop,
-    Refused(Refusal),
-}
-
 // After n points and m starts: a kept point is pushed; a dropped one closes the path and opens another.
-pub fn step(t: Test, out: &mut [f64], begins: &mut [usize], n: usize, m: usize) -> Counts
+pub fn step(
+    t: Result<Option<Vector>, Refusal>,
+    out: &mut [f64],
+    begins: &mut [usize],
+    n: usize,
+    m: usize,
+) -> Result<(usize, usize), Refusal>
     requires { (n * 3 ≤ length out.old) × (m ≤ length begins.old) }
     ensures { EndsBoth (stepped (places out.old) (length begins.old) t (held n out.old m begins.old)) out.new begins.new result }
 {
-    match t {
-        Test::Refused(k) => Counts::Refused(k),
-        Test::Keep(v) => {
-            let r = paths::push(out, n, v);
-            match r {
-                Count::Refused(k) => Counts::Refused(k),
-                Count::At(q) => Counts::Both(q, m),
-            }
+    match t? {
+        Some(v) => {
+            let q = paths::push(out, n, v)?;
+            Ok((q, m))
         }
-        Test::Drop => {
+        None => {
             let z = paths::close(begins, m, n);
-            let r = paths::new_path(begins, z, n);
-            match r {
-                Count::Refused(k) => Counts::Refused(k),
-                Count::At(q) => Counts::Both(n, q),
-            }
+            let q = paths::new_path(begins, z, n)?;
+            Ok((n, q))
         }
     }
 }

@@ -66,12 +66,10 @@ fn farthest(path: &[f64], from: usize, end: usize) -> Far
         distance: 0.0,
     };
     let mut best = FarSquare { far, square: 0.0 };
-    let mut i = 1;
-    while i < last {
+    for i in 1..last {
         let p = rows::read_point(path, from + i);
         let q = p.segment_square(a, b);
         best = tried(best, i, q);
-        i += 1;
     }
     best.far
 }
@@ -87,18 +85,15 @@ pub fn greatest_square(path: &[f64], from: usize, end: usize) -> Peak
     let mut index = 0;
     let mut square = 0.0;
     let mut lower = 0.0;
-    let mut i = 1;
-    while i < last {
+    for i in 1..last {
         let p = rows::read_point(path, from + i);
         let q = p.segment_square(a, b);
         if !(q > square) {
-            i += 1;
             continue;
         }
         lower = square;
         square = q;
         index = i;
-        i += 1;
     }
     Peak {
         index,

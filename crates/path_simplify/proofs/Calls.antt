@@ -2,7 +2,7 @@
 use mathlib.Core.Path.{◌≡◌, refl, sym, ap, ◌∙◌, subst}
 use mathlib.Core.Bool.{Bool, true, false}
 use mathlib.Core.List.{List, [], ◌∷◌, map}
-use Prim.Native.Nat.{ℕ, ◌+◌, ◌-◌, ◌<◌}
+use Prim.Native.Nat.{ℕ, ◌+◌, ◌<◌}
 use native.Mathlib.Omega.{arith}
 use lib.Dec.{T}
 use lib.ListN.{length, take, length-take, length-drop}
@@ -14,14 +14,9 @@ use Rattle.geometry.specs.declared.vector.Vector.{Vector}
 use Rattle.refusals.specs.declared.Refusal.{Refusal}
 use Rattle.rows.specs.Points.{points}
 use Rattle.rows.specs.Starts.{next_start}
-use Rattle.paths.specs.Answers.{answered, refused}
 use Rattle.paths.specs.Paths.{Paths, no_paths, paths_of, each, stage, with_points}
 use Rattle.paths.specs.Ends.{all_points, nowhere, held, Finished}
 use Rattle.paths.specs.Judged.{points_ok, paths_judged, unless}
-use Rattle.paths.specs.declared.Counts.{Counts}
-use Rattle.paths.specs.declared.Counts.TheVariants.{Both}
-use Rattle.paths.specs.declared.Judgement.{Judgement}
-use Rattle.paths.specs.declared.Judgement.TheVariants.{Fine, Refused}
 use Rattle.paths.proofs.Judging.{judged-passed, points-within, handed-all, unless-refused, unless-fine}
 use Rattle.paths.proofs.Closing.{finished-held}
 use Rattle.paths.proofs.Adding.{extend-adds, stage-made}
@@ -32,21 +27,22 @@ use Rattle.path_rdp.proofs.Keeping.{simplified-keeps}
 use Rattle.path_simplify.specs.Simplify.{path_simplify, simplify_paths, simplify_call}
 use Rattle.path_simplify.specs.Kept.{Kept}
 use Rattle.lists.specs.Lists.{Pairwise}
+use Rattle.std.specs.Prelude.{Err, Ok, Result, ⊤}
 
 holds : (b : Bool) → b ≡ true → T b
 holds b e = subst T (sym e) tt
 
 -- ---- the verdict, and the stage
-module _ (xs : List Float) (ss : List ℕ) (t : Float) (b : Bool) (eb : b ≡ threshold_ok t) (v : Judgement) (ev : v ≡ paths_judged xs ss b) where
-  pub call-refused : (room startRoom : ℕ) {k : Refusal} → v ≡ Refused k → refused k ≡ simplify_call xs ss t room startRoom
+module _ (xs : List Float) (ss : List ℕ) (t : Float) (b : Bool) (eb : b ≡ threshold_ok t) (v : Result ⊤ Refusal) (ev : v ≡ paths_judged xs ss b) where
+  pub call-refused : (room startRoom : ℕ) {k : Refusal} → v ≡ Err k → Err k ≡ simplify_call xs ss t room startRoom
   unfolding simplify_call
   call-refused room startRoom e = unless-refused (simplify_paths t (all_points xs) ss room startRoom) e ∙ rw (ev, eb)
 
-  pub call-fine : (room startRoom : ℕ) → v ≡ Fine → simplify_paths t (all_points xs) ss room startRoom ≡ simplify_call xs ss t room startRoom
+  pub call-fine : (room startRoom : ℕ) → v ≡ Ok tt → simplify_paths t (all_points xs) ss room startRoom ≡ simplify_call xs ss t room startRoom
   unfolding simplify_call
   call-fine room startRoom e = unless-fine (simplify_paths t (all_points xs) ss room startRoom) e ∙ rw (ev, eb)
 
-  pub fine-low : v ≡ Fine → lt t zero_f ≡ false
+  pub fine-low : v ≡ Ok tt → lt t zero_f ≡ false
   fine-low e = not_low t (holds (threshold_ok t) (sym eb ∙ (judged-passed xs ss b (sym ev ∙ e)).nice))
 
 -- ---- demand 3
@@ -76,7 +72,7 @@ part-accepted t vs s e ok = record { threshold = ok.threshold; within = λ i h. 
         rw (get_or-drop s (take e vs) i nowhere, get_or-take e vs (s + i) nowhere (omega arith)) (ok.within (s + i) (omega arith))
 
 -- the paths that are left of accepted points: one for each that has points, with all three parts of the demand
-pub paths-kept : (t : Float) → T (threshold_ok t) → (vs : List Vector) → points_ok vs ≡ true → (ss : List ℕ) (room startRoom : ℕ) (o : Paths) → simplify_paths t vs ss room startRoom ≡ answered o
+pub paths-kept : (t : Float) → T (threshold_ok t) → (vs : List Vector) → points_ok vs ≡ true → (ss : List ℕ) (room startRoom : ℕ) (o : Paths) → simplify_paths t vs ss room startRoom ≡ Ok o
     → Pairwise (λ (p q : List Vector). Accepted t p × Simplifies t p q) (with_points (paths_of vs ss)) (paths_of o.vertices o.starts)
 paths-kept t fair vs near ss room startRoom o e =
     let low = not_low t fair in
@@ -87,24 +83,24 @@ paths-kept t fair vs near ss room startRoom o e =
     (λ a b l. (part-accepted t vs a b ok, simplified-keeps t (slice a b vs) l)) ss)
 
 module _ (xs : List Float) (t : Float) (room startRoom : ℕ) (o : Paths) where
-  fine-kept : (ss : List ℕ) → paths_judged xs ss (threshold_ok t) ≡ Fine → simplify_paths t (all_points xs) ss room startRoom ≡ answered o → Kept t xs ss o.vertices o.starts
+  fine-kept : (ss : List ℕ) → paths_judged xs ss (threshold_ok t) ≡ Ok tt → simplify_paths t (all_points xs) ss room startRoom ≡ Ok o → Kept t xs ss o.vertices o.starts
   unfolding stage each paths_of with_points Pairwise
   fine-kept [] j e = let q : no_paths ≡ o = cc in subst (λ (x : Paths). Kept t xs [] x.vertices x.starts) q tt
   fine-kept (s ∷ ss) j e =
       let w = judged-passed xs (s ∷ ss) (threshold_ok t) j in
       paths-kept t (holds (threshold_ok t) w.nice) (all_points xs) (subst (λ (vs : List Vector). points_ok vs ≡ true) (handed-all xs (s ∷ ss) (λ q. omega arith)) w.near) (s ∷ ss) room startRoom o e
 
-  pub call_kept : (ss : List ℕ) → simplify_call xs ss t room startRoom ≡ answered o → Kept t xs ss o.vertices o.starts
+  pub call_kept : (ss : List ℕ) → simplify_call xs ss t room startRoom ≡ Ok o → Kept t xs ss o.vertices o.starts
   unfolding simplify_call unless
   call_kept ss e = by (paths_judged xs ss (threshold_ok t)) (fine-kept ss) e
     where
-      by : (v : Judgement) → (v ≡ Fine → simplify_paths t (all_points xs) ss room startRoom ≡ answered o → Kept t xs ss o.vertices o.starts)
-          → unless v (simplify_paths t (all_points xs) ss room startRoom) ≡ answered o → Kept t xs ss o.vertices o.starts
-      by Fine h q = h refl q
-      by (Refused k) h q = let z : ◌≡◌ {A = ℕ} 0 1 = cc in absurd (omega arith)
+      by : (v : Result ⊤ Refusal) → (v ≡ Ok tt → simplify_paths t (all_points xs) ss room startRoom ≡ Ok o → Kept t xs ss o.vertices o.starts)
+          → unless v (simplify_paths t (all_points xs) ss room startRoom) ≡ Ok o → Kept t xs ss o.vertices o.starts
+      by (Ok tt) h q = h refl q
+      by (Err k) h q = let z : ◌≡◌ {A = ℕ} 0 1 = cc in absurd (omega arith)
 
 -- a call that ends as it has to leaves what the demand asks for
-pub call_ends : (xs : List Float) (ss : List ℕ) (t : Float) (room startRoom n m : ℕ) {ys : List Float} {us : List ℕ} {r : Counts} → Finished (simplify_call xs ss t room startRoom) n m ys us r
-    → Finished (simplify_call xs ss t room startRoom) n m ys us r × ((i j : ℕ) → r ≡ Both i j → Kept t xs ss (points i ys) (take j us))
+pub call_ends : (xs : List Float) (ss : List ℕ) (t : Float) (room startRoom n m : ℕ) {ys : List Float} {us : List ℕ} {r : Result (ℕ × ℕ) Refusal} → Finished (simplify_call xs ss t room startRoom) n m ys us r
+    → Finished (simplify_call xs ss t room startRoom) n m ys us r × ((i j : ℕ) → r ≡ Ok (i, j) → Kept t xs ss (points i ys) (take j us))
 call_ends xs ss t room startRoom n m {ys} {us} w =
     (w, λ i j e. call_kept xs t room startRoom (held i ys j us) ss (finished-held (simplify_call xs ss t room startRoom) n m w e))

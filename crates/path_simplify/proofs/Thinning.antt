@@ -16,11 +16,8 @@ use Rattle.refusals.specs.declared.Refusal.TheVariants.{Room}
 use Rattle.rows.specs.Rows.{row, set_row}
 use Rattle.rows.specs.Points.{points, point_of, point_row}
 use Rattle.rows.proofs.Rows.{view-written, get_d-view}
-use Rattle.paths.specs.Answers.{answered}
 use Rattle.paths.specs.Paths.{push_all, front}
 use Rattle.paths.specs.Ends.{places, all_points, nowhere, Ends}
-use Rattle.paths.specs.declared.Count.{Count}
-use Rattle.paths.specs.declared.Count.TheVariants.{At, Refused}
 use Rattle.paths.proofs.Ending.{ends_as, refuses, answers}
 use Rattle.paths.proofs.Parts.{length-points, part_length, part-last}
 use Rattle.paths.proofs.Runs.{extend_fits, extend-full}
@@ -31,6 +28,8 @@ use Rattle.path_rdp.proofs.Splitting.{simplified-short}
 use Rattle.path_simplify.specs.Simplify.{split_place}
 use Rattle.path_simplify.proofs.Kept.{simplified-ended, Splits, Ways, ways}
 use Rattle.path_simplify.proofs.Places.{place-no-nan, place-back, Held, held-sets, held_more, points_kept, Rising, rising-room, rest, rest_some, rest-split, rest-step}
+use Rattle.std.specs.Prelude.{Err, Ok, Result}
+use Rattle.refusals.specs.declared.Refusal.{Refusal}
 
 -- ---- where the code splits
 module _ (t : Float) (path : List Float) (a b : ℕ) (fit : b * 3 + 3 ≤ length path) where
@@ -70,7 +69,7 @@ lower b bs out g = g.1
 -- the last vertex is written
 last_one : (t : Float) (path out₀ : List Float) (n : ℕ) (vs : List Vector) (out : List Float) (a m : ℕ) {end : ℕ} → length out ≡ length out₀ → m * 3 + 3 ≤ length out → a < end → end * 3 ≤ length path
     → points m out ++ rest t (all_points path) a [] ≡ points n out₀ ++ vs → (p : Vector) → p ≡ point_of (row 3 a path) → (out' : List Float) → out' ≡ set_row 3 m (point_row p) out
-    → Ends (push_all (places out₀) (points n out₀) vs) out' (At (m + 1))
+    → Ends (push_all (places out₀) (points n out₀) vs) out' (Ok (m + 1))
 unfolding rest
 last_one t path out₀ n vs out a m same fits l fit left p ep out' e =
     let v : vertex (all_points path) a ≡ p = get_d-view 3 point_of (places path) a path nowhere (omega arith) ∙ sym ep in
@@ -78,7 +77,7 @@ last_one t path out₀ n vs out a m same fits l fit left p ep out' e =
     let k : length (points m out) + 1 ≡ length (points n out₀) + length vs = sym (length-append (points m out) (p ∷ [])) ∙ ap length all ∙ length-append (points n out₀) vs in
     rw e (answers (m + 1) (set_row 3 m (point_row p) out)
     (extend_fits (places out₀) (points n out₀) vs (omega (arith, length-points m out))
-    ∙ ap answered (sym all ∙ sym (view-written 3 point_of m (point_row p) out refl fits)))
+    ∙ ap Ok (sym all ∙ sym (view-written 3 point_of m (point_row p) out refl fits)))
     (simp length-sets (omega arith)))
 
 -- ---- the points before place m are written; place a and the places that wait are kept, and have room
@@ -113,7 +112,7 @@ module _ (t : Float) (low : lt t zero_f ≡ false) (path out₀ : List Float) (f
   few f = rw (length-points n out₀) (omega arith)
 
   -- ---- before the loop
-  pub thinning-short : end - from < 2 → (zs : List Float) {r : Count} → Ends (push_all (places out₀) (points n out₀) (slice from end A)) zs r → Ends (push_all (places out₀) (points n out₀) S) zs r
+  pub thinning-short : end - from < 2 → (zs : List Float) {r : Result ℕ Refusal} → Ends (push_all (places out₀) (points n out₀) (slice from end A)) zs r → Ends (push_all (places out₀) (points n out₀) S) zs r
   thinning-short h zs w =
       ends_as (ap (push_all (places out₀) (points n out₀)) (simplified-short t low (slice from end A) (omega (arith, part_length path from end fit)))) w
 
@@ -121,7 +120,7 @@ module _ (t : Float) (low : lt t zero_f ≡ false) (path out₀ : List Float) (f
     whole : 2 ≤ length (slice from end A)
     whole = rw (part_length path from end fit) some
 
-    pub thinning-none : places out₀ - n < 2 → Ends (push_all (places out₀) (points n out₀) S) out₀ (Refused Room)
+    pub thinning-none : places out₀ - n < 2 → Ends (push_all (places out₀) (points n out₀) S) out₀ (Err Room)
     thinning-none h =
         refuses out₀ (extend-full (places out₀) (points n out₀) S (few fit₀) (omega (arith, length-points n out₀, (simplified-ended t low (slice from end A) whole).two)))
 
@@ -152,7 +151,7 @@ module _ (t : Float) (low : lt t zero_f ≡ false) (path out₀ : List Float) (f
           }
 
       -- what the loop leaves is what the whole has to
-      pub thinning-back : (zs : List Float) {r : Count} → Ends (push_all (places out₁) (points n out₁) S) zs r → Ends (push_all (places out₀) (points n out₀) S) zs r
+      pub thinning-back : (zs : List Float) {r : Result ℕ Refusal} → Ends (push_all (places out₁) (points n out₁) S) zs r → Ends (push_all (places out₀) (points n out₀) S) zs r
       thinning-back zs w =
           ends_as (sym (ap₂ (λ (l : ℕ) (vs : List Vector). push_all (l / 3) vs S) start-length
           (ap (points n) e ∙ points_kept n out₀ (length out₀ - 0 - 1) (of_bits binary64 (end - 1)) (omega arith) fit₀))) w
@@ -250,7 +249,7 @@ module _ (t : Float) (low : lt t zero_f ≡ false) (path out₀ : List Float) (f
               })
 
           -- the places that wait do not have room
-          pub thinning-full : room ≤ m + w + 1 → Ends (push_all (places out₀) (points n out₀) S) out (Refused Room)
+          pub thinning-full : room ≤ m + w + 1 → Ends (push_all (places out₀) (points n out₀) S) out (Err Room)
           thinning-full l =
               let c = thinning-next.count in
               let r = rest_some t low path a (s ∷ b ∷ thinning-next.others) end fit split-rising in
@@ -282,9 +281,9 @@ module _ (t : Float) (low : lt t zero_f ≡ false) (path out₀ : List Float) (f
             by (inr z) = absurd (omega (arith, z.after))
 
     -- ---- after it
-    pub thinning-end : w ≤ 0 → (p : Vector) → p ≡ point_of (row 3 a path) → (out' : List Float) → out' ≡ set_row 3 m (point_row p) out → Ends (push_all (places out₀) (points n out₀) S) out' (At (m + 1))
+    pub thinning-end : w ≤ 0 → (p : Vector) → p ≡ point_of (row 3 a path) → (out' : List Float) → out' ≡ set_row 3 m (point_row p) out → Ends (push_all (places out₀) (points n out₀) S) out' (Ok (m + 1))
     thinning-end z p ep out' e = by h.ends h.count h.left
       where
-        by : (es : List ℕ) → w ≡ length es → points m out ++ rest t A a es ≡ points n out₀ ++ S → Ends (push_all (places out₀) (points n out₀) S) out' (At (m + 1))
+        by : (es : List ℕ) → w ≡ length es → points m out ++ rest t A a es ≡ points n out₀ ++ S → Ends (push_all (places out₀) (points n out₀) S) out' (Ok (m + 1))
         by (b ∷ bs) c l = absurd (omega arith)
         by [] c l = last_one t path out₀ n S out a m h.same (omega (arith, h.fits)) low-place fit l p ep out' e

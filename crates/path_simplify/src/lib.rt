@@ -1,7 +1,7 @@
 // Simplification of paths by Ramer, Douglas and Peucker.
 #![tactic(auto)]
 
-ghost use Rattle.std.specs.Prelude.{◌≡◌, false, not, ℕ, ◌+◌, ◌-◌, ◌*◌, ◌≤◌, ◌<◌, T, length, take, get_or, set};
+ghost use Rattle.std.specs.Prelude.{◌≡◌, false, not, ℕ, ◌+◌, ◌-◌, ◌*◌, ◌≤◌, ◌<◌, T, length, take, get_or, set, Ok};
 ghost use Rattle.std.proofs.Math.Seq.{slice};
 ghost use Rattle.std.specs.Float.Ieee.{lt, is_nan, of_bits, to_bits};
 ghost use Rattle.std.specs.Float.{nan, binary64};
@@ -10,12 +10,10 @@ ghost use Rattle.sqrt.specs.Root.{sqrt_of};
 ghost use Rattle.rows.specs.Points.{points};
 ghost use Rattle.paths.specs.Paths.{one_path};
 ghost use Rattle.paths.specs.Ends.{places, all_points, Ends, held, EndsBoth, Finished};
-ghost use Rattle.paths.specs.declared.Counts.TheVariants.{Both};
 ghost use Rattle.path_simplify.specs.Simplify.{split_place, path_simplify, simplify_paths, simplify_call};
 ghost use Rattle.path_simplify.specs.Kept.{Kept};
 
 use geometry::vector::Vector;
-use paths::{Count, Counts, Judgement};
 use refusals::Refusal;
 
 // A place of the path waits as a bit pattern, in the cell that has w waiting ones after it.
@@ -79,7 +77,7 @@ pub fn path_simplify(
     threshold: f64,
     out: &mut [f64],
     n: usize,
-) -> Count
+) -> Result<usize, Refusal>
     requires { (from ≤ end) × (end * 3 ≤ length path.now) × (n * 3 ≤ length out.old) × (lt threshold zero_f ≡ false) }
     ensures { Ends (path_simplify threshold (places out.old) (slice from end (all_points path.now)) (points n out.old)) out.new result }
 {
@@ -88,19 +86,20 @@ pub fn path_simplify(
     }
     let room = out.len() / 3;
     if room - n < 2 {
-        return Count::Refused(Refusal::Room);
+        return Err(Refusal::Room);
     }
     let low = low_square(threshold);
     wait(out, 0, end - 1);
     let mut a = from;
     let mut m = n;
     let mut w = 1;
+    // no `for`: the places that wait grow and shrink
     while 0 < w {
         let b = waiting(out, w);
         let s = split(path, a, b, threshold, low);
         if a < s {
             if room <= m + w + 1 {
-                return Count::Refused(Refusal::Room);
+                return Err(Refusal::Room);
             }
             wait(out, w, s);
             w += 1;
@@ -114,7 +113,7 @@ pub fn path_simplify(
     }
     let p = rows::read_point(path, a);
     rows::write_point(out, m, p);
-    Count::At(m + 1)
+    Ok(m + 1)
 }
 
 // A path is opened, simplified and closed.
@@ -127,24 +126,14 @@ fn one_path(
     begins: &mut [usize],
     n: usize,
     m: usize,
-) -> Counts
+) -> Result<(usize, usize), Refusal>
     requires { (from ≤ end) × (end * 3 ≤ length path.now) × (n * 3 ≤ length out.old) × (m ≤ length begins.old) × (lt threshold zero_f ≡ false) }
     ensures { EndsBoth (one_path (path_simplify threshold) (places out.old) (length begins.old) (slice from end (all_points path.now)) (held n out.old m begins.old)) out.new begins.new result }
 {
-    let o = paths::new_path(begins, m, n);
-    match o {
-        Count::Refused(k) => Counts::Refused(k),
-        Count::At(q) => {
-            let r = path_simplify(path, from, end, threshold, out, n);
-            match r {
-                Count::Refused(k) => Counts::Refused(k),
-                Count::At(l) => {
-                    let z = paths::close(begins, q, l);
-                    Counts::Both(l, z)
-                }
-            }
-        }
-    }
+    let q = paths::new_path(begins, m, n)?;
+    let l = path_simplify(path, from, end, threshold, out, n)?;
+    let z = paths::close(begins, q, l);
+    Ok((l, z))
 }
 
 // Each path in turn, from the first places of `out` and `begins` on.
@@ -154,27 +143,18 @@ pub fn simplify_paths(
     threshold: f64,
     out: &mut [f64],
     begins: &mut [usize],
-) -> Counts
+) -> Result<(usize, usize), Refusal>
     requires { lt threshold zero_f ≡ false }
     ensures { EndsBoth (simplify_paths threshold (all_points path.now) starts.now (places out.old) (length begins.old)) out.new begins.new result }
 {
     let total = path.len() / 3;
     let mut n = 0;
     let mut m = 0;
-    let mut i = 0;
-    while i < starts.len() {
+    for i in 0..starts.len() {
         let s = paths::range_of(starts, i, total);
-        let r = one_path(path, s.from, s.end, threshold, out, begins, n, m);
-        match r {
-            Counts::Refused(k) => return Counts::Refused(k),
-            Counts::Both(a, b) => {
-                n = a;
-                m = b;
-            }
-        }
-        i += 1;
+        (n, m) = one_path(path, s.from, s.end, threshold, out, begins, n, m)?;
     }
-    Counts::Both(n, m)
+    Ok((n, m))
 }
 
 // The paths simplified, in `out` and `begins`, and then zeros; or why it is refused, and zeros
@@ -185,14 +165,14 @@ pub fn simplify(
     threshold: f64,
     out: &mut [f64],
     begins: &mut [usize],
-) -> Counts
+) -> Result<(usize, usize), Refusal>
     ensures finished { Finished (simplify_call path.now starts.now threshold (places out.old) (length begins.old)) (length out.old) (length begins.old) out.new begins.new result }
-    ensures kept { (n m : ℕ) → result ≡ Both n m → Kept threshold path.now starts.now (points n out.new) (take m begins.new) }
+    ensures kept { (n m : ℕ) → result ≡ Ok (n, m) → Kept threshold path.now starts.now (points n out.new) (take m begins.new) }
 {
     let v = paths::judge(path, starts, path_rdp::threshold_ok(threshold));
     match v {
-        Judgement::Refused(k) => paths::finish(out, begins, Counts::Refused(k)),
-        Judgement::Fine => {
+        Err(k) => paths::finish(out, begins, Err(k)),
+        Ok(()) => {
             let r = simplify_paths(path, starts, threshold, out, begins);
             paths::finish(out, begins, r)
         }

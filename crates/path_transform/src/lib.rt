@@ -11,10 +11,8 @@ pub fn transform(matrix: Matrix, xs: &mut [f64], n: usize)
     requires { n * 3 ≤ length xs.old }
     ensures { xs.new ≡ transformed matrix n xs.old }
 {
-    let mut i = 0;
-    while i < n {
+    for i in 0..n {
         let p = rows::read_point(xs, i);
         rows::write_point(xs, i, matrix.mul_position(p));
-        i += 1;
     }
 }

@@ -2,7 +2,7 @@
 use mathlib.Core.Path.{◌≡◌, refl, sym, ap, ap₂, ◌∙◌, subst}
 use mathlib.Core.Bool.{Bool, true, false, cond}
 use mathlib.Core.List.{List, [], ◌∷◌, ◌++◌, map, append_assoc, append-nil}
-use Prim.Native.Nat.{ℕ, ◌+◌, ◌-◌, ◌≤◌, ◌<◌}
+use Prim.Native.Nat.{ℕ, ◌-◌, ◌≤◌, ◌<◌}
 use native.Mathlib.Omega.{arith}
 use borrow.Author.Tests.{ltb-true, lt-ltb, eq-eqb, ne_eqb}
 use lib.Dec.{ltb}
@@ -12,41 +12,42 @@ use Rattle.geometry.specs.declared.vector.Vector.{Vector}
 use Rattle.refusals.specs.declared.Refusal.{Refusal}
 use Rattle.refusals.specs.declared.Refusal.TheVariants.{Room}
 use Rattle.rows.specs.Starts.{next_start}
-use Rattle.paths.specs.Answers.{Answer, answered, refused, next}
+use Rattle.paths.specs.Answers.{next}
 use Rattle.paths.specs.Paths.{Paths, paths_with, no_paths, push, push_all, paths_of, opened, closed_starts, closed, one_path, each, stage, with_points}
 use Rattle.paths.proofs.Runs.{front-snoc}
+use Rattle.std.specs.Prelude.{Err, Ok, Result}
 
 -- ---- answers
-pub no_answer : {A B : Type 0} {x : A} (e : Refusal) → refused e ≡ answered x → B
+pub no_answer : {A B : Type 0} {x : A} (e : Refusal) → Err e ≡ Ok x → B
 no_answer e q = let z : ◌≡◌ {A = ℕ} 0 1 = cc in absurd (omega arith)
 
-pub same_answer : {A : Type 0} {x y : A} → ◌≡◌ {A = Answer A} (answered x) (answered y) → x ≡ y
+pub same_answer : {A : Type 0} {x y : A} → ◌≡◌ {A = Result A Refusal} (Ok x) (Ok y) → x ≡ y
 same_answer e = cc
 
 -- what came before an answer was answered too
-pub next-answered : {A B : Type 0} (a : Answer A) (f : A → Answer B) (y : B) → next a f ≡ answered y → (x : A) × (a ≡ answered x) × (f x ≡ answered y)
-next-answered (answered x) f y e = (x, refl, e)
-next-answered (refused k) f y e = no_answer k e
+pub next-answered : {A B : Type 0} (a : Result A Refusal) (f : A → Result B Refusal) (y : B) → next a f ≡ Ok y → (x : A) × (a ≡ Ok x) × (f x ≡ Ok y)
+next-answered (Ok x) f y e = (x, refl, e)
+next-answered (Err k) f y e = no_answer k e
 
-pub push-answered : {A : Type 0} (room : ℕ) (xs : List A) (x : A) (ys : List A) → push room xs x ≡ answered ys → ys ≡ xs ++ (x ∷ [])
+pub push-answered : {A : Type 0} (room : ℕ) (xs : List A) (x : A) (ys : List A) → push room xs x ≡ Ok ys → ys ≡ xs ++ (x ∷ [])
 unfolding push
 push-answered {A} room xs x ys e = by (ltb (length xs) room) e
   where
-    by : (t : Bool) → cond t (answered (xs ++ (x ∷ []))) (refused Room) ≡ answered ys → ys ≡ xs ++ (x ∷ [])
+    by : (t : Bool) → cond t (Ok (xs ++ (x ∷ []))) (Err Room) ≡ Ok ys → ys ≡ xs ++ (x ∷ [])
     by true q = cc
     by false q = no_answer Room q
 
-pub push-fits : {A : Type 0} (room : ℕ) (xs : List A) (x : A) (ys : List A) → push room xs x ≡ answered ys → length ys ≤ room
+pub push-fits : {A : Type 0} (room : ℕ) (xs : List A) (x : A) (ys : List A) → push room xs x ≡ Ok ys → length ys ≤ room
 unfolding push
 push-fits {A} room xs x ys e = by (ltb (length xs) room) refl e
   where
-    by : (t : Bool) → ltb (length xs) room ≡ t → cond t (answered (xs ++ (x ∷ []))) (refused Room) ≡ answered ys → length ys ≤ room
+    by : (t : Bool) → ltb (length xs) room ≡ t → cond t (Ok (xs ++ (x ∷ []))) (Err Room) ≡ Ok ys → length ys ≤ room
     by true l q =
         let k : length (xs ++ (x ∷ [])) ≡ length ys = (let z : xs ++ (x ∷ []) ≡ ys = cc in ap length z) in
         omega (arith, k, length-append xs (x ∷ []), ltb-true (length xs) room l)
     by false l q = no_answer Room q
 
-pub extend-adds : {A : Type 0} (room : ℕ) (vs xs ys : List A) → push_all room xs vs ≡ answered ys → ys ≡ xs ++ vs
+pub extend-adds : {A : Type 0} (room : ℕ) (vs xs ys : List A) → push_all room xs vs ≡ Ok ys → ys ≡ xs ++ vs
 unfolding push_all
 extend-adds room [] xs ys e = let q : xs ≡ ys = cc in sym q ∙ sym (append-nil xs)
 extend-adds {A} room (v ∷ vs) xs ys e =
@@ -127,23 +128,23 @@ added_more out o q ps qs a b = record {
 }
 
 -- ---- a stage whose work adds `made p` for a path p
-module _ (work : ℕ → List Vector → List Vector → Answer (List Vector)) (made : List Vector → List Vector)
-    (adds : (room : ℕ) (p vs us : List Vector) → work room p vs ≡ answered us → us ≡ vs ++ made p) (room startRoom : ℕ) where
-  one-adds : (p : List Vector) (out o : Paths) → Low (length out.vertices) out.starts → one_path work room startRoom p out ≡ answered o → Added out o (with_points (made p ∷ []))
+module _ (work : ℕ → List Vector → List Vector → Result (List Vector) Refusal) (made : List Vector → List Vector)
+    (adds : (room : ℕ) (p vs us : List Vector) → work room p vs ≡ Ok us → us ≡ vs ++ made p) (room startRoom : ℕ) where
+  one-adds : (p : List Vector) (out o : Paths) → Low (length out.vertices) out.starts → one_path work room startRoom p out ≡ Ok o → Added out o (with_points (made p ∷ []))
   unfolding one_path opened
   one-adds p out o h e =
       let v = out.vertices in
       let s = out.starts in
-      let a = next-answered (next (push startRoom s (length v)) (λ (ss : List ℕ). answered (paths_with v ss))) (λ (q : Paths). next (work room p q.vertices) (λ (us : List Vector). answered (closed (paths_with us q.starts)))) o e in
-      let b = next-answered (push startRoom s (length v)) (λ (ss : List ℕ). answered (paths_with v ss)) a.0 a.1 in
+      let a = next-answered (next (push startRoom s (length v)) (λ (ss : List ℕ). Ok (paths_with v ss))) (λ (q : Paths). next (work room p q.vertices) (λ (us : List Vector). Ok (closed (paths_with us q.starts)))) o e in
+      let b = next-answered (push startRoom s (length v)) (λ (ss : List ℕ). Ok (paths_with v ss)) a.0 a.1 in
       let q : a.0 ≡ paths_with v (s ++ (length v ∷ [])) = (let y : paths_with v b.0 ≡ a.0 = cc in sym y ∙ ap (paths_with v) (push-answered startRoom s (length v) b.0 b.1)) in
-      let c = next-answered (work room p a.0.vertices) (λ (us : List Vector). answered (closed (paths_with us a.0.starts))) o a.2 in
+      let c = next-answered (work room p a.0.vertices) (λ (us : List Vector). Ok (closed (paths_with us a.0.starts))) o a.2 in
       let u : c.0 ≡ v ++ made p = adds room p a.0.vertices c.0 c.1 ∙ ap (λ (x : Paths). x.vertices ++ made p) q in
       let z : closed (paths_with c.0 a.0.starts) ≡ o = (let y = c.2 in cc) in
       let g : closed (paths_with (v ++ made p) (s ++ (length v ∷ []))) ≡ o = ap₂ (λ (x : List Vector) (y : Paths). closed (paths_with x y.starts)) (sym u) (sym q) ∙ z in
       subst (λ (x : Paths). Added out x (with_points (made p ∷ []))) g (closed-adds v (made p) s h)
 
-  each-adds : (ps : List (List Vector)) (out o : Paths) → Low (length out.vertices) out.starts → each (one_path work room startRoom) ps out ≡ answered o → Added out o (with_points (map made ps))
+  each-adds : (ps : List (List Vector)) (out o : Paths) → Low (length out.vertices) out.starts → each (one_path work room startRoom) ps out ≡ Ok o → Added out o (with_points (map made ps))
   unfolding each with_points
   each-adds [] out o h e = let q : out ≡ o = cc in subst (λ (x : Paths). Added out x []) q (added_none out h)
   each-adds (p ∷ ps) out o h e =
@@ -151,6 +152,6 @@ module _ (work : ℕ → List Vector → List Vector → Answer (List Vector)) (
       let b = one-adds p out a.0 h a.1 in
       added_more out a.0 o (made p ∷ []) (map made ps) b (each-adds ps a.0 o b.low a.2)
 
-  pub stage-made : (vs : List Vector) (ss : List ℕ) (o : Paths) → stage (one_path work) vs ss room startRoom ≡ answered o → paths_of o.vertices o.starts ≡ with_points (map made (paths_of vs ss))
+  pub stage-made : (vs : List Vector) (ss : List ℕ) (o : Paths) → stage (one_path work) vs ss room startRoom ≡ Ok o → paths_of o.vertices o.starts ≡ with_points (map made (paths_of vs ss))
   unfolding stage paths_of
   stage-made vs ss o e = (each-adds (paths_of vs ss) no_paths o (omega arith) e).paths

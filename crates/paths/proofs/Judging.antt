@@ -19,14 +19,12 @@ use Rattle.rows.specs.Rows.{row}
 use Rattle.rows.specs.Points.{point_of}
 use Rattle.rows.specs.Starts.{good_starts}
 use Rattle.rows.proofs.Rows.{get_d-view}
-use Rattle.paths.specs.Answers.{Answer, refused}
 use Rattle.paths.specs.Ends.{places, all_points, nowhere}
 use Rattle.limits.specs.Limits.{within_point}
 use Rattle.limits.proofs.Limits.{within-point}
 use Rattle.paths.specs.Judged.{points_ok, handed_over, paths_judged, unless}
-use Rattle.paths.specs.declared.Judgement.{Judgement}
-use Rattle.paths.specs.declared.Judgement.TheVariants.{Fine, Refused}
 use Rattle.paths.proofs.Parts.{length-points}
+use Rattle.std.specs.Prelude.{Err, Ok, Result, ⊤}
 
 -- ---- the loop over the points: what is left of it answers as the whole does
 pub record Checking (path : List Float) (i : ℕ) : Type 0 where
@@ -77,31 +75,31 @@ handed-all xs [] h = absurd (h refl)
 handed-all xs (s ∷ ss) h = refl
 
 module _ (xs : List Float) (ss : List ℕ) (fair : Bool) where
-  pub judged-2 : (length xs % 3 ≡ 0 → ⊥) → Refused Lengths ≡ paths_judged xs ss fair
+  pub judged-2 : (length xs % 3 ≡ 0 → ⊥) → Err Lengths ≡ paths_judged xs ss fair
   unfolding paths_judged
   judged-2 h = rw (ne_eqb (length xs % 3) 0 h)
 
   module _ (whole : length xs % 3 ≡ 0) (good : Bool) (eg : good ≡ good_starts (places xs) ss) where
-    pub judged-4 : good ≡ false → Refused Parts ≡ paths_judged xs ss fair
+    pub judged-4 : good ≡ false → Err Parts ≡ paths_judged xs ss fair
     unfolding paths_judged
     judged-4 h = rw (eq-eqb (length xs % 3) 0 whole, ← eg, h)
 
     module _ (up : good ≡ true) where
-      pub judged-8 : fair ≡ false → Refused View ≡ paths_judged xs ss fair
+      pub judged-8 : fair ≡ false → Err View ≡ paths_judged xs ss fair
       unfolding paths_judged
       judged-8 h = rw (eq-eqb (length xs % 3) 0 whole, ← eg, up, h)
 
       module _ (nice : fair ≡ true) where
-        pub judged-none : length ss ≡ 0 → Fine ≡ paths_judged xs ss fair
+        pub judged-none : length ss ≡ 0 → Ok tt ≡ paths_judged xs ss fair
         unfolding paths_judged
         judged-none n = rw (eq-eqb (length xs % 3) 0 whole, ← eg, up, nice, handed-none xs ss n)
 
         module _ (some : length ss ≡ 0 → ⊥) (ok : Bool) (eo : ok ≡ points_ok (all_points xs)) where
-          pub judged-9 : ok ≡ false → Refused Point ≡ paths_judged xs ss fair
+          pub judged-9 : ok ≡ false → Err Point ≡ paths_judged xs ss fair
           unfolding paths_judged
           judged-9 h = rw (eq-eqb (length xs % 3) 0 whole, ← eg, up, nice, handed-all xs ss some, ← eo, h)
 
-          pub judged-fine : ok ≡ true → Fine ≡ paths_judged xs ss fair
+          pub judged-fine : ok ≡ true → Ok tt ≡ paths_judged xs ss fair
           unfolding paths_judged
           judged-fine h = rw (eq-eqb (length xs % 3) 0 whole, ← eg, up, nice, handed-all xs ss some, ← eo, h)
 
@@ -111,16 +109,16 @@ pub record Passed (xs : List Float) (ss : List ℕ) (fair : Bool) : Type 0 where
   pub nice : fair ≡ true
   pub near : points_ok (handed_over xs ss) ≡ true
 
-pub judged-passed : (xs : List Float) (ss : List ℕ) (fair : Bool) → paths_judged xs ss fair ≡ Fine → Passed xs ss fair
+pub judged-passed : (xs : List Float) (ss : List ℕ) (fair : Bool) → paths_judged xs ss fair ≡ Ok tt → Passed xs ss fair
 unfolding paths_judged
 judged-passed xs ss fair e =
     let w = by (eqb (length xs % 3) 0) (good_starts (places xs) ss) fair (points_ok (handed_over xs ss)) e in
     record { good = w.0; nice = w.1; near = w.2 }
   where
-    fine : {A : Type 0} (k : Refusal) → Refused k ≡ Fine → A
+    fine : {A : Type 0} (k : Refusal) → Err k ≡ Ok (tt {0}) → A
     fine k q = let z : ◌≡◌ {A = ℕ} 0 1 = cc in absurd (omega arith)
 
-    by : (a b c d : Bool) → cond a (cond b (cond c (cond d Fine (Refused Point)) (Refused View)) (Refused Parts)) (Refused Lengths) ≡ Fine → (b ≡ true) × (c ≡ true) × (d ≡ true)
+    by : (a b c d : Bool) → cond a (cond b (cond c (cond d (Ok (tt {0})) (Err Point)) (Err View)) (Err Parts)) (Err Lengths) ≡ Ok (tt {0}) → (b ≡ true) × (c ≡ true) × (d ≡ true)
     by true true true true q = (refl, refl, refl)
     by true true true false q = fine Point q
     by true true false d q = fine View q
@@ -128,10 +126,10 @@ judged-passed xs ss fair e =
     by false b c d q = fine Lengths q
 
 -- ---- a call that is refused before, or goes on
-pub unless-refused : {A : Type 0} {v : Judgement} {k : Refusal} (a : Answer A) → v ≡ Refused k → refused k ≡ unless v a
+pub unless-refused : {A : Type 0} {v : Result ⊤ Refusal} {k : Refusal} (a : Result A Refusal) → v ≡ Err k → Err k ≡ unless v a
 unfolding unless
 unless-refused a e = rw e
 
-pub unless-fine : {A : Type 0} {v : Judgement} (a : Answer A) → v ≡ Fine → a ≡ unless v a
+pub unless-fine : {A : Type 0} {v : Result ⊤ Refusal} (a : Result A Refusal) → v ≡ Ok tt → a ≡ unless v a
 unfolding unless
 unless-fine a e = rw e

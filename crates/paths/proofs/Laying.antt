@@ -10,9 +10,11 @@ use lib.Dec.{ltb, eqb}
 use lib.ListN.{length, take, get_or, length-append, length-take}
 use Rattle.geometry.specs.declared.vector.Vector.{Vector}
 use Rattle.rows.specs.Starts.{next_start, rising}
-use Rattle.paths.specs.Answers.{Answer, answered, next}
+use Rattle.paths.specs.Answers.{next}
 use Rattle.paths.specs.Paths.{Paths, paths_with, no_paths, push, push_all, opened, closed_starts, closed, front, one_path, each}
 use Rattle.paths.proofs.Adding.{same_answer, next-answered, push-answered, push-fits}
+use Rattle.std.specs.Prelude.{Ok, Result}
+use Rattle.refusals.specs.declared.Refusal.{Refusal}
 
 -- ---- starts that rise among n points
 abbrev Rises : ℕ → List ℕ → Type 0
@@ -70,11 +72,11 @@ module _ {room startRoom : ℕ} where
   pub laid_none : Laid room startRoom no_paths
   laid_none = record { rises = omega arith; points_fit = omega arith; starts_fit = omega arith }
 
-  pub opened-laid : (o q : Paths) → opened startRoom o ≡ answered q → Laid room startRoom o → Laid room startRoom q
+  pub opened-laid : (o q : Paths) → opened startRoom o ≡ Ok q → Laid room startRoom o → Laid room startRoom q
   unfolding opened
   opened-laid o q e h =
       let n = length o.vertices in
-      let w = next-answered (push startRoom o.starts n) (λ (ss : List ℕ). answered (paths_with o.vertices ss)) q e in
+      let w = next-answered (push startRoom o.starts n) (λ (ss : List ℕ). Ok (paths_with o.vertices ss)) q e in
       let a = push-answered startRoom o.starts n w.0 w.1 in
       subst (Laid room startRoom) (same_answer w.2) (record { rises = subst (Rises n) (sym a) (rises-snoc n o.starts h.rises); points_fit = h.points_fit; starts_fit = push-fits startRoom o.starts n w.0 w.1 })
 
@@ -87,12 +89,12 @@ module _ {room startRoom : ℕ} where
       by false = h
 
   -- a point, and points, more
-  pub pushed-laid : (v : Vector) (o : Paths) (vs : List Vector) → push room o.vertices v ≡ answered vs → Laid room startRoom o → Laid room startRoom (paths_with vs o.starts)
+  pub pushed-laid : (v : Vector) (o : Paths) (vs : List Vector) → push room o.vertices v ≡ Ok vs → Laid room startRoom o → Laid room startRoom (paths_with vs o.starts)
   pushed-laid v o vs e h =
       let k : length vs ≡ length (o.vertices ++ (v ∷ [])) = ap length (push-answered room o.vertices v vs e) in
       record { rises = rises-more (length o.vertices) (length vs) o.starts (omega (arith, k, length-append o.vertices (v ∷ []))) h.rises; points_fit = push-fits room o.vertices v vs e; starts_fit = h.starts_fit }
 
-  pub extended-laid : (ws : List Vector) (o : Paths) (vs : List Vector) → push_all room o.vertices ws ≡ answered vs → Laid room startRoom o → Laid room startRoom (paths_with vs o.starts)
+  pub extended-laid : (ws : List Vector) (o : Paths) (vs : List Vector) → push_all room o.vertices ws ≡ Ok vs → Laid room startRoom o → Laid room startRoom (paths_with vs o.starts)
   unfolding push_all
   extended-laid [] o vs e h = subst (λ (us : List Vector). Laid room startRoom (paths_with us o.starts)) (same_answer e) h
   extended-laid (v ∷ ws) o vs e h =
@@ -104,16 +106,16 @@ module _ {room startRoom : ℕ} where
   moved-laid o vs e h = record { rises = rw e h.rises; points_fit = omega (arith, e, h.points_fit); starts_fit = h.starts_fit }
 
   -- a path whose points are pushed one after the other
-  pub one-laid : (made : List Vector → List Vector) (p : List Vector) (o q : Paths) → one_path (λ (r : ℕ) (p vs : List Vector). push_all r vs (made p)) room startRoom p o ≡ answered q → Laid room startRoom o → Laid room startRoom q
+  pub one-laid : (made : List Vector → List Vector) (p : List Vector) (o q : Paths) → one_path (λ (r : ℕ) (p vs : List Vector). push_all r vs (made p)) room startRoom p o ≡ Ok q → Laid room startRoom o → Laid room startRoom q
   unfolding one_path
   one-laid made p o q e h =
-      let a = next-answered (opened startRoom o) (λ (u : Paths). next (push_all room u.vertices (made p)) (λ (vs : List Vector). answered (closed (paths_with vs u.starts)))) q e in
-      let b = next-answered (push_all room a.0.vertices (made p)) (λ (vs : List Vector). answered (closed (paths_with vs a.0.starts))) q a.2 in
+      let a = next-answered (opened startRoom o) (λ (u : Paths). next (push_all room u.vertices (made p)) (λ (vs : List Vector). Ok (closed (paths_with vs u.starts)))) q e in
+      let b = next-answered (push_all room a.0.vertices (made p)) (λ (vs : List Vector). Ok (closed (paths_with vs a.0.starts))) q a.2 in
       subst (Laid room startRoom) (same_answer b.2) (closed-laid (paths_with b.0 a.0.starts) (extended-laid (made p) a.0 b.0 b.1 (opened-laid o a.0 a.1 h)))
 
   -- all paths, by what each does
-  pub each_laid : (f : List Vector → Paths → Answer Paths) → ((p : List Vector) (o q : Paths) → f p o ≡ answered q → Laid room startRoom o → Laid room startRoom q)
-      → (ps : List (List Vector)) (o q : Paths) → each f ps o ≡ answered q → Laid room startRoom o → Laid room startRoom q
+  pub each_laid : (f : List Vector → Paths → Result Paths Refusal) → ((p : List Vector) (o q : Paths) → f p o ≡ Ok q → Laid room startRoom o → Laid room startRoom q)
+      → (ps : List (List Vector)) (o q : Paths) → each f ps o ≡ Ok q → Laid room startRoom o → Laid room startRoom q
   unfolding each
   each_laid f keeps [] o q e h = subst (Laid room startRoom) (same_answer e) h
   each_laid f keeps (p ∷ ps) o q e h =

@@ -16,22 +16,21 @@ use Rattle.refusals.specs.declared.Refusal.TheVariants.{Room}
 use Rattle.rows.specs.Rows.{row}
 use Rattle.rows.specs.Points.{points, point_of}
 use Rattle.rows.proofs.Rows.{view-more}
-use Rattle.paths.specs.Answers.{Answer, answered, refused, next}
+use Rattle.paths.specs.Answers.{next}
 use Rattle.paths.specs.Paths.{push, push_all, front}
 use Rattle.paths.specs.Ends.{places, all_points, Ends}
-use Rattle.paths.specs.declared.Count.{Count}
-use Rattle.paths.specs.declared.Count.TheVariants.{At, Refused}
 use Rattle.paths.proofs.Ending.{ends_at, ends-refused, ends_as, refuses, answers}
 use Rattle.paths.proofs.Parts.{length-points, part-cons}
+use Rattle.std.specs.Prelude.{Err, Ok, Result}
 
 -- ---- a first answer, and what is done with it; `room` is that of the slice at the start
-module _ (f g : ℕ → List Vector → Answer (List Vector)) (xs ys : List Float) (n : ℕ) {r : Count} (h : Ends (f (places xs) (points n xs)) ys r) where
-  pub run-refused : {e : Refusal} → r ≡ Refused e → Ends (next (f (places xs) (points n xs)) (g (places xs))) ys (Refused e)
-  run-refused p = refuses ys (ap (λ (a : Answer (List Vector)). next a (g (places xs))) (ends-refused h p))
+module _ (f g : ℕ → List Vector → Result (List Vector) Refusal) (xs ys : List Float) (n : ℕ) {r : Result ℕ Refusal} (h : Ends (f (places xs) (points n xs)) ys r) where
+  pub run-refused : {e : Refusal} → r ≡ Err e → Ends (next (f (places xs) (points n xs)) (g (places xs))) ys (Err e)
+  run-refused p = refuses ys (ap (λ (a : Result (List Vector) Refusal). next a (g (places xs))) (ends-refused h p))
 
-  pub run_on : {m : ℕ} (zs : List Float) {s : Count} → r ≡ At m → length ys ≡ length xs → Ends (g (places ys) (points m ys)) zs s
+  pub run_on : {m : ℕ} (zs : List Float) {s : Result ℕ Refusal} → r ≡ Ok m → length ys ≡ length xs → Ends (g (places ys) (points m ys)) zs s
       → Ends (next (f (places xs) (points n xs)) (g (places xs))) zs s
-  run_on {m} zs p k w = ends_as (ap (λ (a : Answer (List Vector)). next a (g (places xs))) (ends_at h p) ∙ ap (λ (l : ℕ). g (l / 3) (points m ys)) (sym k)) w
+  run_on {m} zs p k w = ends_as (ap (λ (a : Result (List Vector) Refusal). next a (g (places xs))) (ends_at h p) ∙ ap (λ (l : ℕ). g (l / 3) (points m ys)) (sym k)) w
 
 module _ {A : Type 0} (room : ℕ) where
   pub extend-append : (ps vs ws : List A) → push_all room ps (vs ++ ws) ≡ next (push_all room ps vs) (λ (qs : List A). push_all room qs ws)
@@ -39,32 +38,32 @@ module _ {A : Type 0} (room : ℕ) where
   extend-append ps [] ws = refl
   extend-append ps (v ∷ vs) ws = go (λ (qs : List A). extend-append qs vs ws) (push room ps v)
     where
-      go : ((qs : List A) → push_all room qs (vs ++ ws) ≡ next (push_all room qs vs) (λ (rs : List A). push_all room rs ws)) → (a : Answer (List A))
+      go : ((qs : List A) → push_all room qs (vs ++ ws) ≡ next (push_all room qs vs) (λ (rs : List A). push_all room rs ws)) → (a : Result (List A) Refusal)
           → next a (λ (qs : List A). push_all room qs (vs ++ ws)) ≡ next (next a (λ (qs : List A). push_all room qs vs)) (λ (qs : List A). push_all room qs ws)
-      go ih (answered qs) = ih qs
-      go ih (refused k) = refl
+      go ih (Ok qs) = ih qs
+      go ih (Err k) = refl
 
   pub extend-one : (ps : List A) (v : A) → push_all room ps (v ∷ []) ≡ push room ps v
   unfolding push_all
   extend-one ps v = go (push room ps v)
     where
-      go : (a : Answer (List A)) → next a (λ (qs : List A). answered qs) ≡ a
-      go (answered qs) = refl
-      go (refused k) = refl
+      go : (a : Result (List A) Refusal) → next a (λ (qs : List A). Ok qs) ≡ a
+      go (Ok qs) = refl
+      go (Err k) = refl
 
-  pub extend_fits : (ps vs : List A) → length ps + length vs ≤ room → push_all room ps vs ≡ answered (ps ++ vs)
+  pub extend_fits : (ps vs : List A) → length ps + length vs ≤ room → push_all room ps vs ≡ Ok (ps ++ vs)
   unfolding push_all push
   extend_fits ps [] h = rw append-nil
   extend_fits ps (v ∷ vs) h =
       rw (lt-ltb (length ps) room (omega arith)) (extend_fits (ps ++ (v ∷ [])) vs (simp length-append (omega arith)) ∙ rw append_assoc)
 
-  pub extend-full : (ps vs : List A) → length ps ≤ room → room < length ps + length vs → push_all room ps vs ≡ refused Room
+  pub extend-full : (ps vs : List A) → length ps ≤ room → room < length ps + length vs → push_all room ps vs ≡ Err Room
   unfolding push_all push
   extend-full ps [] h l = absurd (omega arith)
   extend-full ps (v ∷ vs) h l = by (λ a b. extend-full (ps ++ (v ∷ [])) vs a b) (le-or-lt room (length ps))
     where
-      by : (length (ps ++ (v ∷ [])) ≤ room → room < length (ps ++ (v ∷ [])) + length vs → push_all room (ps ++ (v ∷ [])) vs ≡ refused Room)
-          → (room ≤ length ps) ⊎ (length ps < room) → push_all room ps (v ∷ vs) ≡ refused Room
+      by : (length (ps ++ (v ∷ [])) ≤ room → room < length (ps ++ (v ∷ [])) + length vs → push_all room (ps ++ (v ∷ [])) vs ≡ Err Room)
+          → (room ≤ length ps) ⊎ (length ps < room) → push_all room ps (v ∷ vs) ≡ Err Room
       by ih (inl q) = rw (le-ltb (length ps) room q)
       by ih (inr q) = rw (lt-ltb (length ps) room q) (ih (simp length-append (omega arith)) (simp length-append (omega arith)))
 
@@ -73,14 +72,14 @@ module _ {A : Type 0} (room : ℕ) where
     pub is : qs ≡ ps ++ vs
     pub fits : length ps + length vs ≤ room
 
-  pub extend-answered : (ps vs : List A) {qs : List A} → length ps ≤ room → push_all room ps vs ≡ answered qs → Went ps vs qs
+  pub extend-answered : (ps vs : List A) {qs : List A} → length ps ≤ room → push_all room ps vs ≡ Ok qs → Went ps vs qs
   extend-answered ps vs {qs} h e = by (le-or-lt (length ps + length vs) room)
     where
       by : (length ps + length vs ≤ room) ⊎ (room < length ps + length vs) → Went ps vs qs
       by (inl q) = let f = extend_fits ps vs q in record { is = cc; fits = q }
       by (inr q) = let f = extend-full ps vs h q in let z : ◌≡◌ {A = ℕ} 0 1 = cc in absurd (omega arith)
 
-  pub extend-refused : (ps vs : List A) {e : Refusal} → length ps ≤ room → push_all room ps vs ≡ refused e → (e ≡ Room) × (room < length ps + length vs)
+  pub extend-refused : (ps vs : List A) {e : Refusal} → length ps ≤ room → push_all room ps vs ≡ Err e → (e ≡ Room) × (room < length ps + length vs)
   extend-refused ps vs {e} h p = by (le-or-lt (length ps + length vs) room)
     where
       by : (length ps + length vs ≤ room) ⊎ (room < length ps + length vs) → (e ≡ Room) × (room < length ps + length vs)
@@ -115,7 +114,7 @@ module _ (xs ys : List Float) (n : ℕ) (l r : List Vector) (fit : n * 3 ≤ len
   low : length (points n xs) ≤ places xs
   low = rw (length-points n xs) (omega arith)
 
-  shared : (m : ℕ) → push_all (places xs) (points n xs) l ≡ answered (points m ys) → (0 < m) × (points (m - 1) ys ≡ points n xs ++ front l) × (length (points n xs) + length l ≤ places xs)
+  shared : (m : ℕ) → push_all (places xs) (points n xs) l ≡ Ok (points m ys) → (0 < m) × (points (m - 1) ys ≡ points n xs ++ front l) × (length (points n xs) + length l ≤ places xs)
   shared m e =
       let w = extend-answered (places xs) (points n xs) l low e in
       let k : m ≡ n + length l = sym (length-points m ys) ∙ ap length w.is ∙ length-append (points n xs) l ∙ rw (length-points n xs) in
@@ -123,28 +122,28 @@ module _ (xs ys : List Float) (n : ℕ) (l r : List Vector) (fit : n * 3 ≤ len
       let p : points (m - 1) ys ≡ front (points m ys) = points-front (m - 1) ys ∙ ap (λ (i : ℕ). front (points i ys)) (sym j) in
       (omega arith, p ∙ ap front w.is ∙ front-append (points n xs) l some, w.fits)
 
-  pub shared-some : (m : ℕ) → push_all (places xs) (points n xs) l ≡ answered (points m ys) → 0 < m
+  pub shared-some : (m : ℕ) → push_all (places xs) (points n xs) l ≡ Ok (points m ys) → 0 < m
   shared-some m e = (shared m e).0
 
-  pub shared-more : (m : ℕ) → push_all (places xs) (points n xs) l ≡ answered (points m ys) → push_all (places xs) (points n xs) (front l ++ r) ≡ push_all (places xs) (points (m - 1) ys) r
+  pub shared-more : (m : ℕ) → push_all (places xs) (points n xs) l ≡ Ok (points m ys) → push_all (places xs) (points n xs) (front l ++ r) ≡ push_all (places xs) (points (m - 1) ys) r
   shared-more m e =
       let w = shared m e in
-      let f : push_all (places xs) (points n xs) (front l) ≡ answered (points n xs ++ front l)
+      let f : push_all (places xs) (points n xs) (front l) ≡ Ok (points n xs ++ front l)
       = extend_fits (places xs) (points n xs) (front l) (omega (arith, w.2, length_front l)) in
       extend-append (places xs) (points n xs) (front l) r ∙ rw (f, ← w.1)
 
-  pub shared-refused : (e : Refusal) → push_all (places xs) (points n xs) l ≡ refused e → push_all (places xs) (points n xs) (front l ++ r) ≡ refused e
+  pub shared-refused : (e : Refusal) → push_all (places xs) (points n xs) l ≡ Err e → push_all (places xs) (points n xs) (front l ++ r) ≡ Err e
   shared-refused e p =
       let w = extend-refused (places xs) (points n xs) l low p in
       rw w.0 (extend-full (places xs) (points n xs) (front l ++ r) low (simp length-append (omega (arith, w.1, length_front l))))
 
 -- ---- two pushes
-module _ (xs ys : List Float) (n : ℕ) (a b : Vector) {r : Count} (h : Ends (push (places xs) (points n xs) a) ys r) where
-  pub two-refused : {e : Refusal} → r ≡ Refused e → Ends (push_all (places xs) (points n xs) (a ∷ b ∷ [])) ys (Refused e)
+module _ (xs ys : List Float) (n : ℕ) (a b : Vector) {r : Result ℕ Refusal} (h : Ends (push (places xs) (points n xs) a) ys r) where
+  pub two-refused : {e : Refusal} → r ≡ Err e → Ends (push_all (places xs) (points n xs) (a ∷ b ∷ [])) ys (Err e)
   unfolding push_all
   two-refused p = refuses ys (rw (ends-refused h p))
 
-  pub two-more : {m : ℕ} (zs : List Float) {s : Count} → r ≡ At m → length ys ≡ length xs → Ends (push (places ys) (points m ys) b) zs s → Ends (push_all (places xs) (points n xs) (a ∷ b ∷ [])) zs s
+  pub two-more : {m : ℕ} (zs : List Float) {s : Result ℕ Refusal} → r ≡ Ok m → length ys ≡ length xs → Ends (push (places ys) (points m ys) b) zs s → Ends (push_all (places xs) (points n xs) (a ∷ b ∷ [])) zs s
   unfolding push_all
   two-more {m} zs p k w = ends_as (rw (ends_at h p) (extend-one (places xs) (points m ys) b ∙ ap (λ (l : ℕ). push (l / 3) (points m ys) b) (sym k))) w
 
@@ -161,27 +160,27 @@ module _ (path out₀ : List Float) (from end n : ℕ) where
   extending-start h w f = record { same = refl; upto = h; within = w; fits = f; left = refl }
 
   module _ (out : List Float) (i m : ℕ) (h : Extending path out₀ from end n out i m) where
-    module _ (p : Vector) (l : i < end) (e : p ≡ point_of (row 3 i path)) (out' : List Float) {r : Count} (w : Ends (push (places out) (points m out) p) out' r) where
+    module _ (p : Vector) (l : i < end) (e : p ≡ point_of (row 3 i path)) (out' : List Float) {r : Result ℕ Refusal} (w : Ends (push (places out) (points m out) p) out' r) where
       onward : push_all (places out₀) (points m out) (slice i end (all_points path))
           ≡ next (push (places out) (points m out) p) (λ (qs : List Vector). push_all (places out₀) qs (slice (i + 1) end (all_points path)))
       unfolding push_all
       onward = rw (part-cons path i end h.within p l e)
           (ap (λ (k : ℕ). next (push (k / 3) (points m out) p) (λ (qs : List Vector). push_all (places out₀) qs (slice (i + 1) end (all_points path)))) (sym h.same))
 
-      pub extending-turn : {q : ℕ} → length out' ≡ length out → r ≡ At q → Extending path out₀ from end n out' (i + 1) q
+      pub extending-turn : {q : ℕ} → length out' ≡ length out → r ≡ Ok q → Extending path out₀ from end n out' (i + 1) q
       extending-turn {q} k t = record {
         same = k ∙ h.same;
         upto = omega arith;
         within = h.within;
         fits = w.fits q t;
-        left = sym (onward ∙ ap (λ (a : Answer (List Vector)). next a (λ (qs : List Vector). push_all (places out₀) qs (slice (i + 1) end (all_points path)))) (ends_at w t)) ∙ h.left;
+        left = sym (onward ∙ ap (λ (a : Result (List Vector) Refusal). next a (λ (qs : List Vector). push_all (places out₀) qs (slice (i + 1) end (all_points path)))) (ends_at w t)) ∙ h.left;
       }
 
-      pub extending-refused : {k : Refusal} → r ≡ Refused k → Ends (push_all (places out₀) (points n out₀) (slice from end (all_points path))) out' (Refused k)
+      pub extending-refused : {k : Refusal} → r ≡ Err k → Ends (push_all (places out₀) (points n out₀) (slice from end (all_points path))) out' (Err k)
       extending-refused t =
-          refuses out' (sym h.left ∙ onward ∙ ap (λ (a : Answer (List Vector)). next a (λ (qs : List Vector). push_all (places out₀) qs (slice (i + 1) end (all_points path)))) (ends-refused w t))
+          refuses out' (sym h.left ∙ onward ∙ ap (λ (a : Result (List Vector) Refusal). next a (λ (qs : List Vector). push_all (places out₀) qs (slice (i + 1) end (all_points path)))) (ends-refused w t))
 
-    pub extending-end : end ≤ i → Ends (push_all (places out₀) (points n out₀) (slice from end (all_points path))) out (At m)
+    pub extending-end : end ≤ i → Ends (push_all (places out₀) (points n out₀) (slice from end (all_points path))) out (Ok m)
     unfolding push_all
     extending-end l =
         let e : i ≡ end = omega (arith, h.upto) in

@@ -15,33 +15,33 @@ use Rattle.rows.specs.Points.{points, point_of, point_row}
 use Rattle.rows.proofs.Rows.{view-written}
 use Rattle.paths.specs.Paths.{push, front, closed_starts}
 use Rattle.paths.specs.Ends.{places, Ends, EndsStarts}
-use Rattle.paths.specs.declared.Count.TheVariants.{At, Refused}
 use Rattle.paths.proofs.Ending.{answers, refuses}
 use Rattle.paths.proofs.Parts.{length-points}
+use Rattle.std.specs.Prelude.{Err, Ok}
 
 -- ---- a point
 module _ (xs : List Float) (n : ℕ) (v : Vector) (fit : n * 3 ≤ length xs) where
-  pub push_at : (ys : List Float) → n < places xs → ys ≡ set_row 3 n (point_row v) xs → Ends (push (places xs) (points n xs) v) ys (At (n + 1))
+  pub push_at : (ys : List Float) → n < places xs → ys ≡ set_row 3 n (point_row v) xs → Ends (push (places xs) (points n xs) v) ys (Ok (n + 1))
   unfolding push
   push_at ys h e =
       rw e (answers (n + 1) (set_row 3 n (point_row v) xs)
       (rw (length-points n xs, lt-ltb n (places xs) h, view-written 3 point_of n (point_row v) xs refl (omega arith)))
       (simp length-sets (omega arith)))
 
-  pub push-full : places xs ≤ n → Ends (push (places xs) (points n xs) v) xs (Refused Room)
+  pub push-full : places xs ≤ n → Ends (push (places xs) (points n xs) v) xs (Err Room)
   unfolding push
   push-full h = refuses xs (rw (length-points n xs, le-ltb n (places xs) h))
 
 -- ---- a start, and a last path that has no points
 module _ (ss : List ℕ) (m n : ℕ) (fit : m ≤ length ss) where
-  pub new-at : m < length ss → EndsStarts (push (length ss) (take m ss) n) (set ss m n) (At (m + 1))
+  pub new-at : m < length ss → EndsStarts (push (length ss) (take m ss) n) (set ss m n) (Ok (m + 1))
   unfolding push
   new-at h =
       answers (m + 1) (set ss m n)
       (rw (length-take-le m ss fit, lt-ltb m (length ss) h, add-one, take-suc-set ss m n h))
       (simp length-set (omega arith))
 
-  pub new-full : length ss ≤ m → EndsStarts (push (length ss) (take m ss) n) ss (Refused Room)
+  pub new-full : length ss ≤ m → EndsStarts (push (length ss) (take m ss) n) ss (Err Room)
   unfolding push
   new-full h = refuses ss (rw (length-take-le m ss fit, le-ltb m (length ss) h))
 

@@ -1,11 +1,7 @@
--- What a stage answers: a value, or why it is refused.
+-- What is done next, unless there was trouble before: so the first trouble met is the one that is answered.
+use Rattle.std.specs.Prelude.{Result, Ok, Err}
 use Rattle.refusals.specs.declared.Refusal.{Refusal}
 
-pub data Answer {ℓ} (A : Type ℓ) : Type ℓ where
-  answered : A → Answer A
-  refused : Refusal → Answer A
-
--- what is done next, unless there was trouble before: so the first trouble met is the one that is answered
-abbrev pub next {ℓ κ} : {A : Type ℓ} {B : Type κ} → Answer A → (A → Answer B) → Answer B
-next (answered x) f = f x
-next (refused k) f = refused k
+abbrev pub next : {A B : Type 0} → Result A Refusal → (A → Result B Refusal) → Result B Refusal
+next (Ok x) f = f x
+next (Err k) f = Err k

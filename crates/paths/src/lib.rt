@@ -2,7 +2,7 @@
 // handed in; and how a call on paths ends.
 #![tactic(auto)]
 
-ghost use Rattle.std.specs.Prelude.{◌≡◌, ℕ, ◌*◌, ◌≤◌, ◌<◌, length, take};
+ghost use Rattle.std.specs.Prelude.{◌≡◌, ℕ, ◌*◌, ◌≤◌, ◌<◌, length, take, Ok};
 ghost use Rattle.std.proofs.Math.Seq.{slice};
 ghost use Rattle.rows.specs.Points.{points};
 ghost use Rattle.paths.specs.Paths as Paths;
@@ -10,75 +10,51 @@ ghost use Rattle.paths.specs.Paths.{closed_starts};
 ghost use Rattle.paths.specs.Ends.{places, all_points, Ends, EndsStarts, told_both, Finished};
 ghost use Rattle.paths.specs.Judged.{points_ok, paths_judged};
 ghost use Rattle.paths.specs.Ranges.{lesser_of, range_of};
-ghost use Rattle.paths.specs.declared.Counts.TheVariants.{Both};
 
 use geometry::vector::Vector;
 use refusals::Refusal;
 
-// How many rows of a slice are filled now, or why it is refused.
-#[derive(Clone, Copy)]
-pub enum Count {
-    At(usize),
-    Refused(Refusal),
-}
-
-// How many points and starts there are now, or why it is refused.
-#[derive(Clone, Copy)]
-pub enum Counts {
-    Both(usize, usize),
-    Refused(Refusal),
-}
-
-// Whether what is handed in passes.
-#[derive(Clone, Copy)]
-pub enum Judgement {
-    Fine,
-    Refused(Refusal),
-}
-
 // A point after the first n.
-pub fn push(out: &mut [f64], n: usize, v: Vector) -> Count
+pub fn push(out: &mut [f64], n: usize, v: Vector) -> Result<usize, Refusal>
     requires { n * 3 ≤ length out.old }
     ensures { Ends (Paths.push (places out.old) (points n out.old) v) out.new result }
 {
     if n < out.len() / 3 {
         rows::write_point(out, n, v);
-        return Count::At(n + 1);
+        return Ok(n + 1);
     }
-    Count::Refused(Refusal::Room)
+    Err(Refusal::Room)
 }
 
 // The points of a path from `from` up to `end`.
-pub fn extend(path: &[f64], from: usize, end: usize, out: &mut [f64], n: usize) -> Count
+pub fn extend(
+    path: &[f64],
+    from: usize,
+    end: usize,
+    out: &mut [f64],
+    n: usize,
+) -> Result<usize, Refusal>
     requires { (from ≤ end) × (end * 3 ≤ length path.now) × (n * 3 ≤ length out.old) }
     ensures { Ends (Paths.push_all (places out.old) (points n out.old) (slice from end (all_points path.now))) out.new result }
 {
-    let mut i = from;
     let mut m = n;
-    while i < end {
+    for i in from..end {
         let p = rows::read_point(path, i);
-        let r = push(out, m, p);
-        match r {
-            Count::Refused(k) => return Count::Refused(k),
-            Count::At(q) => {
-                m = q;
-            }
-        }
-        i += 1;
+        m = push(out, m, p)?;
     }
-    Count::At(m)
+    Ok(m)
 }
 
 // A path that starts after n points takes a place after the first m starts.
-pub fn new_path(starts: &mut [usize], m: usize, n: usize) -> Count
+pub fn new_path(starts: &mut [usize], m: usize, n: usize) -> Result<usize, Refusal>
     requires { m ≤ length starts.old }
     ensures { EndsStarts (Paths.push (length starts.old) (take m starts.old) n) starts.new result }
 {
     if m < starts.len() {
         starts[m] = n;
-        return Count::At(m + 1);
+        return Ok(m + 1);
     }
-    Count::Refused(Refusal::Room)
+    Err(Refusal::Room)
 }
 
 // How many of m starts are left, once a last path without points has vanished; there are n points.
@@ -122,20 +98,24 @@ pub fn range_of(starts: &[usize], i: usize, n: usize) -> Range
 }
 
 // The result and then zeros, or zeros throughout.
-pub fn finish(out: &mut [f64], starts: &mut [usize], c: Counts) -> Counts
-    requires { (n m : ℕ) → c ≡ Both n m → (n * 3 ≤ length out.old) × (m ≤ length starts.old) }
+pub fn finish(
+    out: &mut [f64],
+    starts: &mut [usize],
+    c: Result<(usize, usize), Refusal>,
+) -> Result<(usize, usize), Refusal>
+    requires { (n m : ℕ) → c ≡ Ok (n, m) → (n * 3 ≤ length out.old) × (m ≤ length starts.old) }
     ensures { Finished (told_both c out.old starts.old) (length out.old) (length starts.old) out.new starts.new result }
 {
     match c {
-        Counts::Refused(k) => {
+        Err(k) => {
             rows::clear(out, 0);
             rows::clear_starts(starts, 0);
-            Counts::Refused(k)
+            Err(k)
         }
-        Counts::Both(n, m) => {
+        Ok((n, m)) => {
             rows::clear(out, n * 3);
             rows::clear_starts(starts, m);
-            Counts::Both(n, m)
+            Ok((n, m))
         }
     }
 }
@@ -145,35 +125,33 @@ pub fn points_ok(path: &[f64]) -> bool
     ensures { result ≡ points_ok (all_points path.now) }
 {
     let n = path.len() / 3;
-    let mut i = 0;
-    while i < n {
+    for i in 0..n {
         let p = rows::read_point(path, i);
         if !limits::within_point(p) {
             return false;
         }
-        i += 1;
     }
     true
 }
 
 // Numbers 2, 4, 8 and 9 of paths that are handed to a call; `fair` says that 8 is not met.
-pub fn judge(path: &[f64], starts: &[usize], fair: bool) -> Judgement
+pub fn judge(path: &[f64], starts: &[usize], fair: bool) -> Result<(), Refusal>
     ensures { result ≡ paths_judged path.now starts.now fair }
 {
     if path.len() % 3 != 0 {
-        return Judgement::Refused(Refusal::Lengths);
+        return Err(Refusal::Lengths);
     }
     if !rows::good_starts(starts, path.len() / 3) {
-        return Judgement::Refused(Refusal::Parts);
+        return Err(Refusal::Parts);
     }
     if !fair {
-        return Judgement::Refused(Refusal::View);
+        return Err(Refusal::View);
     }
     if starts.len() == 0 {
-        return Judgement::Fine;
+        return Ok(());
     }
     if !points_ok(path) {
-        return Judgement::Refused(Refusal::Point);
+        return Err(Refusal::Point);
     }
-    Judgement::Fine
+    Ok(())
 }

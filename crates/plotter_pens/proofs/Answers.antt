@@ -20,10 +20,11 @@ use Rattle.paths.specs.declared.Range.{Range}
 use Rattle.paths.proofs.Parts.{range-fits}
 use Rattle.plotter_pens.specs.declared.NearestPath.{NearestPath}
 use Rattle.plotter_pens.specs.declared.Choice.{Choice}
-use Rattle.plotter_pens.specs.declared.Choice.TheVariants.{Yard, Lines, UsedUp, Refused}
+use Rattle.plotter_pens.specs.declared.Choice.TheVariants.{Yard, Lines}
 use Rattle.plotter_pens.specs.Pens.{LentDrawing, range_in, has_points, waits, no_path, nearer_path, offered, nearest_in, nearest_of_both, lengths_good, both_start_well, numbers_finite, picked_from, pick_of, pick_number, marks_after, part_of, Picked, HandedBack}
 use Rattle.plotter_pens.specs.EachOnce.{path_count}
 use Rattle.plotter_pens.proofs.Sound.{marks-count, found-waits, Found, pick-holds}
+use Rattle.std.specs.Prelude.{Err, None, Ok, Option, Result, Some}
 
 -- ---- the nearer of two
 module _ (b : NearestPath) (i : ℕ) (d : Float) (found : b.found ≡ true) where
@@ -57,16 +58,16 @@ first-there xs ss k r is h = let f = range-fits xs ss k r is in omega (arith, f.
 
 -- ---- what was found, in its drawing
 module _ (yard lines : LentDrawing) (b : NearestPath) where
-  pub from-none : b.found ≡ false → UsedUp ≡ picked_from yard lines b
+  pub from-none : b.found ≡ false → Ok None ≡ picked_from yard lines b
   unfolding picked_from
   from-none f = rw f
 
-  pub from-yard : b.found ≡ true → b.place < length yard.starts → (r : Range) → r ≡ range_in yard b.place → Yard b.place r ≡ picked_from yard lines b
+  pub from-yard : b.found ≡ true → b.place < length yard.starts → (r : Range) → r ≡ range_in yard b.place → Ok (Some (Yard b.place r)) ≡ picked_from yard lines b
   unfolding picked_from
   from-yard f l r is = rw (f, lt-ltb b.place (length yard.starts) l, is)
 
   pub from-lines : b.found ≡ true → length yard.starts ≤ b.place → (r : Range) → r ≡ range_in lines (b.place - length yard.starts)
-      → Lines (b.place - length yard.starts) r ≡ picked_from yard lines b
+      → Ok (Some (Lines (b.place - length yard.starts) r)) ≡ picked_from yard lines b
   unfolding picked_from
   from-lines f l r is = rw (f, le-ltb b.place (length yard.starts) l, is)
 
@@ -111,22 +112,22 @@ module _ (yard lines : LentDrawing) (marks : List ℕ) where
   module _ (pen : Vector) where
     -- ---- the pick
     module _ (a : Bool) (ea : a ≡ lengths_good yard lines marks) where
-      pub pick-2 : a ≡ false → Refused Lengths ≡ pick_of yard lines marks pen
+      pub pick-2 : a ≡ false → Err Lengths ≡ pick_of yard lines marks pen
       unfolding pick_of
       pick-2 h = rw (← ea, h)
 
       module _ (fa : a ≡ true) where
         module _ (b : Bool) (eb : b ≡ both_start_well yard lines) where
-          pub pick-4 : b ≡ false → Refused Parts ≡ pick_of yard lines marks pen
+          pub pick-4 : b ≡ false → Err Parts ≡ pick_of yard lines marks pen
           unfolding pick_of
           pick-4 h = rw (← ea, fa, ← eb, h)
 
           module _ (fb : b ≡ true) (c : Bool) (ec : c ≡ numbers_finite yard lines pen) where
-            pub pick-9 : c ≡ false → Refused Point ≡ pick_of yard lines marks pen
+            pub pick-9 : c ≡ false → Err Point ≡ pick_of yard lines marks pen
             unfolding pick_of
             pick-9 h = rw (← ea, fa, ← eb, fb, ← ec, h)
 
-            pub pick-near : c ≡ true → (p : Choice) → p ≡ picked_from yard lines (nearest_of_both yard lines marks pen) → p ≡ pick_of yard lines marks pen
+            pub pick-near : c ≡ true → (p : Result (Option Choice) Refusal) → p ≡ picked_from yard lines (nearest_of_both yard lines marks pen) → p ≡ pick_of yard lines marks pen
             unfolding pick_of
             pick-near fc p ep = rw (← ea, fa, ← eb, fb, ← ec, fc) ep
 
@@ -139,43 +140,43 @@ module _ (yard lines : LentDrawing) (marks : List ℕ) where
     both-there z e f = rw e (found-waits yard lines marks pen (rw e at f)).there
 
     -- ---- what is done with it
-    module _ (p : Choice) (ep : p ≡ pick_of yard lines marks pen) where
-      of-yard : (k : ℕ) (r : Range) → p ≡ Yard k r → Found yard lines marks pen k yard k r
+    module _ (p : Result (Option Choice) Refusal) (ep : p ≡ pick_of yard lines marks pen) where
+      of-yard : (k : ℕ) (r : Range) → p ≡ Ok (Some (Yard k r)) → Found yard lines marks pen k yard k r
       of-yard k r e = rw (sym ep ∙ e) at (pick-holds yard lines marks pen)
 
-      of-lines : (k : ℕ) (r : Range) → p ≡ Lines k r → Found yard lines marks pen (length yard.starts + k) lines k r
+      of-lines : (k : ℕ) (r : Range) → p ≡ Ok (Some (Lines k r)) → Found yard lines marks pen (length yard.starts + k) lines k r
       of-lines k r e = rw (sym ep ∙ e) at (pick-holds yard lines marks pen)
 
-      pub yard-marked : (k : ℕ) (r : Range) → p ≡ Yard k r → k < length marks
+      pub yard-marked : (k : ℕ) (r : Range) → p ≡ Ok (Some (Yard k r)) → k < length marks
       yard-marked k r e = (of-yard k r e).has-mark
 
-      pub lines-marked : (k : ℕ) (r : Range) → p ≡ Lines k r → length yard.starts + k < length marks
+      pub lines-marked : (k : ℕ) (r : Range) → p ≡ Ok (Some (Lines k r)) → length yard.starts + k < length marks
       lines-marked k r e = (of-lines k r e).has-mark
 
-      pub yard-fits : (k : ℕ) (r : Range) → p ≡ Yard k r → (r.from ≤ r.end) × (r.end * 3 ≤ length yard.numbers)
+      pub yard-fits : (k : ℕ) (r : Range) → p ≡ Ok (Some (Yard k r)) → (r.from ≤ r.end) × (r.end * 3 ≤ length yard.numbers)
       yard-fits k r e = range-fits yard.numbers yard.starts k r (of-yard k r e).range
 
-      pub lines_fit : (k : ℕ) (r : Range) → p ≡ Lines k r → (r.from ≤ r.end) × (r.end * 3 ≤ length lines.numbers)
+      pub lines_fit : (k : ℕ) (r : Range) → p ≡ Ok (Some (Lines k r)) → (r.from ≤ r.end) × (r.end * 3 ≤ length lines.numbers)
       lines_fit k r e = range-fits lines.numbers lines.starts k r (of-lines k r e).range
 
-      pub picked-yard : (k : ℕ) (r : Range) → p ≡ Yard k r → Picked yard lines marks pen (Yard k r) (set marks k 1)
+      pub picked-yard : (k : ℕ) (r : Range) → p ≡ Ok (Some (Yard k r)) → Picked yard lines marks pen p (set marks k 1)
       unfolding marks_after
-      picked-yard k r e = record { answer = sym e ∙ ep; marks_are = refl }
+      picked-yard k r e = record { answer = ep; marks_are = rw e }
 
-      pub picked-lines : (k : ℕ) (r : Range) → p ≡ Lines k r → Picked yard lines marks pen (Lines k r) (set marks (length yard.starts + k) 1)
+      pub picked-lines : (k : ℕ) (r : Range) → p ≡ Ok (Some (Lines k r)) → Picked yard lines marks pen p (set marks (length yard.starts + k) 1)
       unfolding marks_after
-      picked-lines k r e = record { answer = sym e ∙ ep; marks_are = refl }
+      picked-lines k r e = record { answer = ep; marks_are = rw e }
 
-      pub picked_none : p ≡ UsedUp → Picked yard lines marks pen p marks
+      pub picked_none : p ≡ Ok None → Picked yard lines marks pen p marks
       unfolding marks_after
       picked_none e = record { answer = ep; marks_are = rw e }
 
-      pub picked-refused : (x : Refusal) → p ≡ Refused x → Picked yard lines marks pen p marks
+      pub picked-refused : (x : Refusal) → p ≡ Err x → Picked yard lines marks pen p marks
       unfolding marks_after
       picked-refused x e = record { answer = ep; marks_are = rw e }
 
     -- ---- and handed back
-    handed-so : (p : Choice) (after : List ℕ) (n : ℕ) (part : List Float) → Picked yard lines marks pen p after → n ≡ pick_number p → part ≡ part_of yard lines p
+    handed-so : (p : Result (Option Choice) Refusal) (after : List ℕ) (n : ℕ) (part : List Float) → Picked yard lines marks pen p after → n ≡ pick_number p → part ≡ part_of yard lines p
         → HandedBack yard lines marks pen part after n
     handed-so p after n part h en e =
         record {
@@ -184,20 +185,20 @@ module _ (yard lines : LentDrawing) (marks : List ℕ) where
           number_is = en ∙ ap pick_number h.answer;
         }
 
-    module _ (p : Choice) (after : List ℕ) (h : Picked yard lines marks pen p after) (n : ℕ) (en : n ≡ pick_number p) where
-      pub handed-yard : (k : ℕ) (r : Range) → p ≡ Yard k r → (part : List Float) → part ≡ slice (r.from * 3) (r.end * 3) yard.numbers → HandedBack yard lines marks pen part after n
+    module _ (p : Result (Option Choice) Refusal) (after : List ℕ) (h : Picked yard lines marks pen p after) (n : ℕ) (en : n ≡ pick_number p) where
+      pub handed-yard : (k : ℕ) (r : Range) → p ≡ Ok (Some (Yard k r)) → (part : List Float) → part ≡ slice (r.from * 3) (r.end * 3) yard.numbers → HandedBack yard lines marks pen part after n
       unfolding part_of
       handed-yard k r e part is = handed-so p after n part h en (is ∙ rw e)
 
-      pub handed-lines : (k : ℕ) (r : Range) → p ≡ Lines k r → (part : List Float) → part ≡ slice (r.from * 3) (r.end * 3) lines.numbers → HandedBack yard lines marks pen part after n
+      pub handed-lines : (k : ℕ) (r : Range) → p ≡ Ok (Some (Lines k r)) → (part : List Float) → part ≡ slice (r.from * 3) (r.end * 3) lines.numbers → HandedBack yard lines marks pen part after n
       unfolding part_of
       handed-lines k r e part is = handed-so p after n part h en (is ∙ rw e)
 
-      pub handed-none : p ≡ UsedUp → HandedBack yard lines marks pen [] after n
+      pub handed-none : p ≡ Ok None → HandedBack yard lines marks pen [] after n
       unfolding part_of
       handed-none e = handed-so p after n [] h en (rw e)
 
-      pub handed-refused : (x : Refusal) → p ≡ Refused x → HandedBack yard lines marks pen [] after n
+      pub handed-refused : (x : Refusal) → p ≡ Err x → HandedBack yard lines marks pen [] after n
       unfolding part_of
       handed-refused x e = handed-so p after n [] h en (rw e)
 

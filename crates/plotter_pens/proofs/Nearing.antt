@@ -19,13 +19,13 @@ use Rattle.paths.specs.Ranges.{range_of, lesser_of}
 use Rattle.paths.specs.declared.Range.{Range}
 use Rattle.refusals.specs.declared.Refusal.{Refusal}
 use Rattle.plotter_pens.specs.declared.NearestPath.{NearestPath}
-use Rattle.plotter_pens.specs.declared.Choice.TheVariants.{UsedUp, Refused}
 use Rattle.plotter_pens.specs.Pens.{LentDrawing, range_in, waits, no_path, nearer_path, offered, nearest_in, nearest_of_both, lengths_good, both_start_well, numbers_finite, pick_of}
 use Rattle.plotter_pens.specs.EachOnce.{path_count}
 use Rattle.plotter_pens.specs.FirstNearest.{waits_at, path_distance, FirstOfNearest, NothingWaits, PicksFirstNearest, WholePath, PicksWholePath}
 use Rattle.plotter_pens.proofs.Scans.{true-false}
 use Rattle.plotter_pens.proofs.Sound.{yard-at, lines_at, found-waits, none_waits, Found, pick-holds}
 use Rattle.plotter_pens.proofs.Answers.{from-none, pick-2, pick-4, pick-9, pick-near}
+use Rattle.std.specs.Prelude.{Err, None, Ok}
 
 -- ---- the least of numbered distances, the first of those that are equal
 module _ (w : ℕ → Bool) (δ : ℕ → Float) where
@@ -182,16 +182,16 @@ module _ (yard lines : LentDrawing) (marks : List ℕ) (pen : Vector) where
       by true f = let i = found-waits yard lines marks pen f in true-false _ i.so (none _ i.there)
       by false f = f
 
-  used-up-so : NothingWaits yard lines marks pen → pick_of yard lines marks pen ≡ UsedUp
+  used-up-so : NothingWaits yard lines marks pen → pick_of yard lines marks pen ≡ Ok None
   used-up-so h =
-      sym (pick-near yard lines marks pen _ refl h.lengths _ refl h.starts _ refl h.numbers UsedUp
+      sym (pick-near yard lines marks pen _ refl h.lengths _ refl h.starts _ refl h.numbers (Ok None)
       (from-none yard lines (nearest_of_both yard lines marks pen) (nothing-found h.none_waits)))
 
-  no-refusal : {A : Type 0} (x : Refusal) → Refused x ≡ pick_of yard lines marks pen → pick_of yard lines marks pen ≡ UsedUp → A
+  no-refusal : {A : Type 0} (x : Refusal) → Err x ≡ pick_of yard lines marks pen → pick_of yard lines marks pen ≡ Ok None → A
   no-refusal x e f = let z : ◌≡◌ {A = ℕ} 0 1 = cc in absurd (omega arith)
 
   waits-for-none : (u v w : Bool) → u ≡ lengths_good yard lines marks → v ≡ both_start_well yard lines → w ≡ numbers_finite yard lines pen
-      → pick_of yard lines marks pen ≡ UsedUp → NothingWaits yard lines marks pen
+      → pick_of yard lines marks pen ≡ Ok None → NothingWaits yard lines marks pen
   waits-for-none true true true a b c e =
       record { lengths = sym a; starts = sym b; numbers = sym c; none_waits = none_waits yard lines marks pen (rw e at (pick-holds yard lines marks pen)) }
   waits-for-none false v w a b c e = no-refusal _ (pick-2 yard lines marks pen false a refl) e

@@ -12,11 +12,13 @@ use Rattle.geometry.specs.declared.vector.Vector.{Vector}
 use Rattle.paths.specs.declared.Range.{Range}
 use Rattle.plotter_pens.specs.declared.NearestPath.{NearestPath}
 use Rattle.plotter_pens.specs.declared.Choice.{Choice}
-use Rattle.plotter_pens.specs.declared.Choice.TheVariants.{Yard, Lines, UsedUp, Refused}
+use Rattle.plotter_pens.specs.declared.Choice.TheVariants.{Yard, Lines}
 use Rattle.plotter_pens.specs.Pens.{LentDrawing, range_in, nearest_of_both, lengths_good, point_finite, numbers_finite, picked_from, pick_of, marks_after}
 use Rattle.plotter_pens.specs.EachOnce.{path_count, non_empty_path, Tour, used_up, of-yard, of-lines, times_in, Drawable, EachOnce}
 use Rattle.plotter_pens.specs.FirstNearest.{waits_at}
 use Rattle.plotter_pens.proofs.Sound.{Waiting, found-waits, none_waits, Found, pick-holds}
+use Rattle.std.specs.Prelude.{Err, None, Ok, Option, Result, Some}
+use Rattle.refusals.specs.declared.Refusal.{Refusal}
 
 -- ---- how many marks are 0
 undrawn : List ℕ → ℕ
@@ -70,11 +72,11 @@ module _ (yard lines : LentDrawing) where
     one_less = falls marks p (rw all w.there) (unmarked marks p w.so)
 
   -- ---- what is picked from a scan is no refusal
-  abbrev Goes : Choice → Type 0
-  Goes (Yard k r) = Unit {0}
-  Goes (Lines k r) = Unit {0}
-  Goes UsedUp = Unit {0}
-  Goes (Refused x) = ⊥
+  abbrev Goes : Result (Option Choice) Refusal → Type 0
+  Goes (Ok (Some (Yard k r))) = Unit {0}
+  Goes (Ok (Some (Lines k r))) = Unit {0}
+  Goes (Ok None) = Unit {0}
+  Goes (Err x) = ⊥
 
   from_goes : (b : NearestPath) → Goes (picked_from yard lines b)
   unfolding picked_from
@@ -82,7 +84,7 @@ module _ (yard lines : LentDrawing) where
       let l = b.place - length yard.starts in
       by b.found (ltb b.place (length yard.starts)) b.place l (range_in yard b.place) (range_in lines l)
     where
-      by : (u v : Bool) (k l : ℕ) (r s : Range) → Goes (cond u (cond v (Yard k r) (Lines l s)) UsedUp)
+      by : (u v : Bool) (k l : ℕ) (r s : Range) → Goes (cond u (cond v (Ok (Some (Yard k r))) (Ok (Some (Lines l s)))) (Ok None))
       by true true k l r s = tt
       by true false k l r s = tt
       by false v k l r s = tt
@@ -91,16 +93,16 @@ module _ (yard lines : LentDrawing) where
     waiting : (p : ℕ) → (nearest_of_both yard lines marks pen).found ≡ true → (nearest_of_both yard lines marks pen).place ≡ p → Waiting yard lines marks p
     waiting p f e = rw e at (found-waits yard lines marks pen f)
 
-    of-used-up : pick_of yard lines marks pen ≡ UsedUp → (nearest_of_both yard lines marks pen).found ≡ false
+    of-used-up : pick_of yard lines marks pen ≡ Ok None → (nearest_of_both yard lines marks pen).found ≡ false
     of-used-up e = rw e at (pick-holds yard lines marks pen)
 
   module _ (pens : ℕ → Vector) where
-    yard-waits : (t k : ℕ) (marks : List ℕ) (r : Range) → pick_of yard lines marks (pens t) ≡ Yard k r → Waiting yard lines marks k
+    yard-waits : (t k : ℕ) (marks : List ℕ) (r : Range) → pick_of yard lines marks (pens t) ≡ Ok (Some (Yard k r)) → Waiting yard lines marks k
     yard-waits t k marks r e =
         let h : Found yard lines marks (pens t) k yard k r = rw e at (pick-holds yard lines marks (pens t)) in
         waiting marks (pens t) k h.found h.place
 
-    lines-wait : (t k : ℕ) (marks : List ℕ) (r : Range) → pick_of yard lines marks (pens t) ≡ Lines k r → Waiting yard lines marks (length yard.starts + k)
+    lines-wait : (t k : ℕ) (marks : List ℕ) (r : Range) → pick_of yard lines marks (pens t) ≡ Ok (Some (Lines k r)) → Waiting yard lines marks (length yard.starts + k)
     lines-wait t k marks r e =
         let h : Found yard lines marks (pens t) (length yard.starts + k) lines k r = rw e at (pick-holds yard lines marks (pens t)) in
         waiting marks (pens t) (length yard.starts + k) h.found h.place
@@ -142,14 +144,14 @@ module _ (yard lines : LentDrawing) where
       Ending t marks = (is : List ℕ) × Tour yard lines pens t marks is
 
       by-pick : (t : ℕ) (marks : List ℕ) → length marks ≡ path_count yard lines → ((p : ℕ) → Waiting yard lines marks p → Ending (t + 1) (set marks p 1))
-          → (p : Choice) → pick_of yard lines marks (pens t) ≡ p → Goes p → Ending t marks
+          → (p : Result (Option Choice) Refusal) → pick_of yard lines marks (pens t) ≡ p → Goes p → Ending t marks
       unfolding marks_after
-      by-pick t marks all on (Yard k r) e g = let q = on k (yard-waits t k marks r e) in (k ∷ q.0, of-yard e q.1)
-      by-pick t marks all on (Lines k r) e g =
+      by-pick t marks all on (Ok (Some (Yard k r))) e g = let q = on k (yard-waits t k marks r e) in (k ∷ q.0, of-yard e q.1)
+      by-pick t marks all on (Ok (Some (Lines k r))) e g =
           let q = on (length yard.starts + k) (lines-wait t k marks r e) in
           ((length yard.starts + k) ∷ q.0, of-lines e q.1)
-      by-pick t marks all on UsedUp e g = ([], used_up e)
-      by-pick t marks all on (Refused x) e g = absurd g
+      by-pick t marks all on (Ok None) e g = ([], used_up e)
+      by-pick t marks all on (Err x) e g = absurd g
 
       ends : (fuel t : ℕ) (marks : List ℕ) → length marks ≡ path_count yard lines → undrawn marks ≤ fuel → Ending t marks
       ends zero t marks all h = by-pick t marks all (λ p w. absurd (omega (arith, one_less marks p w all))) _ refl (goes t marks all)

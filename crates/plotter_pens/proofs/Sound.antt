@@ -15,11 +15,13 @@ use Rattle.paths.specs.declared.Range.{Range}
 use Rattle.refusals.specs.declared.Refusal.TheVariants.{Lengths, Parts, Point}
 use Rattle.plotter_pens.specs.declared.NearestPath.{NearestPath}
 use Rattle.plotter_pens.specs.declared.Choice.{Choice}
-use Rattle.plotter_pens.specs.declared.Choice.TheVariants.{Yard, Lines, UsedUp, Refused}
+use Rattle.plotter_pens.specs.declared.Choice.TheVariants.{Yard, Lines}
 use Rattle.plotter_pens.specs.Pens.{LentDrawing, range_in, waits, no_path, nearest_in, nearest_of_both, lengths_good, both_start_well, numbers_finite, picked_from, pick_of}
 use Rattle.plotter_pens.specs.EachOnce.{path_count, non_empty_path}
 use Rattle.plotter_pens.specs.FirstNearest.{waits_at}
 use Rattle.plotter_pens.proofs.Scans.{true-false, scan-place, scan-none}
+use Rattle.std.specs.Prelude.{Err, None, Ok, Option, Result, Some}
+use Rattle.refusals.specs.declared.Refusal.{Refusal}
 
 module _ (yard lines : LentDrawing) where
   pub record Waiting (marks : List ℕ) (i : ℕ) : Type 0 where
@@ -84,11 +86,11 @@ module _ (yard lines : LentDrawing) where
         pub range : r ≡ range_in d k
         pub good : good_starts (places d.numbers) d.starts ≡ true
 
-      abbrev pub Holds : Choice → Type 0
-      Holds (Yard k r) = Found k yard k r
-      Holds (Lines k r) = Found (length yard.starts + k) lines k r
-      Holds UsedUp = (nearest_of_both yard lines marks pen).found ≡ false
-      Holds (Refused x) = Unit {0}
+      abbrev pub Holds : Result (Option Choice) Refusal → Type 0
+      Holds (Ok (Some (Yard k r))) = Found k yard k r
+      Holds (Ok (Some (Lines k r))) = Found (length yard.starts + k) lines k r
+      Holds (Ok None) = (nearest_of_both yard lines marks pen).found ≡ false
+      Holds (Err x) = Unit {0}
 
       from-holds : lengths_good yard lines marks ≡ true → both_start_well yard lines ≡ true → Holds (picked_from yard lines (nearest_of_both yard lines marks pen))
       unfolding picked_from both_start_well
@@ -104,7 +106,7 @@ module _ (yard lines : LentDrawing) where
           starts = (and-eq-true_iff (good_starts (places yard.numbers) yard.starts) (good_starts (places lines.numbers) lines.starts)).0 well
 
           by-drawing : b.found ≡ true → (u : Bool) → ltb b.place n ≡ u
-              → Holds (cond u (Yard b.place (range_in yard b.place)) (Lines (b.place - n) (range_in lines (b.place - n))))
+              → Holds (cond u (Ok (Some (Yard b.place (range_in yard b.place)))) (Ok (Some (Lines (b.place - n) (range_in lines (b.place - n))))))
           by-drawing f true t =
               record { found = f; place = refl; in-drawing = ltb-true b.place n t; has-mark = rw (marks-count ok) (found-waits f).there; range = refl; good = starts.0 }
           by-drawing f false t =
@@ -114,7 +116,7 @@ module _ (yard lines : LentDrawing) where
               record { found = f; place = sym s; in-drawing = omega arith; has-mark = rw (s, marks-count ok) w; range = refl; good = starts.1 }
 
           by-found : (u : Bool) → b.found ≡ u
-              → Holds (cond u (cond (ltb b.place n) (Yard b.place (range_in yard b.place)) (Lines (b.place - n) (range_in lines (b.place - n)))) UsedUp)
+              → Holds (cond u (cond (ltb b.place n) (Ok (Some (Yard b.place (range_in yard b.place)))) (Ok (Some (Lines (b.place - n) (range_in lines (b.place - n)))))) (Ok None))
           by-found true f = by-drawing f (ltb b.place n) refl
           by-found false f = f
 
@@ -122,15 +124,15 @@ module _ (yard lines : LentDrawing) where
       unfolding pick_of
       pick-holds = by_lengths (lengths_good yard lines marks) refl
         where
-          p : Choice
+          p : Result (Option Choice) Refusal
           p = picked_from yard lines (nearest_of_both yard lines marks pen)
 
-          by-starts : lengths_good yard lines marks ≡ true → (u v : Bool) → both_start_well yard lines ≡ u → Holds (cond u (cond v p (Refused Point)) (Refused Parts))
+          by-starts : lengths_good yard lines marks ≡ true → (u v : Bool) → both_start_well yard lines ≡ u → Holds (cond u (cond v p (Err Point)) (Err Parts))
           by-starts e true true f = from-holds e f
           by-starts e true false f = tt
           by-starts e false v f = tt
 
           by_lengths : (u : Bool) → lengths_good yard lines marks ≡ u
-              → Holds (cond u (cond (both_start_well yard lines) (cond (numbers_finite yard lines pen) p (Refused Point)) (Refused Parts)) (Refused Lengths))
+              → Holds (cond u (cond (both_start_well yard lines) (cond (numbers_finite yard lines pen) p (Err Point)) (Err Parts)) (Err Lengths))
           by_lengths true e = by-starts e (both_start_well yard lines) (numbers_finite yard lines pen) refl
           by_lengths false e = tt

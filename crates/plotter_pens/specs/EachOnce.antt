@@ -1,9 +1,9 @@
 -- Document 02, of picks one after the other: "From zeros, repeated picking yields every non-empty path exactly once."
-use Rattle.std.specs.Prelude.{◌≡◌, Bool, true, cond, List, [], ◌∷◌, ℕ, ◌+◌, ◌-◌, ◌<◌, ◌≤◌, eqb, ltb, length, replicate}
+use Rattle.std.specs.Prelude.{◌≡◌, Bool, true, cond, List, [], ◌∷◌, ℕ, ◌+◌, ◌-◌, ◌<◌, ◌≤◌, eqb, ltb, length, replicate, None, Ok, Some}
 use Rattle.geometry.specs.declared.vector.Vector.{Vector}
 use Rattle.paths.specs.declared.Range.{Range}
 use Rattle.plotter_pens.specs.Pens.{LentDrawing, has_points, lengths_good, both_start_well, paths_finite, point_finite, pick_of, marks_after}
-use Rattle.plotter_pens.specs.declared.Choice.TheVariants.{Yard, Lines, UsedUp}
+use Rattle.plotter_pens.specs.declared.Choice.TheVariants.{Yard, Lines}
 
 -- how many paths there are; they are counted as their marks are, the yard's first
 abbrev pub path_count : LentDrawing → LentDrawing → ℕ
@@ -16,11 +16,11 @@ non_empty_path yard lines i = cond (ltb i (length yard.starts)) (has_points yard
 -- Pick after pick from time t on, each on the marks that the one before left, until one answers 15; and the paths picked.
 -- At time t the pen is at `pens t`, anywhere. No pick meets 2, 4 or 9: there is no case for it.
 pub data Tour (yard lines : LentDrawing) (pens : ℕ → Vector) : ℕ → List ℕ → List ℕ → Type 0 where
-  used_up : {t : ℕ} {marks : List ℕ} → pick_of yard lines marks (pens t) ≡ UsedUp → Tour yard lines pens t marks []
-  of-yard : {t k : ℕ} {r : Range} {marks is : List ℕ} → pick_of yard lines marks (pens t) ≡ Yard k r
-      → Tour yard lines pens (t + 1) (marks_after (length yard.starts) marks (Yard k r)) is → Tour yard lines pens t marks (k ∷ is)
-  of-lines : {t k : ℕ} {r : Range} {marks is : List ℕ} → pick_of yard lines marks (pens t) ≡ Lines k r
-      → Tour yard lines pens (t + 1) (marks_after (length yard.starts) marks (Lines k r)) is → Tour yard lines pens t marks ((length yard.starts + k) ∷ is)
+  used_up : {t : ℕ} {marks : List ℕ} → pick_of yard lines marks (pens t) ≡ Ok None → Tour yard lines pens t marks []
+  of-yard : {t k : ℕ} {r : Range} {marks is : List ℕ} → pick_of yard lines marks (pens t) ≡ Ok (Some (Yard k r))
+      → Tour yard lines pens (t + 1) (marks_after (length yard.starts) marks (Ok (Some (Yard k r)))) is → Tour yard lines pens t marks (k ∷ is)
+  of-lines : {t k : ℕ} {r : Range} {marks is : List ℕ} → pick_of yard lines marks (pens t) ≡ Ok (Some (Lines k r))
+      → Tour yard lines pens (t + 1) (marks_after (length yard.starts) marks (Ok (Some (Lines k r)))) is → Tour yard lines pens t marks ((length yard.starts + k) ∷ is)
 
 -- how often i stands in a list
 unfoldable pub times_in : ℕ → List ℕ → ℕ

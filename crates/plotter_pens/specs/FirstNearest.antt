@@ -1,6 +1,6 @@
 -- Document 02, of one pick: no undrawn path is nearer than the one picked, and none before it is as near; 15 is answered exactly if
 -- nothing waits; and what is handed back is that path, from its start to its end.
-use Rattle.std.specs.Prelude.{◌≡◌, Bool, true, false, cond, ◌&&◌, List, ℕ, ◌+◌, ◌-◌, ◌<◌, T, eqb, ltb, Float, length, get_or}
+use Rattle.std.specs.Prelude.{◌≡◌, Bool, true, false, cond, ◌&&◌, List, ℕ, ◌+◌, ◌-◌, ◌<◌, T, eqb, ltb, Float, length, get_or, None, Ok, Some}
 use Rattle.std.specs.Float.Ieee.{lt, le}
 use Rattle.geometry.specs.Vectors.{distance_squared}
 use Rattle.geometry.specs.declared.vector.Vector.{Vector}
@@ -9,7 +9,7 @@ use Rattle.paths.specs.Ends.{places}
 use Rattle.paths.specs.declared.Range.{Range}
 use Rattle.plotter_pens.specs.Pens.{LentDrawing, first_point, lengths_good, both_start_well, numbers_finite, pick_of}
 use Rattle.plotter_pens.specs.EachOnce.{path_count, non_empty_path}
-use Rattle.plotter_pens.specs.declared.Choice.TheVariants.{Yard, Lines, UsedUp}
+use Rattle.plotter_pens.specs.declared.Choice.TheVariants.{Yard, Lines}
 
 -- path i of both, counted as the marks are: undrawn and not empty, and how far its first point is
 unfoldable pub waits_at : LentDrawing → LentDrawing → List ℕ → ℕ → Bool
@@ -35,10 +35,10 @@ pub record NothingWaits (yard lines : LentDrawing) (marks : List ℕ) (pen : Vec
 
 -- whatever is picked, on any input; and 15 exactly if nothing waits
 pub record PicksFirstNearest (yard lines : LentDrawing) (marks : List ℕ) (pen : Vector) : Type 0 where
-  pub of-yard : (k : ℕ) (r : Range) → pick_of yard lines marks pen ≡ Yard k r → FirstOfNearest yard lines marks pen k
-  pub of-lines : (k : ℕ) (r : Range) → pick_of yard lines marks pen ≡ Lines k r → FirstOfNearest yard lines marks pen (length yard.starts + k)
-  pub used_up : NothingWaits yard lines marks pen → pick_of yard lines marks pen ≡ UsedUp
-  pub only_then : pick_of yard lines marks pen ≡ UsedUp → NothingWaits yard lines marks pen
+  pub of-yard : (k : ℕ) (r : Range) → pick_of yard lines marks pen ≡ Ok (Some (Yard k r)) → FirstOfNearest yard lines marks pen k
+  pub of-lines : (k : ℕ) (r : Range) → pick_of yard lines marks pen ≡ Ok (Some (Lines k r)) → FirstOfNearest yard lines marks pen (length yard.starts + k)
+  pub used_up : NothingWaits yard lines marks pen → pick_of yard lines marks pen ≡ Ok None
+  pub only_then : pick_of yard lines marks pen ≡ Ok None → NothingWaits yard lines marks pen
 
 -- all of path k of a drawing, and nothing else: from its start up to the next one, or to the end of the points
 pub record WholePath (d : LentDrawing) (k : ℕ) (r : Range) : Type 0 where
@@ -47,5 +47,5 @@ pub record WholePath (d : LentDrawing) (k : ℕ) (r : Range) : Type 0 where
   pub to_end : r.end ≡ end_of (places d.numbers) d.starts k
 
 pub record PicksWholePath (yard lines : LentDrawing) (marks : List ℕ) (pen : Vector) : Type 0 where
-  pub of-yard : (k : ℕ) (r : Range) → pick_of yard lines marks pen ≡ Yard k r → WholePath yard k r
-  pub of-lines : (k : ℕ) (r : Range) → pick_of yard lines marks pen ≡ Lines k r → WholePath lines k r
+  pub of-yard : (k : ℕ) (r : Range) → pick_of yard lines marks pen ≡ Ok (Some (Yard k r)) → WholePath yard k r
+  pub of-lines : (k : ℕ) (r : Range) → pick_of yard lines marks pen ≡ Ok (Some (Lines k r)) → WholePath lines k r

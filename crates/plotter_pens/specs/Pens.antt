@@ -1,5 +1,5 @@
 -- Document 02's pen travel (xiii): which path of two drawings is picked, what is handed back, and how the marks are left.
-use Rattle.std.specs.Prelude.{◌≡◌, Bool, true, false, not, cond, ◌&&◌, ◌||◌, List, [], ◌∷◌, ℕ, zero, suc, ◌+◌, ◌*◌, ◌-◌, ◌%◌, eqb, ltb, Float, get_or, length, set}
+use Rattle.std.specs.Prelude.{◌≡◌, Bool, true, false, not, cond, ◌&&◌, ◌||◌, List, [], ◌∷◌, ℕ, zero, suc, ◌+◌, ◌*◌, ◌-◌, ◌%◌, eqb, ltb, Float, get_or, length, set, Err, None, Ok, Option, Result, Some}
 use Rattle.std.specs.Float.Ieee.{lt}
 use Rattle.std.specs.Float.Ieee.Scale.{finite}
 use Rattle.std.proofs.Math.Seq.{slice}
@@ -16,7 +16,8 @@ use Rattle.paths.specs.Ranges.{range_of}
 use Rattle.paths.specs.declared.Range.{Range}
 use Rattle.plotter_pens.specs.declared.NearestPath.{NearestPath}
 use Rattle.plotter_pens.specs.declared.Choice.{Choice}
-use Rattle.plotter_pens.specs.declared.Choice.TheVariants.{Yard, Lines, UsedUp, Refused}
+use Rattle.plotter_pens.specs.declared.Choice.TheVariants.{Yard, Lines}
+use Rattle.refusals.specs.declared.Refusal.{Refusal}
 
 -- a drawing as it is lent: three numbers a point, and where each path starts among the points
 pub record LentDrawing : Type 0 where
@@ -92,45 +93,44 @@ numbers_finite yard lines pen = point_finite pen && (paths_finite yard && paths_
 
 -- ---- the pick
 -- what was found, as a path of the drawing that holds it
-unfoldable pub picked_from : LentDrawing → LentDrawing → NearestPath → Choice
+unfoldable pub picked_from : LentDrawing → LentDrawing → NearestPath → Result (Option Choice) Refusal
 picked_from yard lines b =
     let k = b.place - length yard.starts in
     cond b.found
-    (cond (ltb b.place (length yard.starts)) (Yard b.place (range_in yard b.place)) (Lines k (range_in lines k)))
-    UsedUp
+    (cond (ltb b.place (length yard.starts)) (Ok (Some (Yard b.place (range_in yard b.place)))) (Ok (Some (Lines k (range_in lines k)))))
+    (Ok None)
 
 -- the first of 2, 4 and 9 that is met, then the nearest path that waits
-unfoldable pub pick_of : LentDrawing → LentDrawing → List ℕ → Vector → Choice
+unfoldable pub pick_of : LentDrawing → LentDrawing → List ℕ → Vector → Result (Option Choice) Refusal
 pick_of yard lines marks pen =
     cond (lengths_good yard lines marks)
     (cond (both_start_well yard lines)
     (cond (numbers_finite yard lines pen) (picked_from yard lines (nearest_of_both yard lines marks pen))
-    (Refused Point))
-    (Refused Parts))
-    (Refused Lengths)
+    (Err Point))
+    (Err Parts))
+    (Err Lengths)
 
 -- its number: 0 where a path is picked, document 02's 15 where both drawings are used up
-unfoldable pub pick_number : Choice → ℕ
-pick_number (Yard k r) = 0
-pick_number (Lines k r) = 0
-pick_number UsedUp = 15
-pick_number (Refused k) = number_of k
+unfoldable pub pick_number : Result (Option Choice) Refusal → ℕ
+pick_number (Ok (Some c)) = 0
+pick_number (Ok None) = 15
+pick_number (Err k) = number_of k
 
 -- the marks afterwards, n of them the yard's: a pick sets its path's byte to 1, a refusal changes none
-unfoldable pub marks_after : ℕ → List ℕ → Choice → List ℕ
-marks_after n marks (Yard k r) = set marks k 1
-marks_after n marks (Lines k r) = set marks (n + k) 1
-marks_after n marks UsedUp = marks
-marks_after n marks (Refused k) = marks
+unfoldable pub marks_after : ℕ → List ℕ → Result (Option Choice) Refusal → List ℕ
+marks_after n marks (Ok (Some (Yard k r))) = set marks k 1
+marks_after n marks (Ok (Some (Lines k r))) = set marks (n + k) 1
+marks_after n marks (Ok None) = marks
+marks_after n marks (Err k) = marks
 
 -- the numbers of the path, as the part of the drawing that holds it
-unfoldable pub part_of : LentDrawing → LentDrawing → Choice → List Float
-part_of yard lines (Yard k r) = slice (r.from * 3) (r.end * 3) yard.numbers
-part_of yard lines (Lines k r) = slice (r.from * 3) (r.end * 3) lines.numbers
-part_of yard lines UsedUp = []
-part_of yard lines (Refused k) = []
+unfoldable pub part_of : LentDrawing → LentDrawing → Result (Option Choice) Refusal → List Float
+part_of yard lines (Ok (Some (Yard k r))) = slice (r.from * 3) (r.end * 3) yard.numbers
+part_of yard lines (Ok (Some (Lines k r))) = slice (r.from * 3) (r.end * 3) lines.numbers
+part_of yard lines (Ok None) = []
+part_of yard lines (Err k) = []
 
-pub record Picked (yard lines : LentDrawing) (marks : List ℕ) (pen : Vector) (p : Choice) (after : List ℕ) : Type 0 where
+pub record Picked (yard lines : LentDrawing) (marks : List ℕ) (pen : Vector) (p : Result (Option Choice) Refusal) (after : List ℕ) : Type 0 where
   pub answer : p ≡ pick_of yard lines marks pen
   pub marks_are : after ≡ marks_after (length yard.starts) marks p
 

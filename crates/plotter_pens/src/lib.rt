@@ -19,27 +19,21 @@ pub struct NearestPath {
     pub distance: f64,
 }
 
-// A path of one of the drawings, by its place there and where it lies among the points; or both are used
-// up; or why the pick is refused.
+// A path of one of the drawings, by its place there and where it lies among the points.
 #[derive(Clone, Copy)]
 pub enum Choice {
     Yard(usize, Range),
     Lines(usize, Range),
-    UsedUp,
-    Refused(Refusal),
 }
 
-impl Choice {
-    // 0, or the number of the refusal: 15 where both drawings are used up.
-    pub fn number(self) -> u32
-        ensures { result ≡ Pens.pick_number self }
-    {
-        match self {
-            Choice::Yard(_, _) => 0,
-            Choice::Lines(_, _) => 0,
-            Choice::UsedUp => 15,
-            Choice::Refused(k) => k.number(),
-        }
+// 0, or the number of the refusal: 15 where both drawings are used up.
+pub fn pick_number(pick: Result<Option<Choice>, Refusal>) -> u32
+    ensures { result ≡ Pens.pick_number pick }
+{
+    match pick {
+        Ok(Some(_)) => 0,
+        Ok(None) => 15,
+        Err(k) => k.number(),
     }
 }
 
@@ -107,10 +101,8 @@ fn nearest_in(
     ensures { result ≡ Pens.nearest_in (lent_drawing points.now starts.now) marks.now first pen (length starts.now) 0 best }
 {
     let mut so_far = best;
-    let mut k = 0;
-    while k < starts.len() {
+    for k in 0..starts.len() {
         so_far = offered(points, starts, marks, first, k, pen, so_far);
-        k += 1;
     }
     so_far
 }
@@ -122,19 +114,19 @@ fn picked_from(
     lines: &[f64],
     line_starts: &[usize],
     best: NearestPath,
-) -> Choice
+) -> Result<Option<Choice>, Refusal>
     requires { best.found ≡ true → best.place < length yard_starts.now + length line_starts.now }
     ensures { result ≡ Pens.picked_from (lent_drawing yard.now yard_starts.now) (lent_drawing lines.now line_starts.now) best }
 {
     if !best.found {
-        return Choice::UsedUp;
+        return Ok(None);
     }
     let k = best.place;
     if k < yard_starts.len() {
-        return Choice::Yard(k, paths::range_of(yard_starts, k, yard.len() / 3));
+        return Ok(Some(Choice::Yard(k, paths::range_of(yard_starts, k, yard.len() / 3))));
     }
     let l = k - yard_starts.len();
-    Choice::Lines(l, paths::range_of(line_starts, l, lines.len() / 3))
+    Ok(Some(Choice::Lines(l, paths::range_of(line_starts, l, lines.len() / 3))))
 }
 
 // Number 2: three numbers a point, and one mark a path.
@@ -177,12 +169,10 @@ fn both_start_well(
 fn all_finite(xs: &[f64]) -> bool
     ensures { result ≡ Pens.all_finite xs.now }
 {
-    let mut i = 0;
-    while i < xs.len() {
+    for i in 0..xs.len() {
         if !floats::is_finite(xs[i]) {
             return false;
         }
-        i += 1;
     }
     true
 }
@@ -235,17 +225,17 @@ pub fn pick(
     line_starts: &[usize],
     marks: &[u8],
     pen: Vector,
-) -> Choice
+) -> Result<Option<Choice>, Refusal>
     ensures { result ≡ Pens.pick_of (lent_drawing yard.now yard_starts.now) (lent_drawing lines.now line_starts.now) marks.now pen }
 {
     if !lengths_good(yard, yard_starts, lines, line_starts, marks) {
-        return Choice::Refused(Refusal::Lengths);
+        return Err(Refusal::Lengths);
     }
     if !both_start_well(yard, yard_starts, lines, line_starts) {
-        return Choice::Refused(Refusal::Parts);
+        return Err(Refusal::Parts);
     }
     if !numbers_finite(yard, yard_starts, lines, line_starts, pen) {
-        return Choice::Refused(Refusal::Point);
+        return Err(Refusal::Point);
     }
     let n = yard_starts.len();
     let of_yard = nearest_in(yard, yard_starts, marks, 0, pen, no_path());
@@ -261,20 +251,20 @@ pub fn pick_and_mark(
     line_starts: &[usize],
     pen: Vector,
     marks: &mut [u8],
-) -> Choice
+) -> Result<Option<Choice>, Refusal>
     ensures { Pens.Picked (lent_drawing yard.now yard_starts.now) (lent_drawing lines.now line_starts.now) marks.old pen result marks.new }
 {
     let p = pick(yard, yard_starts, lines, line_starts, marks, pen);
     match p {
-        Choice::Yard(k, _) => {
+        Ok(Some(Choice::Yard(k, _))) => {
             marks[k] = 1;
         }
-        Choice::Lines(k, _) => {
+        Ok(Some(Choice::Lines(k, _))) => {
             let place = yard_starts.len() + k;
             marks[place] = 1;
         }
-        Choice::UsedUp => {}
-        Choice::Refused(_) => {}
+        Ok(None) => {}
+        Err(_) => {}
     }
     p
 }
@@ -303,11 +293,11 @@ pub fn next_path<'a>(
     ensures { Pens.HandedBack (lent_drawing yard.now yard_starts.now) (lent_drawing lines.now line_starts.now) marks.old pen result.now marks.new number.new }
 {
     let p = pick_and_mark(yard, yard_starts, lines, line_starts, pen, marks);
-    *number = p.number();
+    *number = pick_number(p);
     match p {
-        Choice::Yard(_, r) => part(yard, r),
-        Choice::Lines(_, r) => part(lines, r),
-        Choice::UsedUp => &yard[..0],
-        Choice::Refused(_) => &yard[..0],
+        Ok(Some(Choice::Yard(_, r))) => part(yard, r),
+        Ok(Some(Choice::Lines(_, r))) => part(lines, r),
+        Ok(None) => &yard[..0],
+        Err(_) => &yard[..0],
     }
 }

@@ -7,10 +7,10 @@ use lib.Dec.{eqb, ltb}
 use lib.ListN.{set}
 use lib.Seq.{get_or-set_other}
 use borrow.Author.Tests.{ltb-true, ltb-false}
+use Rattle.std.specs.Prelude.{Err, Ok, Result, ⊤}
 use Rattle.plotter_registers.specs.declared.Position.{Position}
 use Rattle.plotter_registers.specs.declared.Registers.{Registers}
-use Rattle.plotter_registers.specs.declared.WriteAnswer.{WriteAnswer}
-use Rattle.plotter_registers.specs.declared.WriteAnswer.TheVariants.{Accepted, ReadOnly, BadCommand}
+use Rattle.plotter_registers.specs.declared.BadWrite.{BadWrite}
 use Rattle.plotter_registers.specs.Plotter.{has_bit, byte_at, busy, goal, past_sheet, moving, obeyed, judged, stored, after_write, toward, closer, moved, arrived, same_position, step_of}
 use Rattle.plotter_registers.specs.Moves.{BytesLeft, OnSheet, StaysOnSheet}
 use Rattle.plotter_registers.proofs.Moving.{idle, arrives, goes_on, arrived-keeps}
@@ -27,12 +27,11 @@ obeyed-leaves r c k h false false true u e f g i = rw (e, f, g) (get_or-set_othe
 obeyed-leaves r c k h false false false true e f g i = rw (e, f, g, i) (get_or-set_other r.bytes 1 k _ 0 (above 1 k h))
 obeyed-leaves r c k h false false false false e f g i = rw (e, f, g, i) (get_or-set_other r.bytes 1 k _ 0 (above 1 k h))
 
-command-leaves : (r : Registers) (v k : ℕ) → 1 < k → (a : WriteAnswer) → judged r 0 v ≡ a → byte_at k (after_write r 0 v) ≡ byte_at k r
+command-leaves : (r : Registers) (v k : ℕ) → 1 < k → (a : Result ⊤ BadWrite) → judged r 0 v ≡ a → byte_at k (after_write r 0 v) ≡ byte_at k r
 unfolding after_write stored
-command-leaves r v k h Accepted e =
+command-leaves r v k h (Ok tt) e =
     rw e (get_or-set_other (obeyed r v).bytes 0 k v 0 (above 0 k (omega arith)) ∙ obeyed-leaves r v k h (eqb v 1) (eqb v 2) (eqb v 3) (past_sheet (goal r)) refl refl refl refl)
-command-leaves r v k h ReadOnly e = rw e
-command-leaves r v k h BadCommand e = rw e
+command-leaves r v k h (Err x) e = rw e
 
 arrived-leaves : (r : Registers) (k : ℕ) → 1 < k → k < 7 → (m : Bool) → has_bit 1 (byte_at 6 r) ≡ m → byte_at k (arrived r) ≡ byte_at k r
 unfolding arrived
@@ -94,11 +93,10 @@ stored_on r k v p t true b e f = rw e (obeyed-on r v p t (eqb v 1) (eqb v 2) (eq
 stored_on r k v p t false true e f = rw (e, f) (p, t)
 stored_on r k v p t false false e f = rw (e, f) (p, t)
 
-write-on : (r : Registers) (k v : ℕ) → OnSheet r.pen → OnSheet r.target → (a : WriteAnswer) → judged r k v ≡ a → OnSheet (after_write r k v).pen × OnSheet (after_write r k v).target
+write-on : (r : Registers) (k v : ℕ) → OnSheet r.pen → OnSheet r.target → (a : Result ⊤ BadWrite) → judged r k v ≡ a → OnSheet (after_write r k v).pen × OnSheet (after_write r k v).target
 unfolding after_write
-write-on r k v p t Accepted e = rw e (stored_on r k v p t (eqb k 0) (eqb k 6) refl refl)
-write-on r k v p t ReadOnly e = rw e (p, t)
-write-on r k v p t BadCommand e = rw e (p, t)
+write-on r k v p t (Ok tt) e = rw e (stored_on r k v p t (eqb k 0) (eqb k 6) refl refl)
+write-on r k v p t (Err x) e = rw e (p, t)
 
 pub stays-on-sheet : StaysOnSheet
 stays-on-sheet = (

@@ -9,10 +9,11 @@ use lib.Dec.{eqb, ltb}
 use lib.ListN.{length, set, length-set}
 use lib.Seq.{get_or-set_same, get_or-set_other}
 use borrow.Author.Tests.{lt-ltb, le-ltb, ltb-true, ltb-false, eqb-true, eqb-false}
+use Rattle.std.specs.Prelude.{Err, Ok, Result, ⊤}
 use Rattle.plotter_registers.specs.declared.Position.{Position}
 use Rattle.plotter_registers.specs.declared.Registers.{Registers}
-use Rattle.plotter_registers.specs.declared.WriteAnswer.{WriteAnswer}
-use Rattle.plotter_registers.specs.declared.WriteAnswer.TheVariants.{Accepted, ReadOnly, BadCommand}
+use Rattle.plotter_registers.specs.declared.BadWrite.{BadWrite}
+use Rattle.plotter_registers.specs.declared.BadWrite.TheVariants.{BadCommand}
 use Rattle.plotter_registers.specs.Plotter.{busy, has_bit, byte_at, moving, obeyed, judged, stored, after_write, toward, closer, arrived, moved, step_of, same_position, with_byte}
 use Rattle.plotter_registers.specs.Moves.{steps, apart, larger_distance, Move, destination, BusyUntil, PenArrives, TargetFixed, ChangedOnly}
 
@@ -174,7 +175,7 @@ begun r c to h =
     let long : 1 < length r.bytes = omega arith in
     rw (get_or-set_other (set r.bytes 1 (bit_or (bit_and (byte_at 1 r) 251) 2)) 0 1 c 0 off, get_or-set_same r.bytes 1 _ 0, raised)
 
-accept : (r : Registers) (k v : ℕ) → judged r k v ≡ Accepted → after_write r k v ≡ stored r k v
+accept : (r : Registers) (k v : ℕ) → judged r k v ≡ Ok tt → after_write r k v ≡ stored r k v
 unfolding after_write
 accept r k v e = rw e
 
@@ -197,14 +198,14 @@ unfolding moving
 pen-arrives r c m n h = rw (begins r c m) ((begun-moves r c m n).ends h)
 
 -- no command is accepted while busy
-command-refused : (r : Registers) (v : ℕ) → busy r ≡ true → judged r 0 v ≡ BadCommand
+command-refused : (r : Registers) (v : ℕ) → busy r ≡ true → judged r 0 v ≡ Err BadCommand
 unfolding judged
 command-refused r v b = rw (b, or-true)
 
-while-busy : (r : Registers) (k v : ℕ) → busy r ≡ true → judged r k v ≡ Accepted → (u : Bool) → eqb k 0 ≡ u → u ≡ false
+while-busy : (r : Registers) (k v : ℕ) → busy r ≡ true → judged r k v ≡ Ok tt → (u : Bool) → eqb k 0 ≡ u → u ≡ false
 while-busy r k v b e false h = refl
 while-busy r k v b e true h =
-    let p : judged r k v ≡ BadCommand = rw (eqb-true k 0 h) (command-refused r v b) in
+    let p : judged r k v ≡ Err BadCommand = rw (eqb-true k 0 h) (command-refused r v b) in
     let z : ◌≡◌ {A = ℕ} 0 1 = cc in
     absurd (omega arith)
 
@@ -213,12 +214,11 @@ unfolding stored
 byte-stored r k v h true e = rw (h, e)
 byte-stored r k v h false e = rw (h, e)
 
-write_keeps : (r : Registers) (k v : ℕ) → busy r ≡ true → (a : WriteAnswer) → judged r k v ≡ a → (after_write r k v).target ≡ r.target
+write_keeps : (r : Registers) (k v : ℕ) → busy r ≡ true → (a : Result ⊤ BadWrite) → judged r k v ≡ a → (after_write r k v).target ≡ r.target
 unfolding after_write
-write_keeps r k v b Accepted e =
+write_keeps r k v b (Ok tt) e =
     rw e (byte-stored r k v (while-busy r k v b e (eqb k 0) refl) (eqb k 6) refl)
-write_keeps r k v b ReadOnly e = rw e
-write_keeps r k v b BadCommand e = rw e
+write_keeps r k v b (Err x) e = rw e
 
 step_keeps : (r : Registers) (b u : Bool) → busy r ≡ b → same_position (closer r.pen r.target) r.target ≡ u → (step_of r).target ≡ r.target
 unfolding moved
@@ -230,11 +230,10 @@ pub target_fixed : TargetFixed
 target_fixed r =
     (λ k v b. write_keeps r k v b (judged r k v) refl, step_keeps r (busy r) (same_position (closer r.pen r.target) r.target) refl refl)
 
-refused : (r : Registers) (k v : ℕ) → (judged r k v ≡ Accepted → ⊥) → (a : WriteAnswer) → judged r k v ≡ a → after_write r k v ≡ r
+refused : (r : Registers) (k v : ℕ) → (judged r k v ≡ Ok tt → ⊥) → (a : Result ⊤ BadWrite) → judged r k v ≡ a → after_write r k v ≡ r
 unfolding after_write
-refused r k v n Accepted e = absurd (n e)
-refused r k v n ReadOnly e = rw e
-refused r k v n BadCommand e = rw e
+refused r k v n (Ok tt) e = absurd (n e)
+refused r k v n (Err x) e = rw e
 
 pub changed-only : ChangedOnly
 changed-only r = (λ k v n. refused r k v n (judged r k v) refl, idle r)

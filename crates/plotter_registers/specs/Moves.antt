@@ -1,8 +1,7 @@
 -- What request (xiv) promises of a move, and of what changes: the statements that `../proofs/Moving.antt` and `../proofs/Keeping.antt` prove.
-use Rattle.std.specs.Prelude.{◌≡◌, true, false, cond, ◌⊎◌, ℕ, zero, suc, ◌+◌, ◌-◌, ◌<◌, ◌≤◌, max, eqb, ltb, length}
+use Rattle.std.specs.Prelude.{◌≡◌, true, false, cond, ◌⊎◌, ℕ, zero, suc, ◌+◌, ◌-◌, ◌<◌, ◌≤◌, max, eqb, ltb, length, Ok}
 use Rattle.plotter_registers.specs.declared.Position.{Position}
 use Rattle.plotter_registers.specs.declared.Registers.{Registers}
-use Rattle.plotter_registers.specs.declared.WriteAnswer.TheVariants.{Accepted}
 use Rattle.plotter_registers.specs.Plotter.{byte_at, home, initial, busy, goal, past_sheet, judged, after_write, step_of}
 
 -- n steps, and no write
@@ -21,7 +20,7 @@ larger_distance p q = max (apart p.x q.x) (apart p.y q.y)
 -- "an accepted move": home, or a go that is not past the sheet. The code's registers have eight bytes by their type.
 pub record Move (r : Registers) (c : ℕ) : Type 0 where
   pub eight : length r.bytes ≡ 8
-  pub accepted : judged r 0 c ≡ Accepted
+  pub accepted : judged r 0 c ≡ Ok tt
   pub kind : (c ≡ 3) ⊎ ((c ≡ 4) × (past_sheet (goal r) ≡ false))
 
 abbrev pub destination : Registers → ℕ → Position
@@ -45,7 +44,7 @@ TargetFixed = (r : Registers) → ((k v : ℕ) → busy r ≡ true → (after_wr
 
 -- "only by accepted writes and by steps while busy"
 abbrev pub ChangedOnly : Type 0
-ChangedOnly = (r : Registers) → ((k v : ℕ) → (judged r k v ≡ Accepted → ⊥) → after_write r k v ≡ r) × (busy r ≡ false → step_of r ≡ r)
+ChangedOnly = (r : Registers) → ((k v : ℕ) → (judged r k v ≡ Ok tt → ⊥) → after_write r k v ≡ r) × (busy r ≡ false → step_of r ≡ r)
 
 -- A command leaves bytes 2 to 7, so "home leaves bytes 2 to 5"; a step leaves all but the status and pending.
 abbrev pub BytesLeft : Type 0

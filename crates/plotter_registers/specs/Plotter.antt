@@ -1,17 +1,17 @@
 -- The plotter's registers of document 02, request (xiv): what a write answers and leaves, and what a step does.
-use Rattle.std.specs.Prelude.{Bool, not, cond, ◌&&◌, ◌||◌, ℕ, ◌+◌, ◌*◌, ◌-◌, eqb, ltb, get_or, set, replicate}
+use Rattle.std.specs.Prelude.{Bool, not, cond, ◌&&◌, ◌||◌, ℕ, ◌+◌, ◌*◌, ◌-◌, eqb, ltb, get_or, set, replicate, Err, Ok, Result, ⊤}
 use Rattle.std.specs.Int.Bits.{bit_and, bit_or}
 use Rattle.plotter_registers.specs.declared.Position.{Position}
 use Rattle.plotter_registers.specs.declared.Registers.{Registers}
 use Rattle.plotter_registers.specs.declared.Written.{Written}
-use Rattle.plotter_registers.specs.declared.WriteAnswer.{WriteAnswer}
-use Rattle.plotter_registers.specs.declared.WriteAnswer.TheVariants.{Accepted, ReadOnly, BadCommand}
+use Rattle.plotter_registers.specs.declared.BadWrite.{BadWrite}
+use Rattle.plotter_registers.specs.declared.BadWrite.TheVariants.{ReadOnly, BadCommand}
 
 -- Document 02's number of each refusal; 0 for none.
-unfoldable pub write_number : WriteAnswer → ℕ
-write_number Accepted = 0
-write_number ReadOnly = 16
-write_number BadCommand = 17
+unfoldable pub write_number : Result ⊤ BadWrite → ℕ
+write_number (Ok tt) = 0
+write_number (Err ReadOnly) = 16
+write_number (Err BadCommand) = 17
 
 -- "status (bit 0 pen down, bit 1 busy, bit 2 off sheet)": each bit by its weight
 abbrev pub pen_down_bit : ℕ
@@ -76,10 +76,10 @@ obeyed r c =
     (moving r (goal r)))))
 
 -- 16: "a write to bytes 1 or 7 or past byte 7"; then 17: "a command byte outside 1 to 4 or given while busy"
-unfoldable pub judged : Registers → ℕ → ℕ → WriteAnswer
+unfoldable pub judged : Registers → ℕ → ℕ → Result ⊤ BadWrite
 judged r at v =
-    cond (eqb at 1 || ltb 6 at) ReadOnly
-    (cond (eqb at 0 && ((eqb v 0 || ltb 4 v) || busy r)) BadCommand Accepted)
+    cond (eqb at 1 || ltb 6 at) (Err ReadOnly)
+    (cond (eqb at 0 && ((eqb v 0 || ltb 4 v) || busy r)) (Err BadCommand) (Ok tt))
 
 -- what an accepted write leaves: "byte 0 keeps every accepted command", "a write to the mask clears pending"
 unfoldable pub stored : Registers → ℕ → ℕ → Registers
@@ -87,10 +87,9 @@ stored r at v =
     cond (eqb at 0) (with_byte 0 v (obeyed r v))
     (cond (eqb at 6) (with_byte 7 0 (with_byte 6 v r)) (with_byte at v r))
 
-abbrev pub on_accepted : WriteAnswer → Registers → Registers → Registers
-on_accepted Accepted a b = a
-on_accepted ReadOnly a b = b
-on_accepted BadCommand a b = b
+abbrev pub on_accepted : Result ⊤ BadWrite → Registers → Registers → Registers
+on_accepted (Ok tt) a b = a
+on_accepted (Err k) a b = b
 
 -- the registers after a write; a refused one changes nothing
 unfoldable pub after_write : Registers → ℕ → ℕ → Registers

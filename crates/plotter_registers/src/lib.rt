@@ -23,24 +23,21 @@ pub struct Registers {
     pub bytes: [u8; 8],
 }
 
-// What a write meets.
+// Why a write is refused.
 #[derive(Clone, Copy)]
-pub enum WriteAnswer {
-    Accepted,
+pub enum BadWrite {
     ReadOnly,
     BadCommand,
 }
 
-impl WriteAnswer {
-    // 0, or the number of the refusal.
-    pub fn number(self) -> u32
-        ensures { result ≡ Plotter.write_number self }
-    {
-        match self {
-            WriteAnswer::Accepted => 0,
-            WriteAnswer::ReadOnly => 16,
-            WriteAnswer::BadCommand => 17,
-        }
+// 0, or the number of the refusal.
+pub fn write_number(answer: Result<(), BadWrite>) -> u32
+    ensures { result ≡ Plotter.write_number answer }
+{
+    match answer {
+        Ok(_) => 0,
+        Err(BadWrite::ReadOnly) => 16,
+        Err(BadWrite::BadCommand) => 17,
     }
 }
 
@@ -155,28 +152,28 @@ impl Registers {
     }
 
     // Whether a write is accepted: first its place is judged, then the command.
-    fn judged(self, at: usize, value: u8) -> WriteAnswer
+    fn judged(self, at: usize, value: u8) -> Result<(), BadWrite>
         ensures { result ≡ Plotter.judged self at value }
     {
         if at == 1 {
-            return WriteAnswer::ReadOnly;
+            return Err(BadWrite::ReadOnly);
         }
         if 6 < at {
-            return WriteAnswer::ReadOnly;
+            return Err(BadWrite::ReadOnly);
         }
         if at != 0 {
-            return WriteAnswer::Accepted;
+            return Ok(());
         }
         if value == 0 {
-            return WriteAnswer::BadCommand;
+            return Err(BadWrite::BadCommand);
         }
         if 4 < value {
-            return WriteAnswer::BadCommand;
+            return Err(BadWrite::BadCommand);
         }
         if self.busy() {
-            return WriteAnswer::BadCommand;
+            return Err(BadWrite::BadCommand);
         }
-        WriteAnswer::Accepted
+        Ok(())
     }
 
     // What an accepted write leaves.
@@ -203,19 +200,15 @@ impl Registers {
         ensures { result ≡ Plotter.write_of self at value }
     {
         let answer = self.judged(at, value);
-        let number = answer.number();
+        let number = write_number(answer);
         match answer {
-            WriteAnswer::Accepted => Written {
+            Ok(_) => Written {
                 registers: self.stored(at, value),
-                number: number,
+                number,
             },
-            WriteAnswer::ReadOnly => Written {
+            Err(_) => Written {
                 registers: self,
-                number: number,
-            },
-            WriteAnswer::BadCommand => Written {
-                registers: self,
-                number: number,
+                number,
             },
         }
     }

@@ -18,14 +18,10 @@ use Rattle.refusals.specs.declared.Refusal.{Refusal}
 use Rattle.refusals.specs.declared.Refusal.TheVariants.{Lengths, Values, Parts, Measures, Placing, Extent, View, Point, Restarts, Waiting, Room, Stripes}
 use Rattle.limits.specs.Limits.{within_point}
 use Rattle.scene.specs.Scenes.{Scene}
-use Rattle.scene_shape.specs.declared.Struck.{Struck}
 use Rattle.check_scene.specs.Checks.{check_of, inverses_of, if_accepted}
-use Rattle.check_scene.specs.declared.Verdict.{Verdict}
-use Rattle.check_scene.specs.declared.Verdict.TheVariants.{Accepted, Refused}
 use Rattle.check_scene.proofs.Accepted.{left_is}
 use Rattle.tree_walk.specs.Walks.{entry_hit}
 use Rattle.tree_sight.specs.declared.Sight.{Sight}
-use Rattle.tree_sight.specs.declared.Sight.TheVariants.{Refused as NotSeen}
 use Rattle.tree_cover.specs.Seeking.{seek_rows, covered_by}
 use Rattle.tree_cover.specs.declared.Sought.{Sought}
 use Rattle.query_scene.specs.Queries.{seen_after}
@@ -33,16 +29,16 @@ use Rattle.query_scene.proofs.Answers.{hits-are}
 use Rattle.query_scene.proofs.Copies.{Copied}
 use Rattle.query_cover.proofs.Telling.{word_after, word-is, telling-turn, telling-end}
 use Rattle.query_cover.specs.Covered.{covered_past, covered_of, byte_of, bytes_past, batch_if, batch_by, if_answered, AllTold}
-use Rattle.query_cover.specs.declared.Batch.{Batch}
-use Rattle.query_cover.specs.declared.Batch.TheVariants.{Answered, Refused as NoneAnswered}
+use Rattle.std.specs.Prelude.{Err, Ok, Result, ⊤}
+use Rattle.geometry.specs.declared.hit.Hit.{Hit}
 
 -- ---- one point
-pub covered-refused : (s : Scene) (k : Refusal) → check_of s ≡ Refused k → (bs : List Float) (ms os : List ℕ) (eye point : Vector) → NotSeen k ≡ covered_of s bs ms os eye point
+pub covered-refused : (s : Scene) (k : Refusal) → check_of s ≡ Err k → (bs : List Float) (ms os : List ℕ) (eye point : Vector) → Err k ≡ covered_of s bs ms os eye point
 unfolding covered_of seen_after
 covered-refused s k is bs ms os eye point = rw is
 
-module _ (s : Scene) (n : ℕ) (is : check_of s ≡ Accepted n) (bs : List Float) (ms os : List ℕ) (eye : Vector) {a : Bool} (ea : a ≡ within_point eye) where
-  pub eye-refused : a ≡ false → (point : Vector) → NotSeen View ≡ covered_of s bs ms os eye point
+module _ (s : Scene) (n : ℕ) (is : check_of s ≡ Ok n) (bs : List Float) (ms os : List ℕ) (eye : Vector) {a : Bool} (ea : a ≡ within_point eye) where
+  pub eye-refused : a ≡ false → (point : Vector) → Err View ≡ covered_of s bs ms os eye point
   unfolding covered_of seen_after
   eye-refused f point = rw (is, ← ea, f)
 
@@ -51,15 +47,15 @@ module _ (s : Scene) (n : ℕ) (is : check_of s ≡ Accepted n) (bs : List Float
       → covered_past (λ (d : Float) (r : Ray). seek_rows d (entry_hit s.numbers vs s.marks r) r bs ms os) eye point ≡ covered_of s bs ms os eye point
   unfolding covered_of seen_after
   covered-is t L vs left point =
-      ap (λ (w : Float → Ray → Sought). covered_past w eye point)
-      (fun_ext (λ (d : Float). fun_ext (λ (r : Ray). ap (λ (hit : ℕ → Struck). seek_rows d hit r bs ms os) (hits-are s n is L vs left bs ms os r))))
+      ap (λ (w : Float → Ray → Result Sought Refusal). covered_past w eye point)
+      (fun_ext (λ (d : Float). fun_ext (λ (r : Ray). ap (λ (hit : ℕ → Result Hit Refusal). seek_rows d hit r bs ms os) (hits-are s n is L vs left bs ms os r))))
       ∙ rw (is, ← ea, t)
 
-pub past-refused : (seek : Float → Ray → Sought) (eye point : Vector) {a : Bool} → a ≡ within_point point → a ≡ false → NotSeen Point ≡ covered_past seek eye point
+pub past-refused : (seek : Float → Ray → Result Sought Refusal) (eye point : Vector) {a : Bool} → a ≡ within_point point → a ≡ false → Err Point ≡ covered_past seek eye point
 unfolding covered_past
 past-refused seek eye point e f = rw (← e, f)
 
-pub past_is : (seek : Float → Ray → Sought) (eye point : Vector) {a : Bool} → a ≡ within_point point → a ≡ true → {s : Sight} → s ≡ covered_by seek eye point → s ≡ covered_past seek eye point
+pub past_is : (seek : Float → Ray → Result Sought Refusal) (eye point : Vector) {a : Bool} → a ≡ within_point point → a ≡ true → {s : Result Sight Refusal} → s ≡ covered_by seek eye point → s ≡ covered_past seek eye point
 unfolding covered_past
 past_is seek eye point e t q = q ∙ rw (← e, t)
 
@@ -82,7 +78,7 @@ number_fits Stripes = omega arith
 pub byte_fits : (k : Refusal) (n : ℕ) → n ≡ number_of k → n < 256
 byte_fits k n e = omega (arith, e, number_fits k)
 
-module _ (seek : Float → Ray → Sought) (eye : Vector) (n : ℕ) (tested : List Float) where
+module _ (seek : Float → Ray → Result Sought Refusal) (eye : Vector) (n : ℕ) (tested : List Float) where
   abbrev told : Vector → ℕ
   told p = byte_of (covered_past seek eye p)
 
@@ -90,7 +86,7 @@ module _ (seek : Float → Ray → Sought) (eye : Vector) (n : ℕ) (tested : Li
   unfolding bytes_past
   byte-after = word_after told n tested
 
-  pub byte-is : (k : ℕ) → k < n → (p : Vector) → p ≡ point_of (row 3 k tested) → (a : Sight) → a ≡ covered_past seek eye p → (b : ℕ) → b ≡ byte_of a → b ≡ get_or (bytes_past seek eye n tested) k 0
+  pub byte-is : (k : ℕ) → k < n → (p : Vector) → p ≡ point_of (row 3 k tested) → (a : Result Sight Refusal) → a ≡ covered_past seek eye p → (b : ℕ) → b ≡ byte_of a → b ≡ get_or (bytes_past seek eye n tested) k 0
   unfolding bytes_past
   byte-is k h p ep a ea b eb = word-is told n tested k h p ep b (eb ∙ ap byte_of ea)
 
@@ -105,83 +101,82 @@ module _ (seek : Float → Ray → Sought) (eye : Vector) (n : ℕ) (tested : Li
     bytes-end = telling-end told n tested told₀ h
 
 -- ---- many points
-module _ (v : Verdict) (ok : Bool) (size room : ℕ) where
-  pub judge-lengths : (size / 3 * 3 ≡ size → ⊥) → NoneAnswered Lengths ≡ batch_if v ok size room
+module _ (v : Result ℕ Refusal) (ok : Bool) (size room : ℕ) where
+  pub judge-lengths : (size / 3 * 3 ≡ size → ⊥) → Err Lengths ≡ batch_if v ok size room
   unfolding batch_if
   judge-lengths h = go v
     where
-      go : (w : Verdict) → NoneAnswered Lengths ≡ batch_if w ok size room
-      go (Accepted n) = rw (ne_eqb (size / 3 * 3) size h)
-      go (Refused k) = rw (ne_eqb (size / 3 * 3) size h)
+      go : (w : Result ℕ Refusal) → Err Lengths ≡ batch_if w ok size room
+      go (Ok n) = rw (ne_eqb (size / 3 * 3) size h)
+      go (Err k) = rw (ne_eqb (size / 3 * 3) size h)
 
   module _ (h : size / 3 * 3 ≡ size) where
-    pub judge-refused : (k : Refusal) → v ≡ Refused k → NoneAnswered k ≡ batch_if v ok size room
+    pub judge-refused : (k : Refusal) → v ≡ Err k → Err k ≡ batch_if v ok size room
     unfolding batch_if
     judge-refused k e = rw (e, eq-eqb (size / 3 * 3) size h)
 
-    module _ (n : ℕ) (e : v ≡ Accepted n) where
-      pub judge-view : ok ≡ false → NoneAnswered View ≡ batch_if v ok size room
+    module _ (n : ℕ) (e : v ≡ Ok n) where
+      pub judge-view : ok ≡ false → Err View ≡ batch_if v ok size room
       unfolding batch_if
       judge-view f = rw (e, eq-eqb (size / 3 * 3) size h, f)
 
-      pub judge-room : ok ≡ true → room < size / 3 → NoneAnswered Room ≡ batch_if v ok size room
+      pub judge-room : ok ≡ true → room < size / 3 → Err Room ≡ batch_if v ok size room
       unfolding batch_if
       judge-room t l = rw (e, eq-eqb (size / 3 * 3) size h, t, lt-leb (size / 3) room l)
 
-      pub judge-answered : ok ≡ true → size / 3 ≤ room → Answered ≡ batch_if v ok size room
+      pub judge-answered : ok ≡ true → size / 3 ≤ room → Ok tt ≡ batch_if v ok size room
       unfolding batch_if
       judge-answered t l = rw (e, eq-eqb (size / 3 * 3) size h, t, le-leb (size / 3) room l)
 
-abbrev is_done : Batch → ℕ
-is_done Answered = 1
-is_done (NoneAnswered k) = 0
+abbrev done : Result ⊤ Refusal
+done = Ok tt
 
-not_done : (k : Refusal) → Answered ≡ NoneAnswered k → ⊥
-not_done k e = let z : is_done Answered ≡ is_done (NoneAnswered k) = ap is_done e in omega (arith, z)
+not_done : (k : Refusal) → done ≡ Err k → ⊥
+not_done k e = cc
 
 -- what holds where the points are answered
-pub record Fit (v : Verdict) (ok : Bool) (size room : ℕ) : Type 0 where
+pub record Fit (v : Result ℕ Refusal) (ok : Bool) (size room : ℕ) : Type 0 where
   pub many : ℕ
-  pub accepted : v ≡ Accepted many
+  pub accepted : v ≡ Ok many
   pub passed : ok ≡ true
   pub fits : size / 3 ≤ room
 
-pub answered-so : (v : Verdict) (ok : Bool) (size room : ℕ) → Answered ≡ batch_if v ok size room → Fit v ok size room
+pub answered-so : (v : Result ℕ Refusal) (ok : Bool) (size room : ℕ) → done ≡ batch_if v ok size room → Fit v ok size room
 unfolding batch_if
-answered-so (Refused k) ok size room e = absurd (go (eqb (size / 3 * 3) size) e)
+answered-so (Err k) ok size room e = absurd (go (eqb (size / 3 * 3) size) e)
   where
-    go : (t : Bool) → Answered ≡ cond t (NoneAnswered k) (NoneAnswered Lengths) → ⊥
+    go : (t : Bool) → done ≡ cond t (Err k) (Err Lengths) → ⊥
     go true e = not_done k e
     go false e = not_done Lengths e
-answered-so (Accepted n) ok size room e = go (eqb (size / 3 * 3) size) ok (leb (size / 3) room) (leb-true (size / 3) room) e
+answered-so (Ok n) ok size room e = go (eqb (size / 3 * 3) size) ok (leb (size / 3) room) (leb-true (size / 3) room) e
   where
     go : (t a b : Bool) → (b ≡ true → size / 3 ≤ room)
-        → Answered ≡ cond t (cond a (cond b Answered (NoneAnswered Room)) (NoneAnswered View)) (NoneAnswered Lengths) → Fit (Accepted n) a size room
+        → done ≡ cond t (cond a (cond b done (Err Room)) (Err View)) (Err Lengths) → Fit (Ok n) a size room
     go false a b l e = absurd (not_done Lengths e)
     go true false b l e = absurd (not_done View e)
     go true true false l e = absurd (not_done Room e)
     go true true true l e = record { many = n; accepted = refl; passed = refl; fits = l refl }
 
-pub batch-fits : (v : Verdict) (ok : Bool) (size room : ℕ) (b : Batch) → b ≡ batch_if v ok size room → (n : ℕ) → n ≡ if_answered b (size / 3) → (n * 3 ≤ size) × (n ≤ room)
+pub batch-fits : (v : Result ℕ Refusal) (ok : Bool) (size room : ℕ) (b : Result ⊤ Refusal) → b ≡ batch_if v ok size room → (n : ℕ) → n ≡ if_answered b (size / 3) → (n * 3 ≤ size) × (n ≤ room)
 unfolding if_answered
-batch-fits v ok size room (NoneAnswered k) e n en = (omega (arith, en), omega (arith, en))
-batch-fits v ok size room Answered e n en = (omega (arith, en), omega (arith, en, (answered-so v ok size room e).fits))
+batch-fits v ok size room (Err k) e n en = (omega (arith, en), omega (arith, en))
+batch-fits v ok size room (Ok tt) e n en = (omega (arith, en), omega (arith, en, (answered-so v ok size room e).fits))
 
-module _ (s : Scene) (bs : List Float) (ms os : List ℕ) (eye : Vector) (tested : List Float) (told₀ : List ℕ) (v : Verdict) (ev : v ≡ check_of s) (L : ℕ) (vs : List Float)
+module _ (s : Scene) (bs : List Float) (ms os : List ℕ) (eye : Vector) (tested : List Float) (told₀ : List ℕ) (v : Result ℕ Refusal) (ev : v ≡ check_of s) (L : ℕ) (vs : List Float)
     (left : vs ≡ padded zero_f L (if_accepted v (inverses_of s))) where
-  abbrev seekLeft : Float → Ray → Sought
+  abbrev seekLeft : Float → Ray → Result Sought Refusal
   seekLeft d r = seek_rows d (entry_hit s.numbers vs s.marks r) r bs ms os
 
-  bytes-so : (b : Batch) → b ≡ batch_by v eye (length tested) (length told₀)
+  bytes-so : (b : Result ⊤ Refusal) → b ≡ batch_by v eye (length tested) (length told₀)
       → bytes_past seekLeft eye (if_answered b (length tested / 3)) tested
       ≡ view 3 (λ (p : List Float). byte_of (covered_of s bs ms os eye (point_of p))) (if_answered b (length tested / 3)) tested
   unfolding bytes_past if_answered view
-  bytes-so (NoneAnswered k) e = refl
-  bytes-so Answered e =
+  bytes-so (Err k) e = refl
+  bytes-so (Ok tt) e =
       let f = answered-so v (within_point eye) (length tested) (length told₀) e in
       ap (λ (g : List Float → ℕ). view 3 g (length tested / 3) tested)
       (fun_ext (λ (p : List Float). ap byte_of (covered-is s f.many (sym ev ∙ f.accepted) bs ms os eye refl f.passed L vs (left_is zero_f f.many f.accepted L (inverses_of s) left) (point_of p))))
 
-  pub all_told : (b : Batch) → b ≡ batch_by v eye (length tested) (length told₀) → (n : ℕ) → n ≡ if_answered b (length tested / 3) → (told : List ℕ)
+  pub all_told : (b : Result ⊤ Refusal) → b ≡ batch_by v eye (length tested) (length told₀) → (n : ℕ) → n ≡ if_answered b (length tested / 3) → (told : List ℕ)
       → told ≡ padded 0 (length told₀) (bytes_past seekLeft eye n tested) → AllTold s bs ms os eye tested told₀ b told
   all_told b e n en told et = record { answer = e ∙ rw ev; bytes_are = et ∙ rw en (ap (padded 0 (length told₀)) (bytes-so b e)) }

@@ -16,63 +16,61 @@ use Rattle.refusals.specs.declared.Refusal.TheVariants.{View, Point}
 use Rattle.limits.specs.Limits.{within_point}
 use Rattle.limits.proofs.Limits.{within-point}
 use Rattle.scene.specs.Scenes.{Scene}
-use Rattle.scene_shape.specs.declared.Struck.TheVariants.{At}
 use Rattle.check_scene.specs.Checks.{check_of}
-use Rattle.check_scene.specs.declared.Verdict.{Verdict}
-use Rattle.check_scene.specs.declared.Verdict.TheVariants.{Accepted, Refused}
 use Rattle.tree_walk.specs.Walks.{walk_rows}
 use Rattle.tree_sight.specs.Sights.{eye_ray, sees}
 use Rattle.tree_sight.specs.declared.Sight.{Sight}
-use Rattle.tree_sight.specs.declared.Sight.TheVariants.{Visible, Hidden, Refused as NotSeen}
+use Rattle.tree_sight.specs.declared.Sight.TheVariants.{Visible, Hidden}
 use Rattle.tree_cover.specs.Seeking.{seek_rows, covered_by}
 use Rattle.tree_cover.specs.Agreeing.{SameOrHidden, or_short, or_hidden}
 use Rattle.tree_cover.proofs.Sighting.{covered-agrees, covered-ends, no-only-if-short}
 use Rattle.query_scene.specs.Queries.{own_hits, seen_after, visible_of}
 use Rattle.query_cover.specs.Covered.{covered_past, covered_of}
 use Rattle.query_cover.specs.Promise.{CoveredLikeVisible, CoveredOnlyIfShort, visible_but_for, OnlyDeparture}
+use Rattle.std.specs.Prelude.{Err, Ok, Result}
 
 module _ (s : Scene) (boxes : List Float) (marks order : List ℕ) (eye point : Vector) where
-  abbrev stopping : Sight
+  abbrev stopping : Result Sight Refusal
   stopping = covered_by (λ (d : Float) (r : Ray). seek_rows d (own_hits s r) r boxes marks order) eye point
 
-  abbrev full : Sight
+  abbrev full : Result Sight Refusal
   full = sees (λ (r : Ray). walk_rows (own_hits s r) r boxes marks order) eye point
 
   -- after the numbers 2 to 9
-  like-after : (v : Verdict) (a b : Bool) → (a ≡ true → Within eye) → (b ≡ true → Within point)
-      → SameOrHidden (seen_after v (cond a (cond b stopping (NotSeen Point)) (NotSeen View))) (seen_after v (cond a (cond b full (NotSeen Point)) (NotSeen View)))
+  like-after : (v : Result ℕ Refusal) (a b : Bool) → (a ≡ true → Within eye) → (b ≡ true → Within point)
+      → SameOrHidden (seen_after v (cond a (cond b stopping (Err Point)) (Err View))) (seen_after v (cond a (cond b full (Err Point)) (Err View)))
   unfolding seen_after
-  like-after (Refused k) a b f g = refl
-  like-after (Accepted n) false b f g = refl
-  like-after (Accepted n) true false f g = refl
-  like-after (Accepted n) true true f g = covered-agrees (own_hits s) boxes marks order eye point (f refl) (g refl)
+  like-after (Err k) a b f g = refl
+  like-after (Ok n) false b f g = refl
+  like-after (Ok n) true false f g = refl
+  like-after (Ok n) true true f g = covered-agrees (own_hits s) boxes marks order eye point (f refl) (g refl)
 
-  departs-after : (k : Refusal) (v : Verdict) (a b : Bool) → (a ≡ true → Within eye) → (b ≡ true → Within point)
-      → or_hidden k (seen_after v (cond a (cond b stopping (NotSeen Point)) (NotSeen View)))
-      ≡ seen_after v (cond a (cond b (sees (λ (r : Ray). walk_rows (λ (i : ℕ). or_short k (distance_of eye point) (own_hits s r i)) r boxes marks order) eye point) (NotSeen Point)) (NotSeen View))
+  departs-after : (k : Refusal) (v : Result ℕ Refusal) (a b : Bool) → (a ≡ true → Within eye) → (b ≡ true → Within point)
+      → or_hidden k (seen_after v (cond a (cond b stopping (Err Point)) (Err View)))
+      ≡ seen_after v (cond a (cond b (sees (λ (r : Ray). walk_rows (λ (i : ℕ). or_short k (distance_of eye point) (own_hits s r i)) r boxes marks order) eye point) (Err Point)) (Err View))
   unfolding seen_after or_hidden
-  departs-after k (Refused n) a b f g = refl
-  departs-after k (Accepted n) false b f g = refl
-  departs-after k (Accepted n) true false f g = refl
-  departs-after k (Accepted n) true true f g = covered-ends k (own_hits s) boxes marks order eye point (f refl) (g refl)
+  departs-after k (Err n) a b f g = refl
+  departs-after k (Ok n) false b f g = refl
+  departs-after k (Ok n) true false f g = refl
+  departs-after k (Ok n) true true f g = covered-ends k (own_hits s) boxes marks order eye point (f refl) (g refl)
 
   abbrev Far : Type 0
-  Far = (i : ℕ) × (h : Hit) × (own_hits s (eye_ray eye point) i ≡ At h) × T (lt h.t (distance_of eye point))
+  Far = (i : ℕ) × (h : Hit) × (own_hits s (eye_ray eye point) i ≡ Ok h) × T (lt h.t (distance_of eye point))
 
-  abbrev is_no : Sight → ℕ
-  is_no Visible = 0
-  is_no Hidden = 1
-  is_no (NotSeen k) = 0
+  abbrev is_no : Result Sight Refusal → ℕ
+  is_no (Ok Visible) = 0
+  is_no (Ok Hidden) = 1
+  is_no (Err k) = 0
 
-  refused-no : (k : Refusal) → NotSeen k ≡ Hidden → ⊥
-  refused-no k e = let z : is_no (NotSeen k) ≡ is_no Hidden = ap is_no e in omega (arith, z)
+  refused-no : (k : Refusal) → Err k ≡ Ok Hidden → ⊥
+  refused-no k e = let z : is_no (Err k) ≡ is_no (Ok Hidden) = ap is_no e in omega (arith, z)
 
-  short-after : (v : Verdict) (a b : Bool) → seen_after v (cond a (cond b stopping (NotSeen Point)) (NotSeen View)) ≡ Hidden → Far
+  short-after : (v : Result ℕ Refusal) (a b : Bool) → seen_after v (cond a (cond b stopping (Err Point)) (Err View)) ≡ Ok Hidden → Far
   unfolding seen_after
-  short-after (Refused k) a b e = absurd (refused-no k e)
-  short-after (Accepted n) false b e = absurd (refused-no View e)
-  short-after (Accepted n) true false e = absurd (refused-no Point e)
-  short-after (Accepted n) true true e = no-only-if-short (own_hits s) boxes marks order eye point e
+  short-after (Err k) a b e = absurd (refused-no k e)
+  short-after (Ok n) false b e = absurd (refused-no View e)
+  short-after (Ok n) true false e = absurd (refused-no Point e)
+  short-after (Ok n) true true e = no-only-if-short (own_hits s) boxes marks order eye point e
 
 pub covered-like-visible : CoveredLikeVisible
 unfolding covered_of covered_past visible_of

@@ -9,17 +9,9 @@ ghost use Rattle.tree_walk.specs.Walks.{entry_hit};
 ghost use Rattle.tree_cover.specs.Seeking.{seek_rows};
 ghost use Rattle.query_cover.specs.Covered as Covered;
 
-use check_scene::Verdict;
 use geometry::vector::Vector;
 use refusals::Refusal;
 use tree_sight::Sight;
-
-// Whether each point of many is answered in the lent slice, or why none is.
-#[derive(Clone, Copy)]
-pub enum Batch {
-    Answered,
-    Refused(Refusal),
-}
 
 // Number 9, then the eye test by the walk that stops.
 fn sight(
@@ -31,11 +23,11 @@ fn sight(
     order: &[u32],
     eye: Vector,
     p: Vector,
-) -> Sight
+) -> Result<Sight, Refusal>
     ensures { result ≡ Covered.covered_past (λ (d : Float) (r : Ray). seek_rows d (entry_hit numbers.now inverses.now marks.now r) r node_boxes.now node_marks.now order.now) eye p }
 {
     if !limits::within_point(p) {
-        return Sight::Refused(Refusal::Point);
+        return Err(Refusal::Point);
     }
     tree_cover::covered(
         numbers, inverses, marks, node_boxes, node_marks, order, eye, p,
@@ -54,13 +46,13 @@ pub fn covered(
     order: &[u32],
     eye: Vector,
     point: Vector,
-) -> Sight
+) -> Result<Sight, Refusal>
     ensures { result ≡ Covered.covered_of (scene_of numbers.now marks.now points.now starts.now owners.now) node_boxes.now node_marks.now order.now eye point }
 {
     let mut inverses = [0.0; 16384];
     let mut boxes = [0.0; 6144];
     let mut drawn = [0u32; 1024];
-    let v = check_scene::check(
+    check_scene::check(
         numbers,
         marks,
         points,
@@ -69,28 +61,23 @@ pub fn covered(
         &mut inverses,
         &mut boxes,
         &mut drawn,
-    );
-    match v {
-        Verdict::Refused(k) => Sight::Refused(k),
-        Verdict::Accepted(_) => {
-            if !limits::within_point(eye) {
-                return Sight::Refused(Refusal::View);
-            }
-            sight(
-                numbers, &inverses, marks, node_boxes, node_marks, order, eye, point,
-            )
-        }
+    )?;
+    if !limits::within_point(eye) {
+        return Err(Refusal::View);
     }
+    sight(
+        numbers, &inverses, marks, node_boxes, node_marks, order, eye, point,
+    )
 }
 
 // The byte that tells an answer.
-fn byte(s: Sight) -> u8
+fn byte(s: Result<Sight, Refusal>) -> u8
     ensures { result ≡ Covered.byte_of s }
 {
     match s {
-        Sight::Visible => 1,
-        Sight::Hidden => 2,
-        Sight::Refused(k) => k.number() as u8,
+        Ok(Sight::Visible) => 1,
+        Ok(Sight::Hidden) => 2,
+        Err(k) => k.number() as u8,
     }
 }
 
@@ -135,44 +122,38 @@ fn tell(
     requires { (n * 3 ≤ length tested.now) × (n ≤ length told.old) }
     ensures { told.new ≡ padded 0 (length told.old) (Covered.bytes_past (λ (d : Float) (r : Ray). seek_rows d (entry_hit numbers.now inverses.now marks.now r) r node_boxes.now node_marks.now order.now) eye n tested.now) }
 {
-    let mut k = 0;
-    while k < told.len() {
+    for k in 0..told.len() {
         told[k] = byte_at(
             numbers, inverses, marks, node_boxes, node_marks, order, eye, tested, n, k,
         );
-        k += 1;
     }
 }
 
 // Number 2 of the points, then what the check of the scene said, 8 where `ok` is false, and 13.
-pub fn judge(v: Verdict, ok: bool, size: usize, room: usize) -> Batch
+pub fn judge(v: Result<usize, Refusal>, ok: bool, size: usize, room: usize) -> Result<(), Refusal>
     ensures { result ≡ Covered.batch_if v ok size room }
 {
     let n = size / 3;
     if n * 3 != size {
-        return Batch::Refused(Refusal::Lengths);
+        return Err(Refusal::Lengths);
     }
-    match v {
-        Verdict::Refused(k) => Batch::Refused(k),
-        Verdict::Accepted(_) => {
-            if !ok {
-                return Batch::Refused(Refusal::View);
-            }
-            if room < n {
-                return Batch::Refused(Refusal::Room);
-            }
-            Batch::Answered
-        }
+    v?;
+    if !ok {
+        return Err(Refusal::View);
     }
+    if room < n {
+        return Err(Refusal::Room);
+    }
+    Ok(())
 }
 
 // How many points are answered, of n.
-pub fn answered(b: Batch, n: usize) -> usize
+pub fn answered(b: Result<(), Refusal>, n: usize) -> usize
     ensures { result ≡ Covered.if_answered b n }
 {
     match b {
-        Batch::Answered => n,
-        Batch::Refused(_) => 0,
+        Ok(()) => n,
+        Err(_) => 0,
     }
 }
 
@@ -190,7 +171,7 @@ pub fn covered_all(
     eye: Vector,
     tested: &[f64],
     told: &mut [u8],
-) -> Batch
+) -> Result<(), Refusal>
     ensures { Covered.AllTold (scene_of numbers.now marks.now points.now starts.now owners.now) node_boxes.now node_marks.now order.now eye tested.now told.old result told.new }
 {
     let mut inverses = [0.0; 16384];

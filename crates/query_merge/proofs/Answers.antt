@@ -2,7 +2,7 @@
 use Prim.Native.Nat.{ℕ, zero, suc, ◌+◌, ◌-◌, ◌*◌, ◌/◌, ◌^◌, ◌≤◌, ◌<◌}
 use mathlib.Core.Path.{◌≡◌, refl, sym, ap, ap₂, subst, ◌∙◌}
 use mathlib.Core.Bool.{Bool, true, false, ◌&&◌, cond, and-eq-true_iff}
-use mathlib.Core.List.{List, [], ◌∷◌, ◌++◌, map}
+use mathlib.Core.List.{List, [], ◌∷◌, ◌++◌}
 use native.Mathlib.Omega.{arith}
 use borrow.Author.Tests.{ltb-true, leb-true, leb-false, le-leb, lt-leb, eqb-true}
 use lib.ListN.{length, get_or, take, length-append, length-map}
@@ -11,26 +11,20 @@ use lib.Dec.{ltb, leb, eqb}
 use lib.Ieee.{Float}
 use Rattle.floats.specs.Arith.{zero_f}
 use Rattle.rows.specs.Rows.{padded}
-use Rattle.rows.specs.Starts.{good_starts}
-use Rattle.rows.specs.declared.Marks.{Marks}
 use Rattle.rows.proofs.Starts.{good-parted}
 use Rattle.refusals.specs.declared.Refusal.{Refusal}
 use Rattle.refusals.specs.declared.Refusal.TheVariants.{Lengths, Room}
-use Rattle.scene.specs.Entries.{marks_at}
 use Rattle.scene.specs.Scenes.{Scene, scene_of, entries, entries_of}
-use Rattle.check_parts.specs.Parts.{kind_at, first_at, second_at, parts_ok}
+use Rattle.check_parts.specs.Parts.{kind_at}
 use Rattle.check_parts.specs.Owners.{is_round, round_entry, owners_ok}
 use Rattle.check_parts.proofs.Depths.{part-six, part-seven}
 use Rattle.check_scene.specs.Checks.{lengths_agree, check_of}
-use Rattle.check_scene.specs.declared.Verdict.{Verdict}
-use Rattle.check_scene.specs.declared.Verdict.TheVariants.{Accepted, Refused}
 use Rattle.check_sound.proofs.Passing.{accepted-passes}
 use Rattle.query_merge.specs.declared.Sizes.{Sizes}
-use Rattle.query_merge.specs.declared.Merged.{Merged}
-use Rattle.query_merge.specs.declared.Merged.TheVariants.{Into, Refused as NotMerged}
-use Rattle.scene_merge.specs.MergedScenes.{raised_marks, raised_by, points_given, points_of, merged_scene, Raisable, MarksRaisable, AllRaisable}
+use Rattle.scene_merge.specs.MergedScenes.{raised_marks, raised_by, points_given, points_of, merged_scene, Raisable, AllRaisable}
 use Rattle.query_merge.specs.Merging.{sizes_of, fits, merged_after, merged_within, merge_of, if_merged, padded_scene, Merges, given_sizes, both_sizes, merged_by, Mergeable}
 use Rattle.scene_merge.proofs.Raising.{marks-length}
+use Rattle.std.specs.Prelude.{Err, Ok, Result}
 
 -- ---- what is counted
 pub given-none : (points : List Float) (starts : List ℕ) → length starts ≡ 0 → 0 ≡ length (points_given points starts)
@@ -77,16 +71,16 @@ fits_each a room e =
     }
 
 module _ (a b room : Sizes) where
-  pub judge-many : 1024 < a.marks / 4 + b.marks / 4 → NotMerged Lengths ≡ merged_by a b room
+  pub judge-many : 1024 < a.marks / 4 + b.marks / 4 → Err Lengths ≡ merged_by a b room
   unfolding merged_by
   judge-many h = rw (lt-leb (a.marks / 4 + b.marks / 4) 1024 h)
 
   module _ (few : a.marks / 4 + b.marks / 4 ≤ 1024) {t : Bool} (is : t ≡ fits (both_sizes a b) room) where
-    pub judge-short : t ≡ false → NotMerged Room ≡ merged_by a b room
+    pub judge-short : t ≡ false → Err Room ≡ merged_by a b room
     unfolding merged_by
     judge-short e = rw (le-leb (a.marks / 4 + b.marks / 4) 1024 few, ← is, e)
 
-    pub judge-fits : t ≡ true → Into (a.marks / 4 + b.marks / 4) ((a.points + b.points) / 3) (a.starts + b.starts) ≡ merged_by a b room
+    pub judge-fits : t ≡ true → Ok (a.marks / 4 + b.marks / 4, (a.points + b.points) / 3, a.starts + b.starts) ≡ merged_by a b room
     unfolding merged_by
     judge-fits e = rw (le-leb (a.marks / 4 + b.marks / 4) 1024 few, ← is, e)
 
@@ -103,7 +97,7 @@ owners-below marks (o ∷ os) (suc j) e h =
     owners-below marks os j ((and-eq-true_iff (leb o (get_or os 0 o)) (owners_ok marks os)).0 a.1).1 (omega arith)
 
 -- ---- an accepted scene: its lengths, its owners and its parts
-module _ (s : Scene) (d : ℕ) (is : check_of s ≡ Accepted d) where
+module _ (s : Scene) (d : ℕ) (is : check_of s ≡ Ok d) where
   pub marks-four : entries_of s * 4 ≡ length s.marks
   unfolding lengths_agree
   marks-four =
@@ -150,32 +144,32 @@ module _ (s u : Scene) (four : entries_of s * 4 ≡ length s.marks) (four' : ent
       rw (es, zs, ps, ss)
 
 -- ---- the verdicts in their order: what is judged of both counts only where both are accepted
-after-alike : (v : Verdict) (x y : Merged) → ((d : ℕ) → v ≡ Accepted d → x ≡ y) → merged_after v x ≡ merged_after v y
+after-alike : (v : Result ℕ Refusal) (x y : Result (ℕ × ℕ × ℕ) Refusal) → ((d : ℕ) → v ≡ Ok d → x ≡ y) → merged_after v x ≡ merged_after v y
 unfolding merged_after
-after-alike (Accepted d) x y h = h d refl
-after-alike (Refused k) x y h = refl
+after-alike (Ok d) x y h = h d refl
+after-alike (Err k) x y h = refl
 
-pub judged-is : (s u : Scene) (room : Sizes) {v w : Verdict} → v ≡ check_of s → w ≡ check_of u → {a b : Sizes} → a ≡ given_sizes s → b ≡ given_sizes u
-    → {j x r : Merged} → j ≡ merged_by a b room → x ≡ merged_after w j → r ≡ merged_after v x → r ≡ merge_of s u room
+pub judged-is : (s u : Scene) (room : Sizes) {v w : Result ℕ Refusal} → v ≡ check_of s → w ≡ check_of u → {a b : Sizes} → a ≡ given_sizes s → b ≡ given_sizes u
+    → {j x r : Result (ℕ × ℕ × ℕ) Refusal} → j ≡ merged_by a b room → x ≡ merged_after w j → r ≡ merged_after v x → r ≡ merge_of s u room
 unfolding merge_of
 judged-is s u room ev ew ea eb ej ex er =
     er ∙ ap₂ merged_after ev (ex ∙ ap₂ merged_after ew (ej ∙ ap₂ (λ (c d : Sizes). merged_by c d room) ea eb))
     ∙ after-alike (check_of s) _ _ (λ d is. after-alike (check_of u) _ _ (λ e is'. judged-so s u (marks-four s d is) (marks-four u e is') room))
 
 -- ---- where the scenes are merged, both are accepted, and the slices have places
-not-into : {k : Refusal} {n p q : ℕ} → NotMerged k ≡ Into n p q → ⊥
-not-into e = let z : ◌≡◌ {A = ℕ} 0 1 = cc in omega arith
+not-into : {k : Refusal} {n p q : ℕ} → ◌≡◌ {A = Result (ℕ × ℕ × ℕ) Refusal} (Err k) (Ok (n, p, q)) → ⊥
+not-into e = cc
 
-after-into : (v : Verdict) (x : Merged) {n p q : ℕ} → merged_after v x ≡ Into n p q → ((d : ℕ) × (v ≡ Accepted d)) × (x ≡ Into n p q)
+after-into : (v : Result ℕ Refusal) (x : Result (ℕ × ℕ × ℕ) Refusal) {n p q : ℕ} → merged_after v x ≡ Ok (n, p, q) → ((d : ℕ) × (v ≡ Ok d)) × (x ≡ Ok (n, p, q))
 unfolding merged_after
-after-into (Accepted d) x e = ((d, refl), e)
-after-into (Refused k) x e = absurd (not-into e)
+after-into (Ok d) x e = ((d, refl), e)
+after-into (Err k) x e = absurd (not-into e)
 
-into-so : (m : Scene) (room : Sizes) {n p q : ℕ} → merged_within m room ≡ Into n p q → (entries_of m ≤ 1024) × FitsEach (sizes_of m) room
+into-so : (m : Scene) (room : Sizes) {n p q : ℕ} → merged_within m room ≡ Ok (n, p, q) → (entries_of m ≤ 1024) × FitsEach (sizes_of m) room
 unfolding merged_within
-into-so m room e = go (Into (entries_of m) (length m.points / 3) (length m.starts)) (leb (entries_of m) 1024) refl (fits (sizes_of m) room) refl e
+into-so m room e = go (Ok (entries_of m, length m.points / 3, length m.starts)) (leb (entries_of m) 1024) refl (fits (sizes_of m) room) refl e
   where
-    go : (x : Merged) {n p q : ℕ} → (a : Bool) → leb (entries_of m) 1024 ≡ a → (b : Bool) → fits (sizes_of m) room ≡ b → cond a (cond b x (NotMerged Room)) (NotMerged Lengths) ≡ Into n p q
+    go : (x : Result (ℕ × ℕ × ℕ) Refusal) {n p q : ℕ} → (a : Bool) → leb (entries_of m) 1024 ≡ a → (b : Bool) → fits (sizes_of m) room ≡ b → cond a (cond b x (Err Room)) (Err Lengths) ≡ Ok (n, p, q)
         → (entries_of m ≤ 1024) × FitsEach (sizes_of m) room
     go x true ea true eb e = (leb-true (entries_of m) 1024 ea, fits_each (sizes_of m) room eb)
     go x true ea false eb e = absurd (not-into e)
@@ -241,15 +235,15 @@ module _ (s u lent : Scene) where
       let eo' = eo ∙ ap (λ (n : ℕ). padded 0 (length lent.owners) (s.owners ++ raised_by n u.owners)) eb in
       rw (en', em', ep', es', eo')
 
-  pub merges-refused : {r : Merged} {k : Refusal} → r ≡ merge_of s u (sizes_of lent) → r ≡ NotMerged k → {ns ps : List Float} {ms ss os : List ℕ}
+  pub merges-refused : {r : Result (ℕ × ℕ × ℕ) Refusal} {k : Refusal} → r ≡ merge_of s u (sizes_of lent) → r ≡ Err k → {ns ps : List Float} {ms ss os : List ℕ}
       → ns ≡ padded zero_f (length lent.numbers) [] → ms ≡ padded 0 (length lent.marks) [] → ps ≡ padded zero_f (length lent.points) [] → ss ≡ padded 0 (length lent.starts) []
-      → os ≡ padded 0 (length lent.owners) [] → Merges s u lent (NotMerged k) (scene_of ns ms ps ss os)
+      → os ≡ padded 0 (length lent.owners) [] → Merges s u lent (Err k) (scene_of ns ms ps ss os)
   unfolding padded_scene sizes_of if_merged
   merges-refused e ek en em ep es eo = record { answer = sym ek ∙ e; slices_are = rw (en, em, ep, es, eo) }
 
-  pub merges-into : {r : Merged} {n p q : ℕ} → r ≡ merge_of s u (sizes_of lent) → r ≡ Into n p q → {left : Scene} → left ≡ padded_scene (sizes_of lent) (merged_scene s u) → Merges s u lent (Into n p q) left
+  pub merges-into : {r : Result (ℕ × ℕ × ℕ) Refusal} {n p q : ℕ} → r ≡ merge_of s u (sizes_of lent) → r ≡ Ok (n, p, q) → {left : Scene} → left ≡ padded_scene (sizes_of lent) (merged_scene s u) → Merges s u lent (Ok (n, p, q)) left
   unfolding if_merged
   merges-into e ei el = record { answer = sym ei ∙ e; slices_are = el }
 
-  pub mergeable-so : {r : Merged} {n p q : ℕ} → r ≡ merge_of s u (sizes_of lent) → r ≡ Into n p q → Mergeable s u lent
+  pub mergeable-so : {r : Result (ℕ × ℕ × ℕ) Refusal} {n p q : ℕ} → r ≡ merge_of s u (sizes_of lent) → r ≡ Ok (n, p, q) → Mergeable s u lent
   mergeable-so {r} {n} {p} {q} e ei = record { many = n; points = p; paths = q; merges = sym e ∙ ei }

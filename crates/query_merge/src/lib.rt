@@ -6,7 +6,6 @@ ghost use Rattle.scene.specs.Scenes.{scene_of};
 ghost use Rattle.scene_merge.specs.MergedScenes as MergedScenes;
 ghost use Rattle.query_merge.specs.Merging as Merging;
 
-use check_scene::Verdict;
 use refusals::Refusal;
 
 // How many elements each of five slices has: numbers, marks, points, path starts and owners.
@@ -17,25 +16,6 @@ pub struct Sizes {
     pub points: usize,
     pub starts: usize,
     pub owners: usize,
-}
-
-// The scenes are merged into so many entries, points and paths, or refused.
-#[derive(Clone, Copy)]
-pub enum Merged {
-    Into(usize, usize, usize),
-    Refused(Refusal),
-}
-
-impl Merged {
-    // The number of the refusal; 0 where there is none.
-    pub fn number(self) -> u32
-        ensures { result ≡ Merging.merged_number self }
-    {
-        match self {
-            Merged::Into(_, _, _) => 0,
-            Merged::Refused(k) => k.number(),
-        }
-    }
 }
 
 // How many numbers of points a scene gives: none without path starts.
@@ -99,27 +79,28 @@ fn fit(a: Sizes, b: Sizes, room: Sizes) -> bool
 }
 
 // What is judged of two accepted scenes together: number 2, then 13.
-fn judge(a: Sizes, b: Sizes, room: Sizes) -> Merged
+fn judge(a: Sizes, b: Sizes, room: Sizes) -> Result<(usize, usize, usize), Refusal>
     ensures { result ≡ Merging.merged_by a b room }
 {
     let n = a.marks / 4 + b.marks / 4;
     if n > 1024 {
-        return Merged::Refused(Refusal::Lengths);
+        return Err(Refusal::Lengths);
     }
     if !fit(a, b, room) {
-        return Merged::Refused(Refusal::Room);
+        return Err(Refusal::Room);
     }
-    Merged::Into(n, (a.points + b.points) / 3, a.starts + b.starts)
+    Ok((n, (a.points + b.points) / 3, a.starts + b.starts))
 }
 
 // The refusal of a scene, or what is judged after it.
-fn after(v: Verdict, r: Merged) -> Merged
+fn after(
+    v: Result<usize, Refusal>,
+    r: Result<(usize, usize, usize), Refusal>,
+) -> Result<(usize, usize, usize), Refusal>
     ensures { result ≡ Merging.merged_after v r }
 {
-    match v {
-        Verdict::Accepted(_) => r,
-        Verdict::Refused(k) => Merged::Refused(k),
-    }
+    v?;
+    r
 }
 
 // The first scene's number, then the second's, then 2 and 13 of both.
@@ -135,7 +116,7 @@ fn judged(
     more_starts: &[usize],
     more_owners: &[u32],
     room: Sizes,
-) -> Merged
+) -> Result<(usize, usize, usize), Refusal>
     ensures { result ≡ Merging.merge_of (scene_of numbers.now marks.now points.now starts.now owners.now) (scene_of more_numbers.now more_marks.now more_points.now more_starts.now more_owners.now) room }
 {
     let mut inverses = [0.0; 16384];
@@ -227,7 +208,7 @@ pub fn merge(
     out_points: &mut [f64],
     out_starts: &mut [usize],
     out_owners: &mut [u32],
-) -> Merged
+) -> Result<(usize, usize, usize), Refusal>
     ensures { Merging.Merges (scene_of numbers.now marks.now points.now starts.now owners.now) (scene_of more_numbers.now more_marks.now more_points.now more_starts.now more_owners.now) (scene_of out_numbers.old out_marks.old out_points.old out_starts.old out_owners.old) result (scene_of out_numbers.new out_marks.new out_points.new out_starts.new out_owners.new) }
 {
     let room = Sizes {
@@ -251,15 +232,15 @@ pub fn merge(
         room,
     );
     match r {
-        Merged::Refused(k) => {
+        Err(k) => {
             rows::clear(out_numbers, 0);
             rows::clear_marks(out_marks, 0);
             rows::clear(out_points, 0);
             rows::clear_starts(out_starts, 0);
             rows::clear_marks(out_owners, 0);
-            Merged::Refused(k)
+            Err(k)
         }
-        Merged::Into(n, p, q) => {
+        Ok((n, p, q)) => {
             fill(
                 numbers,
                 marks,
@@ -277,7 +258,7 @@ pub fn merge(
                 out_starts,
                 out_owners,
             );
-            Merged::Into(n, p, q)
+            Ok((n, p, q))
         }
     }
 }

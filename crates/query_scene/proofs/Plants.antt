@@ -18,38 +18,39 @@ use Rattle.lists.specs.Lists.{Each}
 use Rattle.lists.proofs.Properties.{each_append}
 use Rattle.tree_split.specs.Build.{Fits, nodes_for, order_for}
 use Rattle.tree_build.specs.Slices.{room_for, Stored}
-use Rattle.tree_build.specs.declared.Outcome.{Outcome}
-use Rattle.tree_build.specs.declared.Outcome.TheVariants.{Upto, Full}
 use Rattle.check_parts.specs.Parts.{named_before}
 use Rattle.check_parts.specs.Drawn.{unnamed, drawn}
 use Rattle.check_scene.specs.Checks.{check_of, boxes_of}
 use Rattle.scene.specs.Scenes.{Scene, entries_of}
-use Rattle.check_scene.specs.declared.Verdict.TheVariants.{Accepted}
 use Rattle.check_scene.proofs.Verdicts.{is-accepted, accepted-same, drawn-few}
 use Rattle.check_scene.proofs.Accepted.{accepted-few, own-box}
 use Rattle.check_sound.specs.Passing.{Passing}
 use Rattle.check_sound.proofs.Passing.{accepted-passes}
 use Rattle.check_sound.proofs.Sound.{accepted-sound}
-use Rattle.query_scene.specs.declared.Built.{Built}
-use Rattle.query_scene.specs.declared.Built.TheVariants.{Nodes, Refused as NotBuilt}
 use Rattle.query_scene.specs.Queries.{planted_of, if_built, TreeLeft}
+use Rattle.std.specs.Prelude.{Err, None, Ok, Option, Result, Some, ok_or}
+use Rattle.refusals.specs.declared.Refusal.{Refusal}
 
-abbrev pub built_of : Outcome → Built
-built_of (Upto n) = Nodes n
-built_of Full = NotBuilt Room
+abbrev pub built_of : Option ℕ → Result ℕ Refusal
+built_of (Some n) = Ok n
+built_of None = Err Room
+
+pub built-so : (o : Option ℕ) → ok_or o Room ≡ built_of o
+built-so (Some n) = refl
+built-so None = refl
 
 module _ (box : ℕ → BBox) (ids : List ℕ) (places B M O : ℕ) where
-  as_room : (t : Bool) → built_of (cond t (Upto (length (nodes_for box ids))) Full) ≡ cond t (Nodes (length (nodes_for box ids))) (NotBuilt Room)
+  as_room : (t : Bool) → built_of (cond t (Some (length (nodes_for box ids))) None) ≡ cond t (Ok (length (nodes_for box ids))) (Err Room)
   as_room true = refl
   as_room false = refl
 
-  as_rows : {A : Type 0} (t : Bool) (xs : List A) → cond t xs [] ≡ if_built (built_of (cond t (Upto (length (nodes_for box ids))) Full)) xs
+  as_rows : {A : Type 0} (t : Bool) (xs : List A) → cond t xs [] ≡ if_built (built_of (cond t (Some (length (nodes_for box ids))) None)) xs
   unfolding if_built
   as_rows true xs = refl
   as_rows false xs = refl
 
   -- room in the order, and what the build stored
-  pub planted : {o : Outcome} {bs : List Float} {ms os : List ℕ} → length ids ≤ O → Stored box ids places B M O o bs ms os → {r : Built} → r ≡ built_of o → TreeLeft box ids B M O (planted_of box ids places O) r bs ms os
+  pub planted : {o : Option ℕ} {bs : List Float} {ms os : List ℕ} → length ids ≤ O → Stored box ids places B M O o bs ms os → {r : Result ℕ Refusal} → r ≡ built_of o → TreeLeft box ids B M O (planted_of box ids places O) r bs ms os
   unfolding planted_of
   planted fit S e =
       let q = e ∙ ap built_of S.answer in
@@ -60,13 +61,13 @@ module _ (box : ℕ → BBox) (ids : List ℕ) (places B M O : ℕ) where
         order_is = S.solids ∙ rw q (ap (padded 0 O) (as_rows (room_for box ids places) (order_for box ids)));
       }
 
-  pub planted-from : {ids' : List ℕ} {O' : ℕ} → ids' ≡ ids → O' ≡ O → {o : Outcome} {bs : List Float} {ms os : List ℕ} → length ids ≤ O → Stored box ids' places B M O' o bs ms os
-      → {r : Built} → r ≡ built_of o → TreeLeft box ids B M O (planted_of box ids places O) r bs ms os
+  pub planted-from : {ids' : List ℕ} {O' : ℕ} → ids' ≡ ids → O' ≡ O → {o : Option ℕ} {bs : List Float} {ms os : List ℕ} → length ids ≤ O → Stored box ids' places B M O' o bs ms os
+      → {r : Result ℕ Refusal} → r ≡ built_of o → TreeLeft box ids B M O (planted_of box ids places O) r bs ms os
   planted-from {ids'} {O'} ei eo {o} {bs} {ms} {os} fit S e =
       planted fit (subst (λ (l : List ℕ). Stored box l places B M O o bs ms os) ei (subst (λ (m : ℕ). Stored box ids' places B M m o bs ms os) eo S)) e
 
   -- no room in the order
-  pub crowded : {bs : List Float} {ms os : List ℕ} → O < length ids → bs ≡ padded zero_f B [] → ms ≡ padded 0 M [] → os ≡ padded 0 O [] → TreeLeft box ids B M O (planted_of box ids places O) (NotBuilt Room) bs ms os
+  pub crowded : {bs : List Float} {ms os : List ℕ} → O < length ids → bs ≡ padded zero_f B [] → ms ≡ padded 0 M [] → os ≡ padded 0 O [] → TreeLeft box ids B M O (planted_of box ids places O) (Err Room) bs ms os
   unfolding planted_of if_built flat
   crowded h a b c = record { answer = rw (lt-leb (length ids) O h); boxes_are = a; marks_are = b; order_is = c }
 
@@ -80,7 +81,7 @@ each-unnamed P g (suc n) h = each_append P (unnamed g n) (cond (g n) [] (n ∷ [
     last true = tt
     last false = (h n (omega arith), tt)
 
-module _ (s : Scene) (n : ℕ) (is : check_of s ≡ Accepted n) where
+module _ (s : Scene) (n : ℕ) (is : check_of s ≡ Ok n) where
   pub accepted-count : n ≡ length (drawn s.marks)
   accepted-count =
       let p : Passing s = accepted-passes s n is in

@@ -11,39 +11,18 @@ ghost use Rattle.tree_split.specs.Build.{Fits, box_at};
 ghost use Rattle.tree_walk.specs.Walks.{entry_hit, walk_rows};
 ghost use Rattle.query_scene.specs.Queries as Queries;
 
-use check_scene::Verdict;
 use geometry::ray::Ray;
 use geometry::vector::Vector;
 use refusals::Refusal;
-use tree_build::Outcome;
 use tree_sight::Sight;
-use tree_walk::Found;
-
-// How many nodes a tree has, or why there is none.
-#[derive(Clone, Copy)]
-pub enum Built {
-    Nodes(usize),
-    Refused(Refusal),
-}
-
-// Whether a point is seen, and by which entry it is hidden: the one that the nearest hit names.
-#[derive(Clone, Copy)]
-pub enum NamedSight {
-    Clear,
-    Hidden(u32),
-    Refused(Refusal),
-}
+use tree_walk::Nearest;
 
 // The first n marks of `to` become those of `from`.
 fn copy(from: &[u32], n: usize, to: &mut [u32])
     requires { (n ≤ length from.now) × (n ≤ length to.old) }
     ensures { take n to.new ≡ take n from.now }
 {
-    let mut i = 0;
-    while i < n {
-        to[i] = from[i];
-        i += 1;
-    }
+    to[..n].copy_from_slice(&from[..n]);
 }
 
 // Leaves zeros behind.
@@ -65,20 +44,16 @@ pub fn plant(
     node_boxes: &mut [f64],
     node_marks: &mut [u32],
     order: &mut [u32],
-) -> Built
+) -> Result<usize, Refusal>
     requires { (n ≤ length listed.now) × ((n ≤ 1024) × Each (Fits boxes.now) (take n listed.now)) }
     ensures { Queries.Planted (box_at boxes.now) (take n listed.now) node_boxes.old node_marks.old order.old result node_boxes.new node_marks.new order.new }
 {
     if order.len() < n {
         clear_all(node_boxes, node_marks, order);
-        return Built::Refused(Refusal::Room);
+        return Err(Refusal::Room);
     }
     copy(listed, n, order);
-    let o = tree_build::build_tree(boxes, order, n, node_boxes, node_marks);
-    match o {
-        Outcome::Upto(count) => Built::Nodes(count),
-        Outcome::Full => Built::Refused(Refusal::Room),
-    }
+    tree_build::build_tree(boxes, order, n, node_boxes, node_marks).ok_or(Refusal::Room)
 }
 
 // The tree of the drawn entries, `Tree::new`: its nodes' boxes and marks, and the entries in the leaves'
@@ -92,7 +67,7 @@ pub fn build(
     node_boxes: &mut [f64],
     node_marks: &mut [u32],
     order: &mut [u32],
-) -> Built
+) -> Result<usize, Refusal>
     ensures { Queries.TreeBuilt (scene_of numbers.now marks.now points.now starts.now owners.now) node_boxes.old node_marks.old order.old result node_boxes.new node_marks.new order.new }
 {
     let mut inverses = [0.0; 16384];
@@ -109,11 +84,11 @@ pub fn build(
         &mut drawn,
     );
     match v {
-        Verdict::Refused(k) => {
+        Err(k) => {
             clear_all(node_boxes, node_marks, order);
-            Built::Refused(k)
+            Err(k)
         }
-        Verdict::Accepted(n) => plant(&boxes, &drawn, n, node_boxes, node_marks, order),
+        Ok(n) => plant(&boxes, &drawn, n, node_boxes, node_marks, order),
     }
 }
 
@@ -128,13 +103,13 @@ pub fn intersect(
     node_marks: &[u32],
     order: &[u32],
     r: Ray,
-) -> Found
+) -> Result<Nearest, Refusal>
     ensures { result ≡ Queries.intersect_of (scene_of numbers.now marks.now points.now starts.now owners.now) node_boxes.now node_marks.now order.now r }
 {
     let mut inverses = [0.0; 16384];
     let mut boxes = [0.0; 6144];
     let mut drawn = [0u32; 1024];
-    let v = check_scene::check(
+    check_scene::check(
         numbers,
         marks,
         points,
@@ -143,16 +118,11 @@ pub fn intersect(
         &mut inverses,
         &mut boxes,
         &mut drawn,
-    );
-    match v {
-        Verdict::Refused(k) => Found::Refused(k),
-        Verdict::Accepted(_) => {
-            if !limits::within_ray(r) {
-                return Found::Refused(Refusal::View);
-            }
-            tree_walk::intersect(numbers, &inverses, marks, node_boxes, node_marks, order, r)
-        }
+    )?;
+    if !limits::within_ray(r) {
+        return Err(Refusal::View);
     }
+    tree_walk::intersect(numbers, &inverses, marks, node_boxes, node_marks, order, r)
 }
 
 // Whether the eye sees a point, on the rows of a tree: `visible`.
@@ -167,13 +137,13 @@ pub fn visible(
     order: &[u32],
     eye: Vector,
     point: Vector,
-) -> Sight
+) -> Result<Sight, Refusal>
     ensures { result ≡ Queries.visible_of (scene_of numbers.now marks.now points.now starts.now owners.now) node_boxes.now node_marks.now order.now eye point }
 {
     let mut inverses = [0.0; 16384];
     let mut boxes = [0.0; 6144];
     let mut drawn = [0u32; 1024];
-    let v = check_scene::check(
+    check_scene::check(
         numbers,
         marks,
         points,
@@ -182,35 +152,26 @@ pub fn visible(
         &mut inverses,
         &mut boxes,
         &mut drawn,
-    );
-    match v {
-        Verdict::Refused(k) => Sight::Refused(k),
-        Verdict::Accepted(_) => {
-            if !limits::within_point(eye) {
-                return Sight::Refused(Refusal::View);
-            }
-            if !limits::within_point(point) {
-                return Sight::Refused(Refusal::Point);
-            }
-            tree_sight::visible(
-                numbers, &inverses, marks, node_boxes, node_marks, order, eye, point,
-            )
-        }
+    )?;
+    if !limits::within_point(eye) {
+        return Err(Refusal::View);
     }
+    if !limits::within_point(point) {
+        return Err(Refusal::Point);
+    }
+    tree_sight::visible(
+        numbers, &inverses, marks, node_boxes, node_marks, order, eye, point,
+    )
 }
 
-fn named(a: Found, distance: f64) -> NamedSight
+fn named(a: Result<Nearest, Refusal>, distance: f64) -> Result<Option<u32>, Refusal>
     ensures { result ≡ Queries.hider_by a distance }
 {
-    match a {
-        Found::Refused(k) => NamedSight::Refused(k),
-        Found::Best(b) => {
-            if b.hit.t >= distance {
-                return NamedSight::Clear;
-            }
-            NamedSight::Hidden(b.entry)
-        }
+    let b = a?;
+    if b.hit.t >= distance {
+        return Ok(None);
     }
+    Ok(Some(b.entry))
 }
 
 // The eye test of `tree_sight::visible`, which keeps the name.
@@ -223,13 +184,13 @@ pub fn hider(
     order: &[u32],
     eye: Vector,
     point: Vector,
-) -> NamedSight
+) -> Result<Option<u32>, Refusal>
     ensures { result ≡ Queries.hides (λ (r : Ray). walk_rows (entry_hit numbers.now inverses.now marks.now r) r node_boxes.now node_marks.now order.now) eye point }
 {
     let v = eye.sub(point);
     let distance = v.norm();
     if distance == 0.0 {
-        return NamedSight::Clear;
+        return Ok(None);
     }
     let r = Ray::new(point, v.div_scalar(distance));
     let a = tree_walk::intersect(numbers, inverses, marks, node_boxes, node_marks, order, r);
@@ -248,13 +209,13 @@ pub fn occluder(
     order: &[u32],
     eye: Vector,
     point: Vector,
-) -> NamedSight
+) -> Result<Option<u32>, Refusal>
     ensures { result ≡ Queries.occluder_of (scene_of numbers.now marks.now points.now starts.now owners.now) node_boxes.now node_marks.now order.now eye point }
 {
     let mut inverses = [0.0; 16384];
     let mut boxes = [0.0; 6144];
     let mut drawn = [0u32; 1024];
-    let v = check_scene::check(
+    check_scene::check(
         numbers,
         marks,
         points,
@@ -263,19 +224,14 @@ pub fn occluder(
         &mut inverses,
         &mut boxes,
         &mut drawn,
-    );
-    match v {
-        Verdict::Refused(k) => NamedSight::Refused(k),
-        Verdict::Accepted(_) => {
-            if !limits::within_point(eye) {
-                return NamedSight::Refused(Refusal::View);
-            }
-            if !limits::within_point(point) {
-                return NamedSight::Refused(Refusal::Point);
-            }
-            hider(
-                numbers, &inverses, marks, node_boxes, node_marks, order, eye, point,
-            )
-        }
+    )?;
+    if !limits::within_point(eye) {
+        return Err(Refusal::View);
     }
+    if !limits::within_point(point) {
+        return Err(Refusal::Point);
+    }
+    hider(
+        numbers, &inverses, marks, node_boxes, node_marks, order, eye, point,
+    )
 }

@@ -2,70 +2,42 @@
 ghost use Rattle.std.specs.Prelude.{◌≡◌};
 ghost use Rattle.query_solid.specs.Answers as Answers;
 
-use crate::Contained;
-use check_scene::Verdict;
-use scene_shape::Struck;
-
-pub fn verdict_number(v: Verdict) -> u32
-    ensures { result ≡ Answers.verdict_number v }
-{
-    match v {
-        Verdict::Accepted(_) => 0,
-        Verdict::Refused(k) => k.number(),
-    }
-}
+use geometry::hit::Hit;
+use refusals::Refusal;
 
 // How many entries are drawn.
-pub fn drawn_count(v: Verdict) -> usize
+pub fn drawn_count(v: Result<usize, Refusal>) -> usize
     ensures { result ≡ Answers.drawn_count v }
 {
     match v {
-        Verdict::Accepted(n) => n,
-        Verdict::Refused(_) => 0,
+        Ok(n) => n,
+        Err(_) => 0,
     }
 }
 
-pub fn struck_number(a: Struck) -> u32
-    ensures { result ≡ Answers.struck_number a }
-{
-    match a {
-        Struck::At(_) => 0,
-        Struck::Refused(k) => k.number(),
-    }
-}
-
-pub fn distance(a: Struck) -> f64
+pub fn distance(a: Result<Hit, Refusal>) -> f64
     ensures { result ≡ Answers.distance a }
 {
     match a {
-        Struck::At(h) => h.t,
-        Struck::Refused(_) => 0.0,
+        Ok(h) => h.t,
+        Err(_) => 0.0,
     }
 }
 
-pub fn met(a: Struck) -> bool
+pub fn met(a: Result<Hit, Refusal>) -> bool
     ensures { result ≡ Answers.met a }
 {
     match a {
-        Struck::At(h) => h.ok,
-        Struck::Refused(_) => false,
+        Ok(h) => h.ok,
+        Err(_) => false,
     }
 }
 
-pub fn contained_number(a: Contained) -> u32
-    ensures { result ≡ Answers.contained_number a }
-{
-    match a {
-        Contained::Inside(_) => 0,
-        Contained::Refused(k) => k.number(),
-    }
-}
-
-pub fn inside(a: Contained) -> bool
+pub fn inside(a: Result<bool, Refusal>) -> bool
     ensures { result ≡ Answers.inside a }
 {
     match a {
-        Contained::Inside(b) => b,
-        Contained::Refused(_) => false,
+        Ok(b) => b,
+        Err(_) => false,
     }
 }

@@ -8,18 +8,10 @@ ghost use Rattle.std.specs.Prelude.{◌≡◌};
 ghost use Rattle.scene.specs.Scenes.{scene_of};
 ghost use Rattle.query_solid.specs.Own.{own_hit, own_contains};
 
-use check_scene::Verdict;
+use geometry::hit::Hit;
 use geometry::ray::Ray;
 use geometry::vector::Vector;
 use refusals::Refusal;
-use scene_shape::Struck;
-
-// Whether a point lies inside, or why that is not told.
-#[derive(Clone, Copy)]
-pub enum Contained {
-    Inside(bool),
-    Refused(Refusal),
-}
 
 // The hit that the solid at entry i gives a ray, with no tree and no other solid.
 pub fn own_hit(
@@ -30,13 +22,13 @@ pub fn own_hit(
     owners: &[u32],
     i: usize,
     r: Ray,
-) -> Struck
+) -> Result<Hit, Refusal>
     ensures { result ≡ own_hit (scene_of numbers.now marks.now points.now starts.now owners.now) i r }
 {
     let mut inverses = [0.0; 16384];
     let mut boxes = [0.0; 6144];
     let mut drawn = [0u32; 1024];
-    let v = check_scene::check(
+    check_scene::check(
         numbers,
         marks,
         points,
@@ -45,16 +37,11 @@ pub fn own_hit(
         &mut inverses,
         &mut boxes,
         &mut drawn,
-    );
-    match v {
-        Verdict::Refused(k) => Struck::Refused(k),
-        Verdict::Accepted(_) => {
-            if !limits::within_ray(r) {
-                return Struck::Refused(Refusal::View);
-            }
-            scene_shape::entry_hit(numbers, &inverses, marks, i, r, 8)
-        }
+    )?;
+    if !limits::within_ray(r) {
+        return Err(Refusal::View);
     }
+    scene_shape::entry_hit(numbers, &inverses, marks, i, r, 8)
 }
 
 // Whether the solid at entry i, widened by f, contains p.
@@ -67,13 +54,13 @@ pub fn own_contains(
     i: usize,
     p: Vector,
     f: f64,
-) -> Contained
+) -> Result<bool, Refusal>
     ensures { result ≡ own_contains (scene_of numbers.now marks.now points.now starts.now owners.now) i p f }
 {
     let mut inverses = [0.0; 16384];
     let mut boxes = [0.0; 6144];
     let mut drawn = [0u32; 1024];
-    let v = check_scene::check(
+    check_scene::check(
         numbers,
         marks,
         points,
@@ -82,11 +69,7 @@ pub fn own_contains(
         &mut inverses,
         &mut boxes,
         &mut drawn,
-    );
-    match v {
-        Verdict::Refused(k) => Contained::Refused(k),
-        Verdict::Accepted(_) => Contained::Inside(scene_shape::entry_contains(
-            numbers, &inverses, marks, i, p, f, 8,
-        )),
-    }
+    )?;
+    let inside = scene_shape::entry_contains(numbers, &inverses, marks, i, p, f, 8);
+    Ok(inside)
 }

@@ -8,8 +8,6 @@ ghost use Rattle.query_solid.specs.Simples.{simple_hit, simple_contains};
 use geometry::hit::Hit;
 use geometry::ray::Ray;
 use geometry::vector::Vector;
-use scene::entry::Simple;
-use scene_shape::Struck;
 
 // The hit of a solid of kinds 1 to 5, 8 or 9; any other is missed.
 pub fn hit(kind: u32, n: &[f64; 16], r: Ray) -> Hit
@@ -17,13 +15,13 @@ pub fn hit(kind: u32, n: &[f64; 16], r: Ray) -> Hit
 {
     let s = scene::entry::simple_of(kind, rows::read_numbers(n, 0));
     match s {
-        Simple::Other => Hit::no_hit(),
-        Simple::Is(_) => {
+        None => Hit::no_hit(),
+        Some(_) => {
             let marks = [kind, 0, 0, 0];
             let a = scene_shape::entry_hit(n, n, &marks, 0, r, 1);
             match a {
-                Struck::At(h) => h,
-                Struck::Refused(_) => Hit::no_hit(),
+                Ok(h) => h,
+                Err(_) => Hit::no_hit(),
             }
         }
     }
@@ -35,8 +33,8 @@ pub fn contains(kind: u32, n: &[f64; 16], p: Vector, f: f64) -> bool
 {
     let s = scene::entry::simple_of(kind, rows::read_numbers(n, 0));
     match s {
-        Simple::Other => false,
-        Simple::Is(_) => {
+        None => false,
+        Some(_) => {
             let marks = [kind, 0, 0, 0];
             scene_shape::entry_contains(n, n, &marks, 0, p, f, 1)
         }

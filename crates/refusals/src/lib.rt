@@ -2,7 +2,7 @@
 #![tactic(auto)]
 
 ghost use Rattle.std.specs.Prelude.{◌≡◌};
-ghost use Rattle.refusals.specs.Refusals.{number_of};
+ghost use Rattle.refusals.specs.Refusals.{number_of, answer_number};
 
 #[derive(Clone, Copy)]
 pub enum Refusal {
@@ -39,5 +39,15 @@ impl Refusal {
             Refusal::Room => 13,
             Refusal::Stripes => 14,
         }
+    }
+}
+
+// The number of the refusal, or 0 where there is a value.
+pub fn answer_number<T: Copy>(answer: Result<T, Refusal>) -> u32
+    ensures { result ≡ answer_number answer }
+{
+    match answer {
+        Ok(_) => 0,
+        Err(refusal) => refusal.number(),
     }
 }

@@ -187,16 +187,22 @@ pub fn write_triple(xs: &mut [u32], i: usize, t: Triple)
     xs[at + 2] = t.c;
 }
 
+// Every entry from `from` on becomes `zero`.
+fn clear_to<T: Copy>(xs: &mut [T], from: usize, zero: T)
+    requires { from ≤ length xs.old }
+    ensures { xs.new ≡ take from xs.old ++ replicate (length xs.old - from) zero }
+{
+    for i in from..xs.len() {
+        xs[i] = zero;
+    }
+}
+
 // Every number from `from` on becomes +0.
 pub fn clear(xs: &mut [f64], from: usize)
     requires { from ≤ length xs.old }
     ensures { xs.new ≡ take from xs.old ++ replicate (length xs.old - from) zero_f }
 {
-    let mut i = from;
-    while i < xs.len() {
-        xs[i] = 0.0;
-        i += 1;
-    }
+    clear_to(xs, from, 0.0);
 }
 
 // Every mark from `from` on becomes 0.
@@ -204,11 +210,7 @@ pub fn clear_marks(xs: &mut [u32], from: usize)
     requires { from ≤ length xs.old }
     ensures { xs.new ≡ take from xs.old ++ replicate (length xs.old - from) 0 }
 {
-    let mut i = from;
-    while i < xs.len() {
-        xs[i] = 0;
-        i += 1;
-    }
+    clear_to(xs, from, 0);
 }
 
 // Every start from `from` on becomes 0.
@@ -216,11 +218,7 @@ pub fn clear_starts(xs: &mut [usize], from: usize)
     requires { from ≤ length xs.old }
     ensures { xs.new ≡ take from xs.old ++ replicate (length xs.old - from) 0 }
 {
-    let mut i = from;
-    while i < xs.len() {
-        xs[i] = 0;
-        i += 1;
-    }
+    clear_to(xs, from, 0);
 }
 
 // Where path i ends: at the next start, or with the points if it is the last.
@@ -239,13 +237,11 @@ pub fn end_of(starts: &[usize], i: usize, points: usize) -> usize
 fn rising(starts: &[usize], points: usize) -> bool
     ensures { result ≡ risingOf points starts.now }
 {
-    let mut i = 0;
-    while i < starts.len() {
+    for i in 0..starts.len() {
         let end = end_of(starts, i, points);
         if end < starts[i] {
             return false;
         }
-        i += 1;
     }
     true
 }

@@ -13,47 +13,46 @@ use Rattle.rows.specs.declared.Numbers.{Numbers}
 use Rattle.rows.specs.declared.Marks.{Marks}
 use Rattle.solids.specs.declared.solid.Solid.{Solid}
 use Rattle.scene.specs.Entries.{closed_of, simple_of, simple_or, op_of, cut_of, parts_of, composite_of, entry_of, is_there, entry_at, marks_at, numbers_at, matrix_of}
-use Rattle.scene.specs.declared.entry.Simple.{Simple}
-use Rattle.scene.specs.declared.entry.Simple.TheVariants.{Is, Other}
 use Rattle.scene.specs.declared.entry.Parts.{Parts}
-use Rattle.scene.specs.declared.entry.Parts.TheVariants.{Placed as PlacedPart, Cut as CutParts, None as NoParts}
+use Rattle.scene.specs.declared.entry.Parts.TheVariants.{Placed as PlacedPart, Cut as CutParts}
 use Rattle.scene.specs.declared.entry.Entry.{Entry}
-use Rattle.scene.specs.declared.entry.Entry.TheVariants.{Simple as SimpleEntry, Placed, Cut, None}
+use Rattle.scene.specs.declared.entry.Entry.TheVariants.{Simple as SimpleEntry, Placed, Cut}
+use Rattle.std.specs.Prelude.{None, Option, Some}
 
 -- the entry of a placing by these matrices, or of a cut
-abbrev pub parts_entry : Matrix → Matrix → Parts → Entry
-parts_entry m v (PlacedPart k) = Placed m v k
-parts_entry m v (CutParts o a b) = Cut o a b
-parts_entry m v NoParts = None
+abbrev pub parts_entry : Matrix → Matrix → Option Parts → Option Entry
+parts_entry m v (Some (PlacedPart k)) = Some (Placed m v k)
+parts_entry m v (Some (CutParts o a b)) = Some (Cut o a b)
+parts_entry m v None = None
 
 -- whether it is a placing
-abbrev pub placing : Parts → Bool
-placing (PlacedPart k) = true
-placing (CutParts o a b) = false
-placing NoParts = false
+abbrev pub placing : Option Parts → Bool
+placing (Some (PlacedPart k)) = true
+placing (Some (CutParts o a b)) = false
+placing None = false
 
 pub composite-is : (m : Marks) (n v : Numbers) → composite_of m n v ≡ parts_entry (matrix_of n) (matrix_of v) (parts_of m)
 unfolding composite_of cut_of parts_of
 composite-is m n v = go (eqb m.kind 6) (eqb m.kind 7) (leb m.detail 3)
   where
-    P : Entry
-    P = Placed (matrix_of n) (matrix_of v) m.first
+    P : Option Entry
+    P = Some (Placed (matrix_of n) (matrix_of v) m.first)
 
-    C : Entry
-    C = Cut (op_of m.detail) m.first m.second
+    C : Option Entry
+    C = Some (Cut (op_of m.detail) m.first m.second)
 
-    go : (a b c : Bool) → cond a P (cond b (cond c C None) None) ≡ parts_entry (matrix_of n) (matrix_of v) (cond a (PlacedPart m.first) (cond b (cond c (CutParts (op_of m.detail) m.first m.second) NoParts) NoParts))
+    go : (a b c : Bool) → cond a P (cond b (cond c C None) None) ≡ parts_entry (matrix_of n) (matrix_of v) (cond a (Some (PlacedPart m.first)) (cond b (cond c (Some (CutParts (op_of m.detail) m.first m.second)) None) None))
     go true b c = refl
     go false true true = refl
     go false true false = refl
     go false false c = refl
 
 -- a placing has kind 6, so it is no simple solid
-placed-kind : (m : Marks) {k : ℕ} → parts_of m ≡ PlacedPart k → m.kind ≡ 6
+placed-kind : (m : Marks) {k : ℕ} → parts_of m ≡ Some (PlacedPart k) → m.kind ≡ 6
 unfolding parts_of
 placed-kind m {k} = go (eqb m.kind 6) (eqb m.kind 7) (leb m.detail 3) refl
   where
-    go : (a b c : Bool) → eqb m.kind 6 ≡ a → cond a (PlacedPart m.first) (cond b (cond c (CutParts (op_of m.detail) m.first m.second) NoParts) NoParts) ≡ PlacedPart k → m.kind ≡ 6
+    go : (a b c : Bool) → eqb m.kind 6 ≡ a → cond a (Some (PlacedPart m.first)) (cond b (cond c (Some (CutParts (op_of m.detail) m.first m.second)) None) None) ≡ Some (PlacedPart k) → m.kind ≡ 6
     go true b c e p = eqb-true _ _ e
     go false true true e p = absurd (true≢false (sym (ap placing p)))
     go false true false e p = absurd (true≢false (sym (ap placing p)))
@@ -90,15 +89,15 @@ module _ (ns vs : List Float) (ms : List ℕ) (i : ℕ) {t : Bool} (e : t ≡ is
     unfolding entry_at is_there entry_of
     entry-there = rw (sym e ∙ q, composite-is (marks_at ms i) (numbers_at ns i) (numbers_at vs i))
 
-    module _ {x : Simple} (ex : x ≡ simple_of (marks_at ms i).kind (numbers_at ns i)) where
-      pub entry-simple : {s : Solid} → x ≡ Is s → entry_at ns vs ms i ≡ SimpleEntry s
+    module _ {x : Option Solid} (ex : x ≡ simple_of (marks_at ms i).kind (numbers_at ns i)) where
+      pub entry-simple : {s : Solid} → x ≡ Some s → entry_at ns vs ms i ≡ Some (SimpleEntry s)
       unfolding simple_or
       entry-simple h = entry-there ∙ rw (← ex, h)
 
-      pub entry-parts : x ≡ Other → {p : Parts} → p ≡ parts_of (marks_at ms i) → entry_at ns vs ms i ≡ parts_entry (matrix_of (numbers_at ns i)) (matrix_of (numbers_at vs i)) p
+      pub entry-parts : x ≡ None → {p : Option Parts} → p ≡ parts_of (marks_at ms i) → entry_at ns vs ms i ≡ parts_entry (matrix_of (numbers_at ns i)) (matrix_of (numbers_at vs i)) p
       unfolding simple_or
       entry-parts h ep = entry-there ∙ rw (← ex, h, ← ep)
 
-    pub entry-placed : {p : Parts} → p ≡ parts_of (marks_at ms i) → {k : ℕ} → p ≡ PlacedPart k → entry_at ns vs ms i ≡ Placed (matrix_of (numbers_at ns i)) (matrix_of (numbers_at vs i)) k
+    pub entry-placed : {p : Option Parts} → p ≡ parts_of (marks_at ms i) → {k : ℕ} → p ≡ Some (PlacedPart k) → entry_at ns vs ms i ≡ Some (Placed (matrix_of (numbers_at ns i)) (matrix_of (numbers_at vs i)) k)
     unfolding simple_of closed_of
     entry-placed ep h = entry-parts refl (rw (placed-kind _ (sym ep ∙ h))) (sym h ∙ ep)

@@ -1,5 +1,5 @@
 -- What an entry's kind and its 16 numbers stand for (document 01, "Scene"; document 02, iii).
-use Rattle.std.specs.Prelude.{ℕ, ◌/◌, Bool, cond, ◌&&◌, ◌||◌, List, length, ltb, leb, eqb, Float}
+use Rattle.std.specs.Prelude.{ℕ, ◌/◌, Bool, cond, ◌&&◌, ◌||◌, List, length, ltb, leb, eqb, Float, None, Option, Some}
 use Rattle.geometry.specs.Vectors.{vec}
 use Rattle.matrix.specs.Matrices.{mat}
 use Rattle.matrix_inverse.specs.Inverses.{inverted}
@@ -9,30 +9,29 @@ use Rattle.rows.specs.Entries.{numbers_of, marks_of}
 use Rattle.rows.specs.declared.Numbers.{Numbers}
 use Rattle.rows.specs.declared.Marks.{Marks}
 use Rattle.solids.specs.declared.solid.Solid.TheVariants.{Sphere, Cylinder, Cone, Cube, Triangle, ClosedCylinder, ClosedCone}
-use Rattle.scene.specs.declared.entry.Simple.{Simple}
-use Rattle.scene.specs.declared.entry.Simple.TheVariants.{Is, Other}
 use Rattle.scene.specs.declared.entry.Op.{Op}
 use Rattle.scene.specs.declared.entry.Op.TheVariants.{Intersection, Difference, TrueIntersection, TrueDifference}
 use Rattle.scene.specs.declared.entry.Parts.{Parts}
-use Rattle.scene.specs.declared.entry.Parts.TheVariants.{Placed as PlacedPart, Cut as CutParts, None as NoParts}
+use Rattle.scene.specs.declared.entry.Parts.TheVariants.{Placed as PlacedPart, Cut as CutParts}
 use Rattle.scene.specs.declared.entry.Entry.{Entry}
-use Rattle.scene.specs.declared.entry.Entry.TheVariants.{Simple as SimpleEntry, Placed, Cut, None}
+use Rattle.scene.specs.declared.entry.Entry.TheVariants.{Simple as SimpleEntry, Placed, Cut}
+use Rattle.solids.specs.declared.solid.Solid.{Solid}
 
 -- document 02's kinds 8 and 9, closed cylinder and closed cone, with the measures of 2 and 3
-unfoldable pub closed_of : ℕ → Numbers → Simple
+unfoldable pub closed_of : ℕ → Numbers → Option Solid
 closed_of kind n =
-    cond (eqb kind 8) (Is (ClosedCylinder n.x00 n.x01 n.x02))
-    (cond (eqb kind 9) (Is (ClosedCone n.x00 n.x01))
-    Other)
+    cond (eqb kind 8) (Some (ClosedCylinder n.x00 n.x01 n.x02))
+    (cond (eqb kind 9) (Some (ClosedCone n.x00 n.x01))
+    None)
 
 -- kinds 1 to 5, sphere, cylinder, cone, cube and triangle, with their measures; 8 and 9
-unfoldable pub simple_of : ℕ → Numbers → Simple
+unfoldable pub simple_of : ℕ → Numbers → Option Solid
 simple_of kind n =
-    cond (eqb kind 1) (Is (Sphere (vec n.x00 n.x01 n.x02) n.x03))
-    (cond (eqb kind 2) (Is (Cylinder n.x00 n.x01 n.x02))
-    (cond (eqb kind 3) (Is (Cone n.x00 n.x01))
-    (cond (eqb kind 4) (Is (Cube (vec n.x00 n.x01 n.x02) (vec n.x03 n.x10 n.x11)))
-    (cond (eqb kind 5) (Is (Triangle (vec n.x00 n.x01 n.x02) (vec n.x03 n.x10 n.x11) (vec n.x12 n.x13 n.x20)))
+    cond (eqb kind 1) (Some (Sphere (vec n.x00 n.x01 n.x02) n.x03))
+    (cond (eqb kind 2) (Some (Cylinder n.x00 n.x01 n.x02))
+    (cond (eqb kind 3) (Some (Cone n.x00 n.x01))
+    (cond (eqb kind 4) (Some (Cube (vec n.x00 n.x01 n.x02) (vec n.x03 n.x10 n.x11)))
+    (cond (eqb kind 5) (Some (Triangle (vec n.x00 n.x01 n.x02) (vec n.x03 n.x10 n.x11) (vec n.x12 n.x13 n.x20)))
     (closed_of kind n)))))
 
 -- the kinds whose detail is a stripe count (document 02, ii and iii): cylinder and cone, open or closed
@@ -56,26 +55,26 @@ unfoldable pub op_of : ℕ → Op
 op_of detail = cond (eqb detail 0) Intersection (cond (eqb detail 1) Difference (cond (eqb detail 2) TrueIntersection TrueDifference))
 
 -- the parts that an entry names: that of a placing, or the two of a cut by operations 0 to 3
-unfoldable pub parts_of : Marks → Parts
+unfoldable pub parts_of : Marks → Option Parts
 parts_of m =
-    cond (eqb m.kind 6) (PlacedPart m.first)
-    (cond (eqb m.kind 7) (cond (leb m.detail 3) (CutParts (op_of m.detail) m.first m.second) NoParts) NoParts)
+    cond (eqb m.kind 6) (Some (PlacedPart m.first))
+    (cond (eqb m.kind 7) (cond (leb m.detail 3) (Some (CutParts (op_of m.detail) m.first m.second)) None) None)
 
 -- kind 7, a cut, by operations 0 to 3
-unfoldable pub cut_of : Marks → Entry
-cut_of m = cond (leb m.detail 3) (Cut (op_of m.detail) m.first m.second) None
+unfoldable pub cut_of : Marks → Option Entry
+cut_of m = cond (leb m.detail 3) (Some (Cut (op_of m.detail) m.first m.second)) None
 
 -- kind 6, a placed part with its matrix and its inverse, and kind 7
-unfoldable pub composite_of : Marks → Numbers → Numbers → Entry
+unfoldable pub composite_of : Marks → Numbers → Numbers → Option Entry
 composite_of m n inverse =
-    cond (eqb m.kind 6) (Placed (matrix_of n) (matrix_of inverse) m.first)
+    cond (eqb m.kind 6) (Some (Placed (matrix_of n) (matrix_of inverse) m.first))
     (cond (eqb m.kind 7) (cut_of m) None)
 
-unfoldable pub simple_or : Simple → Entry → Entry
-simple_or (Is s) e = SimpleEntry s
-simple_or Other e = e
+unfoldable pub simple_or : Option Solid → Option Entry → Option Entry
+simple_or (Some s) e = Some (SimpleEntry s)
+simple_or None e = e
 
-unfoldable pub entry_of : Marks → Numbers → Numbers → Entry
+unfoldable pub entry_of : Marks → Numbers → Numbers → Option Entry
 entry_of m n inverse = simple_or (simple_of m.kind n) (composite_of m n inverse)
 
 -- the numbers of a matrix, by rows
@@ -110,13 +109,13 @@ unfoldable pub is_there : List Float → List Float → List ℕ → ℕ → Boo
 is_there numbers inverses marks i = ltb i (length numbers / 16) && (ltb i (length inverses / 16) && ltb i (length marks / 4))
 
 -- entry i of a scene with its inverses; `None` where a list does not have it
-unfoldable pub entry_at : List Float → List Float → List ℕ → ℕ → Entry
+unfoldable pub entry_at : List Float → List Float → List ℕ → ℕ → Option Entry
 entry_at numbers inverses marks i =
     cond (ltb i (length numbers / 16) && (ltb i (length inverses / 16) && ltb i (length marks / 4)))
     (entry_of (marks_at marks i) (numbers_at numbers i) (numbers_at inverses i)) None
 
 -- entry i of a scene, a placing with the inverse of its own matrix
-unfoldable pub own_entry : List Float → List ℕ → ℕ → Entry
+unfoldable pub own_entry : List Float → List ℕ → ℕ → Option Entry
 own_entry numbers marks i =
     cond (ltb i (length numbers / 16) && ltb i (length marks / 4))
     (entry_of (marks_at marks i) (numbers_at numbers i) (matrix_numbers (inverted (matrix_of (numbers_at numbers i))).inverse)) None

@@ -7,59 +7,52 @@ use matrix::Matrix;
 use rows::{Marks, Numbers};
 use solids::solid::Solid;
 
-// A solid of kinds 1 to 5, 8 or 9, or none of these.
-#[derive(Clone, Copy)]
-pub enum Simple {
-    Is(Solid),
-    Other,
-}
-
 // Kind 1 is a sphere (centre, radius), 2 a cylinder (radius, z0, z1), 3 a cone (radius, height), 4 a cube (min, max),
 // 5 a triangle (three corners), 8 a closed cylinder and 9 a closed cone. One expression: where the solid is then
 // matched on, the compiler makes one choice of the two. Returned from each case, it would go through memory.
-pub fn simple_of(kind: u32, n: Numbers) -> Simple
+pub fn simple_of(kind: u32, n: Numbers) -> Option<Solid>
     ensures { result ≡ simple_of kind n }
 {
     let a = Vector::new(n.x00, n.x01, n.x02);
     let b = Vector::new(n.x03, n.x10, n.x11);
     let c = Vector::new(n.x12, n.x13, n.x20);
     if kind == 1 {
-        Simple::Is(Solid::Sphere {
+        Some(Solid::Sphere {
             center: a,
             radius: n.x03,
         })
     } else if kind == 2 {
-        Simple::Is(Solid::Cylinder {
+        Some(Solid::Cylinder {
             radius: n.x00,
             z0: n.x01,
             z1: n.x02,
         })
     } else if kind == 3 {
-        Simple::Is(Solid::Cone {
+        Some(Solid::Cone {
             radius: n.x00,
             height: n.x01,
         })
     } else if kind == 4 {
-        Simple::Is(Solid::Cube { min: a, max: b })
+        Some(Solid::Cube { min: a, max: b })
     } else if kind == 5 {
-        Simple::Is(Solid::Triangle {
+        Some(Solid::Triangle {
             v1: a,
             v2: b,
             v3: c,
         })
     } else if kind == 8 {
-        Simple::Is(Solid::ClosedCylinder {
+        Some(Solid::ClosedCylinder {
             radius: n.x00,
             z0: n.x01,
             z1: n.x02,
         })
     } else if kind == 9 {
-        Simple::Is(Solid::ClosedCone {
+        Some(Solid::ClosedCone {
             radius: n.x00,
             height: n.x01,
         })
     } else {
-        Simple::Other
+        None
     }
 }
 
@@ -147,14 +140,13 @@ pub enum Op {
     TrueDifference,
 }
 
-// What an entry stands for: a simple solid, a placing (its matrix, the inverse, its part), a cut (its
-// operation and parts), or nothing.
+// What an entry stands for: a simple solid, a placing (its matrix, the inverse, its part), or a cut (its
+// operation and parts).
 #[derive(Clone, Copy)]
 pub enum Entry {
     Simple(Solid),
     Placed(Matrix, Matrix, usize),
     Cut(Op, usize, usize),
-    None,
 }
 
 // Operations 0 to 3, in that order.
@@ -178,47 +170,45 @@ pub fn op_of(detail: u32) -> Op
 pub enum Parts {
     Placed(usize),
     Cut(Op, usize, usize),
-    None,
 }
 
-pub fn parts_of(m: Marks) -> Parts
+pub fn parts_of(m: Marks) -> Option<Parts>
     ensures { result ≡ parts_of m }
 {
     if m.kind == 6 {
-        return Parts::Placed(m.first as usize);
+        return Some(Parts::Placed(m.first as usize));
     }
     if m.kind == 7 {
         if m.detail <= 3 {
-            return Parts::Cut(op_of(m.detail), m.first as usize, m.second as usize);
+            return Some(Parts::Cut(op_of(m.detail), m.first as usize, m.second as usize));
         }
     }
-    Parts::None
+    None
 }
 
 // Kinds 6 and 7, by the marks, the numbers and the numbers of the inverse.
-fn composite_of(m: Marks, n: Numbers, inverse: Numbers) -> Entry
+fn composite_of(m: Marks, n: Numbers, inverse: Numbers) -> Option<Entry>
     ensures { result ≡ composite_of m n inverse }
 {
-    let p = parts_of(m);
+    let p = parts_of(m)?;
     match p {
-        Parts::Placed(k) => Entry::Placed(matrix_of(n), matrix_of(inverse), k),
-        Parts::Cut(op, a, b) => Entry::Cut(op, a, b),
-        Parts::None => Entry::None,
+        Parts::Placed(k) => Some(Entry::Placed(matrix_of(n), matrix_of(inverse), k)),
+        Parts::Cut(op, a, b) => Some(Entry::Cut(op, a, b)),
     }
 }
 
-pub fn entry_of(m: Marks, n: Numbers, inverse: Numbers) -> Entry
+pub fn entry_of(m: Marks, n: Numbers, inverse: Numbers) -> Option<Entry>
     ensures { result ≡ entry_of m n inverse }
 {
     let s = simple_of(m.kind, n);
     match s {
-        Simple::Is(solid) => Entry::Simple(solid),
-        Simple::Other => composite_of(m, n, inverse),
+        Some(solid) => Some(Entry::Simple(solid)),
+        None => composite_of(m, n, inverse),
     }
 }
 
 // Entry i of a scene with its inverses, nothing where a slice does not have it.
-pub fn entry_at(numbers: &[f64], inverses: &[f64], marks: &[u32], i: usize) -> Entry
+pub fn entry_at(numbers: &[f64], inverses: &[f64], marks: &[u32], i: usize) -> Option<Entry>
     ensures { result ≡ entry_at numbers.now inverses.now marks.now i }
 {
     if i < numbers.len() / 16 {
@@ -232,7 +222,7 @@ pub fn entry_at(numbers: &[f64], inverses: &[f64], marks: &[u32], i: usize) -> E
             }
         }
     }
-    Entry::None
+    None
 }
 
 // Whether each of the three slices has entry i.
@@ -248,7 +238,7 @@ pub fn is_there(numbers: &[f64], inverses: &[f64], marks: &[u32], i: usize) -> b
 }
 
 // The simple solid in row i, if it is one.
-pub fn simple_at(numbers: &[f64], marks: &[u32], i: usize) -> Simple
+pub fn simple_at(numbers: &[f64], marks: &[u32], i: usize) -> Option<Solid>
     requires { (i * 16 + 16 ≤ length numbers.now) × (i * 4 + 4 ≤ length marks.now) }
     ensures { result ≡ simple_of (marks_at marks.now i).kind (numbers_at numbers.now i) }
 {
@@ -259,7 +249,7 @@ pub fn simple_at(numbers: &[f64], marks: &[u32], i: usize) -> Simple
 }
 
 // The parts that row i names.
-pub fn parts_at(marks: &[u32], i: usize) -> Parts
+pub fn parts_at(marks: &[u32], i: usize) -> Option<Parts>
     requires { i * 4 + 4 ≤ length marks.now }
     ensures { result ≡ parts_of (marks_at marks.now i) }
 {

@@ -1,17 +1,17 @@
 -- Marks, owners and starts raised. Assumes nothing.
-use Prim.Native.Nat.{ℕ, ◌+◌, ◌-◌, ◌*◌, ◌/◌, ◌^◌, ◌≤◌, ◌<◌}
+use Prim.Native.Nat.{ℕ, ◌+◌, ◌-◌, ◌*◌, ◌/◌, ◌≤◌, ◌<◌}
 use mathlib.Core.Path.{◌≡◌, refl, sym, ap, subst, ◌∙◌}
-use mathlib.Core.List.{List, ◌++◌, map}
+use mathlib.Core.List.{List, ◌++◌}
 use native.Mathlib.Omega.{arith}
 use lib.ListN.{length, get_or, length-append, length-map}
-use Rattle.rows.specs.Rows.{row, view, flat}
+use Rattle.rows.specs.Rows.{view, flat}
 use Rattle.rows.specs.Entries.{marks_of}
 use Rattle.rows.specs.declared.Marks.{Marks}
 use Rattle.rows.proofs.Rows.{length-view, get_d-view, length-flat}
 use Rattle.scene.specs.Entries.{marks_at}
 use Rattle.scene.specs.Scenes.{entries}
 use Rattle.scene_merge.specs.MergedScenes.{marks_row, raised, raised_marks, raised_by, MarksRaisable}
-use Rattle.scene_merge.proofs.Laying.{in-first, in-second, past-both, get_d_map, flat-at}
+use Rattle.scene_merge.proofs.Laying.{in-second, past-both, get_d_map, flat-at}
 
 -- ---- owners and starts
 module _ (l r : List ℕ) (by k : ℕ) where

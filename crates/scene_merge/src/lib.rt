@@ -29,10 +29,8 @@ pub fn put_numbers(first: &[f64], n: usize, second: &[f64], m: usize, out: &mut 
     requires { (n ≤ length first.now) × (m ≤ length second.now) × (n + m ≤ length out.old) }
     ensures { out.new ≡ padded zero_f (length out.old) (take n first.now ++ take m second.now) }
 {
-    let mut k = 0;
-    while k < out.len() {
+    for k in 0..out.len() {
         out[k] = number_at(first, n, second, m, k);
-        k += 1;
     }
 }
 
@@ -56,10 +54,8 @@ pub fn put_starts(first: &[usize], second: &[usize], by: usize, out: &mut [usize
     requires { MergedScenes.Raisable (2 ^ 64) by second.now × (length first.now + length second.now ≤ length out.old) }
     ensures { out.new ≡ padded 0 (length out.old) (first.now ++ MergedScenes.raised_by by second.now) }
 {
-    let mut k = 0;
-    while k < out.len() {
+    for k in 0..out.len() {
         out[k] = start_at(first, second, by, k);
-        k += 1;
     }
 }
 
@@ -83,10 +79,8 @@ pub fn put_owners(first: &[u32], second: &[u32], by: u32, out: &mut [u32])
     requires { MergedScenes.Raisable (2 ^ 32) by second.now × (length first.now + length second.now ≤ length out.old) }
     ensures { out.new ≡ padded 0 (length out.old) (first.now ++ MergedScenes.raised_by by second.now) }
 {
-    let mut k = 0;
-    while k < out.len() {
+    for k in 0..out.len() {
         out[k] = owner_at(first, second, by, k);
-        k += 1;
     }
 }
 
@@ -153,9 +147,7 @@ pub fn put_marks(first: &[u32], second: &[u32], by: u32, out: &mut [u32])
     requires { MergedScenes.AllRaisable by second.now × (length first.now + length second.now / 4 * 4 ≤ length out.old) }
     ensures { out.new ≡ padded 0 (length out.old) (first.now ++ MergedScenes.raised_marks by second.now) }
 {
-    let mut k = 0;
-    while k < out.len() {
+    for k in 0..out.len() {
         out[k] = mark_at(first, second, by, k);
-        k += 1;
     }
 }

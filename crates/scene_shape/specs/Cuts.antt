@@ -1,5 +1,5 @@
 -- The steps of a placed part (shape.rs) and of a cut (csg.rs): the Rust's, in its order, but for the true distance of operations 2 and 3.
-use Rattle.std.specs.Prelude.{Bool, true, false, not, ◌&&◌, ◌||◌, cond, Float}
+use Rattle.std.specs.Prelude.{Bool, true, false, not, ◌&&◌, ◌||◌, cond, Float, Err, Ok, Result}
 use Rattle.std.specs.Float.Ieee.{neg}
 use Rattle.floats.specs.Arith.{◌⊕◌, ◌⊘◌, hundredth, thousandth}
 use Rattle.geometry.specs.Rays.{ray_of, position}
@@ -9,13 +9,12 @@ use Rattle.geometry.specs.declared.ray.Ray.{Ray}
 use Rattle.geometry.specs.declared.hit.Hit.{Hit}
 use Rattle.scene.specs.declared.entry.Op.{Op}
 use Rattle.scene.specs.declared.entry.Op.TheVariants.{Intersection, Difference, TrueIntersection, TrueDifference}
-use Rattle.scene_shape.specs.declared.Struck.{Struck}
-use Rattle.scene_shape.specs.declared.Struck.TheVariants.{At, Refused}
+use Rattle.refusals.specs.declared.Refusal.{Refusal}
 
 -- a placed part divides t by the scale, even on a miss
-unfoldable pub rescaled : Float → Struck → Struck
-rescaled scale (At h) = At (record { t = h.t ⊘ scale; ok = h.ok })
-rescaled scale (Refused n) = Refused n
+unfoldable pub rescaled : Float → Result Hit Refusal → Result Hit Refusal
+rescaled scale (Ok h) = Ok (record { t = h.t ⊘ scale; ok = h.ok })
+rescaled scale (Err n) = Err n
 
 -- whether an operation takes the second part away from the first
 unfoldable pub takes_away : Op → Bool
@@ -29,10 +28,10 @@ unfoldable pub cut_contains : Op → (Vector → Float → Bool) → (Vector →
 cut_contains o a b v = a v thousandth && cond (takes_away o) (not (b v (neg thousandth))) (b v thousandth)
 
 -- the first refusal, or the nearer hit
-unfoldable pub both : Struck → Struck → Struck
-both (Refused n) b = Refused n
-both (At g) (Refused n) = Refused n
-both (At g) (At h) = At (min_hit g h)
+unfoldable pub both : Result Hit Refusal → Result Hit Refusal → Result Hit Refusal
+both (Err n) b = Err n
+both (Ok g) (Err n) = Err n
+both (Ok g) (Ok h) = Ok (min_hit g h)
 
 -- the ray put again from 0.01 beyond t
 unfoldable pub restarted : Ray → Float → Ray
@@ -50,11 +49,11 @@ tell_of TrueIntersection sum h = from_first sum h
 tell_of TrueDifference sum h = from_first sum h
 
 -- a hit that is accepted is told; else the ray is put again, t + 0.01 further from its first origin
-unfoldable pub accepted_or : (Float → Hit → Hit) → (Float → Ray → Struck) → Float → Ray → Hit → Bool → Struck
-accepted_or tell again sum r h true = At (tell sum h)
+unfoldable pub accepted_or : (Float → Hit → Hit) → (Float → Ray → Result Hit Refusal) → Float → Ray → Hit → Bool → Result Hit Refusal
+accepted_or tell again sum r h true = Ok (tell sum h)
 accepted_or tell again sum r h false = again (sum ⊕ (h.t ⊕ hundredth)) (restarted r h.t)
 
 -- a cut accepts a hit whose t is not below INF, or whose point lies inside
-unfoldable pub step : (Float → Hit → Hit) → (Float → Ray → Struck) → (Vector → Bool) → Float → Ray → Struck → Struck
-step tell again inside sum r (Refused n) = Refused n
-step tell again inside sum r (At h) = accepted_or tell again sum r h (not (is_ok h) || inside (position r h.t))
+unfoldable pub step : (Float → Hit → Hit) → (Float → Ray → Result Hit Refusal) → (Vector → Bool) → Float → Ray → Result Hit Refusal → Result Hit Refusal
+step tell again inside sum r (Err n) = Err n
+step tell again inside sum r (Ok h) = accepted_or tell again sum r h (not (is_ok h) || inside (position r h.t))

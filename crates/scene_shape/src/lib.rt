@@ -12,37 +12,24 @@ use geometry::hit::Hit;
 use geometry::ray::Ray;
 use geometry::vector::Vector;
 use refusals::Refusal;
-use scene::entry::{Op, Parts, Simple};
-
-// The hit of a ray, or why there is none.
-#[derive(Clone, Copy)]
-pub enum Struck {
-    At(Hit),
-    Refused(Refusal),
-}
+use scene::entry::{Op, Parts};
 
 // An answer as it is, by its fields: copied whole, its hit's flag would be read as a word where a byte was written,
 // which waits.
-fn by_fields(a: Struck) -> Struck
+fn by_fields(a: Result<Hit, Refusal>) -> Result<Hit, Refusal>
     ensures { result ≡ a }
 {
-    match a {
-        Struck::At(h) => Struck::At(Hit { t: h.t, ok: h.ok }),
-        Struck::Refused(n) => Struck::Refused(n),
-    }
+    let h = a?;
+    Ok(Hit { t: h.t, ok: h.ok })
 }
 
 // The first refusal, or the nearer hit.
-fn both(a: Struck, b: Struck) -> Struck
+fn both(a: Result<Hit, Refusal>, b: Result<Hit, Refusal>) -> Result<Hit, Refusal>
     ensures { result ≡ Cuts.both a b }
 {
-    match a {
-        Struck::Refused(n) => Struck::Refused(n),
-        Struck::At(g) => match b {
-            Struck::Refused(n) => Struck::Refused(n),
-            Struck::At(h) => Struck::At(g.min(h)),
-        },
-    }
+    let g = a?;
+    let h = b?;
+    Ok(g.min(h))
 }
 
 // The ray put again from 0.01 beyond t.
@@ -110,15 +97,15 @@ pub fn entry_contains(
     }
     let s = scene::entry::simple_at(numbers, marks, i);
     match s {
-        Simple::Is(solid) => solid.contains(p, f),
-        Simple::Other => {
+        Some(solid) => solid.contains(p, f),
+        None => {
             let e = scene::entry::parts_at(marks, i);
             match e {
-                Parts::Placed(k) => {
+                Some(Parts::Placed(k)) => {
                     let v = scene::entry::matrix_at(inverses, i);
                     entry_contains(numbers, inverses, marks, k, v.mul_position(p), f, depth - 1)
                 }
-                Parts::Cut(op, a, b) => cut_contains(
+                Some(Parts::Cut(op, a, b)) => cut_contains(
                     numbers,
                     inverses,
                     marks,
@@ -128,7 +115,7 @@ pub fn entry_contains(
                     p,
                     depth - 1,
                 ),
-                Parts::None => false,
+                None => false,
             }
         }
     }
@@ -174,7 +161,7 @@ fn met_at(inverses: &[f64], marks: &[u32], i: usize, r: Ray, depth: usize) -> Me
 {
     let e = scene::entry::parts_at(marks, i);
     match e {
-        Parts::Placed(k) => {
+        Some(Parts::Placed(k)) => {
             let q = scene::entry::matrix_at(inverses, i).mul_ray(r);
             let ray = q.ray;
             Meeting {
@@ -185,14 +172,14 @@ fn met_at(inverses: &[f64], marks: &[u32], i: usize, r: Ray, depth: usize) -> Me
                 depth: depth - 1,
             }
         }
-        Parts::Cut(_, _, _) => Meeting {
+        Some(Parts::Cut(_, _, _)) => Meeting {
             i,
             ray: r,
             placed: false,
             scale: 1.0,
             depth,
         },
-        Parts::None => Meeting {
+        None => Meeting {
             i,
             ray: r,
             placed: false,
@@ -203,19 +190,15 @@ fn met_at(inverses: &[f64], marks: &[u32], i: usize, r: Ray, depth: usize) -> Me
 }
 
 // The part's answer as the entry's: over the scale, where the entry is a placing. By its fields.
-fn told(placed: bool, scale: f64, a: Struck) -> Struck
+fn told(placed: bool, scale: f64, a: Result<Hit, Refusal>) -> Result<Hit, Refusal>
     ensures { result ≡ told_by placed scale a }
 {
-    match a {
-        Struck::Refused(n) => Struck::Refused(n),
-        Struck::At(h) => {
-            let mut t = h.t;
-            if placed {
-                t = t / scale;
-            }
-            Struck::At(Hit { t, ok: h.ok })
-        }
+    let h = a?;
+    let mut t = h.t;
+    if placed {
+        t = t / scale;
     }
+    Ok(Hit { t, ok: h.ok })
 }
 
 // The hit of entry i, of which `depth` levels are left, `above` where it was met: a placing is met a level down.
@@ -228,24 +211,24 @@ fn part_hit(
     r: Ray,
     depth: usize,
     above: usize,
-) -> Struck
+) -> Result<Hit, Refusal>
     requires { (depth < above) ⊎ ((depth ≡ above) × (placing (parts_of (marks_at marks.now i)) ≡ false)) }
     ensures { result ≡ shape_hit (decode depth numbers.now inverses.now marks.now i) r }
 {
     if depth == 0 {
-        return Struck::At(Hit::no_hit());
+        return Ok(Hit::no_hit());
     }
     if !scene::entry::is_there(numbers, inverses, marks, i) {
-        return Struck::At(Hit::no_hit());
+        return Ok(Hit::no_hit());
     }
     let s = scene::entry::simple_at(numbers, marks, i);
     match s {
-        Simple::Is(solid) => Struck::At(solid.intersect(r.again())),
-        Simple::Other => {
+        Some(solid) => Ok(solid.intersect(r.again())),
+        None => {
             let e = scene::entry::parts_at(marks, i);
             match e {
-                Parts::Placed(_) => entry_hit(numbers, inverses, marks, i, r.again(), depth),
-                Parts::Cut(op, a, b) => cut_hit(
+                Some(Parts::Placed(_)) => entry_hit(numbers, inverses, marks, i, r.again(), depth),
+                Some(Parts::Cut(op, a, b)) => cut_hit(
                     numbers,
                     inverses,
                     marks,
@@ -257,7 +240,7 @@ fn part_hit(
                     64,
                     0.0,
                 ),
-                Parts::None => Struck::At(Hit::no_hit()),
+                None => Ok(Hit::no_hit()),
             }
         }
     }
@@ -272,14 +255,14 @@ pub fn entry_hit(
     i: usize,
     r: Ray,
     depth: usize,
-) -> Struck
+) -> Result<Hit, Refusal>
     ensures { result ≡ shape_hit (decode depth numbers.now inverses.now marks.now i) r }
 {
     if depth == 0 {
-        return Struck::At(Hit::no_hit());
+        return Ok(Hit::no_hit());
     }
     if !scene::entry::is_there(numbers, inverses, marks, i) {
-        return Struck::At(Hit::no_hit());
+        return Ok(Hit::no_hit());
     }
     let q = met_at(inverses, marks, i, r, depth);
     let ray = q.ray;
@@ -303,36 +286,31 @@ fn cut_hit(
     depth: usize,
     restarts: usize,
     sum: f64,
-) -> Struck
+) -> Result<Hit, Refusal>
     ensures { result ≡ cut_hit op restarts (decode depth numbers.now inverses.now marks.now) a b sum r }
 {
     let ha = entry_hit(numbers, inverses, marks, a, r.again(), depth);
     let hb = entry_hit(numbers, inverses, marks, b, r.again(), depth);
-    let n = both(ha, hb);
-    match n {
-        Struck::Refused(k) => Struck::Refused(k),
-        Struck::At(h) => {
-            if !h.is_ok() {
-                return by_fields(Struck::At(tell_of(op, sum, h)));
-            }
-            if cut_contains(numbers, inverses, marks, op, a, b, r.position(h.t), depth) {
-                return by_fields(Struck::At(tell_of(op, sum, h)));
-            }
-            if restarts == 0 {
-                return Struck::Refused(Refusal::Restarts);
-            }
-            by_fields(cut_hit(
-                numbers,
-                inverses,
-                marks,
-                op,
-                a,
-                b,
-                restarted(r, h.t),
-                depth,
-                restarts - 1,
-                sum + (h.t + 0.01),
-            ))
-        }
+    let h = both(ha, hb)?;
+    if !h.is_ok() {
+        return by_fields(Ok(tell_of(op, sum, h)));
     }
+    if cut_contains(numbers, inverses, marks, op, a, b, r.position(h.t), depth) {
+        return by_fields(Ok(tell_of(op, sum, h)));
+    }
+    if restarts == 0 {
+        return Err(Refusal::Restarts);
+    }
+    by_fields(cut_hit(
+        numbers,
+        inverses,
+        marks,
+        op,
+        a,
+        b,
+        restarted(r, h.t),
+        depth,
+        restarts - 1,
+        sum + (h.t + 0.01),
+    ))
 }

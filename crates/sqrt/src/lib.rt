@@ -28,8 +28,7 @@ fn digits(m: u64) -> WholeRoot
     let mut whole: u64 = 0;
     let mut rest: u64 = 0;
     let mut left = m;
-    let mut i: u64 = 0;
-    while i < 53 {
+    for i in 0u64..53 {
         rest = 4 * rest + left / 0x10_0000_0000_0000;
         left = left % 0x10_0000_0000_0000 * 4;
         whole = 2 * whole;
@@ -37,7 +36,6 @@ fn digits(m: u64) -> WholeRoot
             rest = rest - 2 * whole - 1;
             whole = whole + 1;
         }
-        i += 1;
     }
     WholeRoot { whole, rest }
 }

@@ -42,10 +42,8 @@ fn print_degree(rt: &impl Print, degrees: usize) -> io::Result<()> {
 }
 
 fn main(rt: HostRuntime) -> io::Result<()> {
-    let mut a: usize = 0;
-    while a < 360 {
+    for a in 0usize..360 {
         print_degree(&rt, a)?;
-        a += 1;
     }
     Ok(())
 }

@@ -12,7 +12,7 @@ use geometry::hit::Hit;
 use geometry::ray::Ray;
 use geometry::vector::Vector;
 use rows::Numbers;
-use scene::entry::Simple;
+use solids::solid::Solid;
 use sqrt::Rooted;
 use std::io;
 
@@ -33,42 +33,42 @@ fn numbers_from(s: &[u8], k: usize) -> Numbers
     rows::read_numbers(&xs, 0)
 }
 
-fn solid_from(s: &[u8], k: usize) -> Simple
+fn solid_from(s: &[u8], k: usize) -> Option<Solid>
     requires { 8 * k + 136 ≤ length s.now }
     ensures { result ≡ solid_from s.now k }
 {
     let kind = test_words::word(s, k);
     if kind > 9 {
-        return Simple::Other;
+        return None;
     }
     scene::entry::simple_of(kind as u32, numbers_from(s, k + 1))
 }
 
 // What the calls on a solid answer: 0, or 3 for a kind outside 1 to 5, 8 and 9, and then zeros.
-fn simple_answer(x: Simple) -> u64
+fn simple_answer(x: Option<Solid>) -> u64
     ensures { result ≡ simple_answer x }
 {
     match x {
-        Simple::Is(_) => 0,
-        Simple::Other => 3,
+        Some(_) => 0,
+        None => 3,
     }
 }
 
-fn simple_hit(x: Simple, r: Ray) -> Hit
+fn simple_hit(x: Option<Solid>, r: Ray) -> Hit
     ensures { result ≡ told_hit x r }
 {
     match x {
-        Simple::Is(y) => y.intersect(r),
-        Simple::Other => Hit { t: 0.0, ok: false },
+        Some(y) => y.intersect(r),
+        None => Hit { t: 0.0, ok: false },
     }
 }
 
-fn simple_box(x: Simple) -> BBox
+fn simple_box(x: Option<Solid>) -> BBox
     ensures { result ≡ simple_box x }
 {
     match x {
-        Simple::Is(y) => y.bounding_box(),
-        Simple::Other => BBox {
+        Some(y) => y.bounding_box(),
+        None => BBox {
             min: Vector {
                 x: 0.0,
                 y: 0.0,
@@ -83,12 +83,12 @@ fn simple_box(x: Simple) -> BBox
     }
 }
 
-fn simple_contains(x: Simple, p: Vector, f: f64) -> bool
+fn simple_contains(x: Option<Solid>, p: Vector, f: f64) -> bool
     ensures { result ≡ told_contains x p f }
 {
     match x {
-        Simple::Is(y) => y.contains(p, f),
-        Simple::Other => false,
+        Some(y) => y.contains(p, f),
+        None => false,
     }
 }
 
@@ -248,10 +248,8 @@ fn wrong(s: &[u8]) -> u64
 {
     let count = s.len() / 328;
     let mut n: u64 = 0;
-    let mut i = 0usize;
-    while i < count {
+    for i in 0..count {
         n += test_words::miss(call_right(s, 41 * i));
-        i += 1;
     }
     n
 }

@@ -33,12 +33,10 @@ fn no_plot() -> Plot {
 // How many tenths of a millimetre a pixel's coordinate is, 7 to a pixel, from 0 to `most`.
 fn tenths(x: f64, most: u16) -> u16 {
     let scaled = x * 7.0;
-    let mut t: u16 = 0;
-    while t < most {
+    for t in 0..most {
         if (t as f64) >= scaled {
             return t;
         }
-        t += 1;
     }
     most
 }
@@ -88,15 +86,13 @@ fn gone(p: Plot, x: u16, y: u16) -> Plot {
         }
     }
     let mut r = started(s, x, y);
-    let mut steps: u64 = 0;
-    while steps < 8410 {
+    for steps in 0..8410 {
         if !r.busy() {
             return counted(p, r, steps);
         }
         r = r.stepped();
-        steps += 1;
     }
-    counted(p, r, steps)
+    counted(p, r, 8410)
 }
 
 fn gone_to(p: Plot, v: Vector) -> Plot {
@@ -121,10 +117,8 @@ fn drawn(p: Plot, path: &[f64]) -> Plot
 {
     let mut q = commanded(gone_to(commanded(p, 2), rows::read_point(path, 0)), 1);
     let n = path.len() / 3;
-    let mut i = 1usize;
-    while i < n {
+    for i in 1..n {
         q = gone_to(q, rows::read_point(path, i));
-        i += 1;
     }
     q
 }
@@ -156,8 +150,7 @@ fn tour(yard: &[f64], starts: &[usize]) -> Plot {
     let mut marks = [0u8; 73];
     let mut p = no_plot();
     let mut pen = Vector::new(0.0, 0.0, 0.0);
-    let mut paths: u64 = 0;
-    while paths < 74 {
+    for paths in 0..74 {
         let mut number: u32 = 0;
         let path = next(yard, starts, pen, &mut marks, &mut number);
         if number != 0 {
@@ -171,9 +164,8 @@ fn tour(yard: &[f64], starts: &[usize]) -> Plot {
         }
         p = drawn(p, path);
         pen = rows::read_point(path, path.len() / 3 - 1);
-        paths += 1;
     }
-    ended(p, paths, 0)
+    ended(p, 74, 0)
 }
 
 // The drawing that a list holds, if it is as long as it must be.

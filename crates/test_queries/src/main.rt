@@ -10,24 +10,23 @@ ghost use Rattle.test_queries.specs.Questions.{differ_built, differ_hit, differ_
 use geometry::hit::Hit;
 use geometry::ray::Ray;
 use geometry::vector::Vector;
-use query_scene::{Built, NamedSight};
 use refusals::Refusal;
 use std::io;
 use tree_sight::Sight;
-use tree_walk::{Found, Nearest};
+use tree_walk::Nearest;
 
 // 1 if the two differ, else 0; so too the following.
-fn differ_built(a: Built, b: Built) -> u64
+fn differ_built(a: Result<usize, Refusal>, b: Result<usize, Refusal>) -> u64
     ensures { (result ≡ differ_built a b) × (result ≤ 1) }
 {
     match a {
-        Built::Nodes(m) => match b {
-            Built::Nodes(n) => test_words::miss(m == n),
-            Built::Refused(_) => 1,
+        Ok(m) => match b {
+            Ok(n) => test_words::miss(m == n),
+            Err(_) => 1,
         },
-        Built::Refused(j) => match b {
-            Built::Nodes(_) => 1,
-            Built::Refused(k) => test_words::miss(j.number() == k.number()),
+        Err(j) => match b {
+            Ok(_) => 1,
+            Err(k) => test_words::miss(j.number() == k.number()),
         },
     }
 }
@@ -50,40 +49,40 @@ fn differ_nearest(a: Nearest, b: Nearest) -> u64
     1
 }
 
-fn differ_found(a: Found, b: Found) -> u64
+fn differ_found(a: Result<Nearest, Refusal>, b: Result<Nearest, Refusal>) -> u64
     ensures { (result ≡ differ_found a b) × (result ≤ 1) }
 {
     match a {
-        Found::Best(g) => match b {
-            Found::Best(h) => differ_nearest(g, h),
-            Found::Refused(_) => 1,
+        Ok(g) => match b {
+            Ok(h) => differ_nearest(g, h),
+            Err(_) => 1,
         },
-        Found::Refused(j) => match b {
-            Found::Best(_) => 1,
-            Found::Refused(k) => test_words::miss(j.number() == k.number()),
+        Err(j) => match b {
+            Ok(_) => 1,
+            Err(k) => test_words::miss(j.number() == k.number()),
         },
     }
 }
 
 // 0 for no, 1 for yes, or the refusal's number.
-fn sight_code(s: Sight) -> u32
+fn sight_code(s: Result<Sight, Refusal>) -> u32
     ensures { result ≡ sight_code s }
 {
     match s {
-        Sight::Hidden => 0,
-        Sight::Visible => 1,
-        Sight::Refused(k) => k.number(),
+        Ok(Sight::Hidden) => 0,
+        Ok(Sight::Visible) => 1,
+        Err(k) => k.number(),
     }
 }
 
 // 0 where nobody hides the point, the refusal's number, or 16 and the entry.
-fn name_code(o: NamedSight) -> u64
+fn name_code(o: Result<Option<u32>, Refusal>) -> u64
     ensures { result ≡ name_code o }
 {
     match o {
-        NamedSight::Clear => 0,
-        NamedSight::Hidden(i) => (i as u64) + 16,
-        NamedSight::Refused(k) => k.number() as u64,
+        Ok(None) => 0,
+        Ok(Some(i)) => (i as u64) + 16,
+        Err(k) => k.number() as u64,
     }
 }
 
@@ -94,7 +93,7 @@ fn ask_build(
     node_boxes: &mut [f64],
     node_marks: &mut [u32],
     order: &mut [u32],
-    expected: Built,
+    expected: Result<usize, Refusal>,
 ) -> u64
     ensures value { (result ≡ differ_built (build_of (solids_only numbers.now marks.now) (places_of node_boxes.old node_marks.old) (length order.old)) expected) × (result ≤ 1) }
     ensures node_boxes_after { node_boxes.new ≡ node_boxes_left (solids_only numbers.now marks.now) (length node_boxes.old) (build_of (solids_only numbers.now marks.now) (places_of node_boxes.old node_marks.old) (length order.old)) }
@@ -118,7 +117,7 @@ fn ask_intersect(
     node_marks: &[u32],
     order: &[u32],
     r: Ray,
-    expected: Found,
+    expected: Result<Nearest, Refusal>,
 ) -> u64
     ensures { (result ≡ differ_found (intersect_of (solids_only numbers.now marks.now) node_boxes.now node_marks.now order.now r) expected) × (result ≤ 1) }
 {
@@ -140,7 +139,7 @@ fn ask_visible(
     order: &[u32],
     eye: Vector,
     point: Vector,
-    expected: Sight,
+    expected: Result<Sight, Refusal>,
 ) -> u64
     ensures { (result ≡ differ_sight (visible_of (solids_only numbers.now marks.now) node_boxes.now node_marks.now order.now eye point) expected) × (result ≤ 1) }
 {
@@ -162,7 +161,7 @@ fn ask_occluder(
     order: &[u32],
     eye: Vector,
     point: Vector,
-    expected: NamedSight,
+    expected: Result<Option<u32>, Refusal>,
 ) -> u64
     ensures { (result ≡ differ_named (occluder_of (solids_only numbers.now marks.now) node_boxes.now node_marks.now order.now eye point) expected) × (result ≤ 1) }
 {
@@ -181,10 +180,10 @@ fn without_places(
     marks: &[u32],
     r: Ray,
     point: Vector,
-    built: Built,
-    found: Found,
-    sight: Sight,
-    named: NamedSight,
+    built: Result<usize, Refusal>,
+    found: Result<Nearest, Refusal>,
+    sight: Result<Sight, Refusal>,
+    named: Result<Option<u32>, Refusal>,
 ) -> u64
     ensures { (result ≡ without_places (solids_only numbers.now marks.now) r point built found sight named) × (result ≤ 4) }
 {
@@ -233,7 +232,7 @@ fn ask_eye(
         order,
         eye,
         near,
-        Sight::Visible,
+        Ok(Sight::Visible),
     );
     let w = ask_visible(
         numbers,
@@ -243,7 +242,7 @@ fn ask_eye(
         order,
         eye,
         far,
-        Sight::Hidden,
+        Ok(Sight::Hidden),
     );
     let x = ask_occluder(
         numbers,
@@ -253,7 +252,7 @@ fn ask_eye(
         order,
         eye,
         near,
-        NamedSight::Clear,
+        Ok(None),
     );
     let y = ask_occluder(
         numbers,
@@ -263,7 +262,7 @@ fn ask_eye(
         order,
         eye,
         far,
-        NamedSight::Hidden(entry),
+        Ok(Some(entry)),
     );
     v + w + x + y
 }
@@ -290,21 +289,13 @@ fn one_solid(
         &mut node_boxes,
         &mut node_marks,
         &mut order,
-        Built::Nodes(1),
+        Ok(1),
     );
     let met = Nearest {
         hit: Hit::new(t),
-        entry: entry,
+        entry,
     };
-    let h = ask_intersect(
-        numbers,
-        marks,
-        &node_boxes,
-        &node_marks,
-        &order,
-        r,
-        Found::Best(met),
-    );
+    let h = ask_intersect(numbers, marks, &node_boxes, &node_marks, &order, r, Ok(met));
     let e = ask_eye(
         numbers,
         marks,
@@ -332,7 +323,7 @@ fn one_missed(numbers: &[f64], marks: &[u32], r: Ray, best: Nearest) -> u64
         &mut node_boxes,
         &mut node_marks,
         &mut order,
-        Built::Nodes(1),
+        Ok(1),
     );
     let h = ask_intersect(
         numbers,
@@ -341,7 +332,7 @@ fn one_missed(numbers: &[f64], marks: &[u32], r: Ray, best: Nearest) -> u64
         &node_marks,
         &order,
         r,
-        Found::Best(best),
+        Ok(best),
     );
     b + h
 }
@@ -362,7 +353,7 @@ fn one_short(numbers: &[f64], marks: &[u32]) -> u64
         &mut no_boxes,
         &mut no_marks,
         &mut order,
-        Built::Refused(Refusal::Room),
+        Err(Refusal::Room),
     );
     let b = ask_build(
         numbers,
@@ -370,7 +361,7 @@ fn one_short(numbers: &[f64], marks: &[u32]) -> u64
         &mut node_boxes,
         &mut node_marks,
         &mut no_order,
-        Built::Refused(Refusal::Room),
+        Err(Refusal::Room),
     );
     a + b
 }
@@ -403,7 +394,7 @@ fn main(rt: HostRuntime) -> io::Result<()> {
         entry: 1,
     };
     let missed = one_missed(&halved, &placing, aside, far_miss);
-    let nobody = Found::Best(Nearest {
+    let nobody = Ok(Nearest {
         hit: Hit::no_hit(),
         entry: 0xffffffff,
     });
@@ -413,40 +404,40 @@ fn main(rt: HostRuntime) -> io::Result<()> {
         &marks,
         down,
         far,
-        Built::Refused(Refusal::Room),
+        Err(Refusal::Room),
         nobody,
-        Sight::Visible,
-        NamedSight::Clear,
+        Ok(Sight::Visible),
+        Ok(None),
     );
     let nothing = without_places(
         &cube[..0],
         &marks[..0],
         down,
         far,
-        Built::Nodes(0),
+        Ok(0),
         nobody,
-        Sight::Visible,
-        NamedSight::Clear,
+        Ok(Sight::Visible),
+        Ok(None),
     );
     let lengths = without_places(
         &cube,
         &marks[..2],
         down,
         far,
-        Built::Refused(Refusal::Lengths),
-        Found::Refused(Refusal::Lengths),
-        Sight::Refused(Refusal::Lengths),
-        NamedSight::Refused(Refusal::Lengths),
+        Err(Refusal::Lengths),
+        Err(Refusal::Lengths),
+        Err(Refusal::Lengths),
+        Err(Refusal::Lengths),
     );
     let values = without_places(
         &cube,
         &unknown,
         down,
         far,
-        Built::Refused(Refusal::Values),
-        Found::Refused(Refusal::Values),
-        Sight::Refused(Refusal::Values),
-        NamedSight::Refused(Refusal::Values),
+        Err(Refusal::Values),
+        Err(Refusal::Values),
+        Err(Refusal::Values),
+        Err(Refusal::Values),
     );
     let wrong = one + missed + short + unplaced + nothing + lengths + values;
     println!(rt; "26 questions, {wrong} wrong")

@@ -11,16 +11,17 @@ use Rattle.floats.specs.Arith.{zero_f}
 use Rattle.rows.specs.Rows.{row, padded}
 use Rattle.check_scene.specs.Checks.{check_of, if_accepted}
 use Rattle.scene.specs.Scenes.{Scene}
-use Rattle.check_scene.specs.declared.Verdict.{Verdict}
 use Rattle.test_words.specs.Words.{word_at, all_same}
 use Rattle.test_scenes.specs.Records.{number_right, count_right, box_row_right, inverse_row_right, drawn_row_right, check_right}
+use Rattle.refusals.specs.declared.Refusal.{Refusal}
+use Rattle.std.specs.Prelude.{Result}
 
 -- ---- a word of the record against an answer
 pub is-so : (r : List ℕ) (j : ℕ) {a : Bool} {n m : ℕ} → a ≡ eqb (word_at r j) n → n ≡ m → a ≡ eqb (word_at r j) m
 is-so r j h e = h ∙ ap (λ (k : ℕ). eqb (word_at r j) k) e
 
 -- ---- row i of a slice, as the code reads it
-module _ {v w : Verdict} (told : v ≡ w) (r : List ℕ) {n : ℕ} (at : n ≡ word_at r 5) {a : Bool} where
+module _ {v w : Result ℕ Refusal} (told : v ≡ w) (r : List ℕ) {n : ℕ} (at : n ≡ word_at r 5) {a : Bool} where
   pub as_row : (m j : ℕ) {L M : ℕ} (l : List Float) {xs : List Float} → L ≡ M → xs ≡ padded zero_f L (if_accepted v l) → a ≡ all_same (take (n % 1024 * m + m - n % 1024 * m) (drop (n % 1024 * m) xs)) r j → a ≡ all_same (row m (word_at r 5 % 1024) (padded zero_f M (if_accepted w l))) r j
   as_row m j l e left h = let q : n % 1024 * m + m - n % 1024 * m ≡ m = omega arith in h ∙ rw (q, left, at, told, e)
 

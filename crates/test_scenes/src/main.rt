@@ -6,9 +6,10 @@ ghost use Rattle.std.specs.Prelude.{◌≡◌, ◌+◌, ◌*◌, length};
 ghost use Rattle.scene.specs.Scenes.{scene_of};
 ghost use Rattle.test_scenes.specs.Records.{check_right, own_hit_right, own_contains_right, answers_right, slices_fit, scene_right, wrong_scenes};
 
+use geometry::hit::Hit;
 use geometry::ray::Ray;
 use geometry::vector::Vector;
-use scene_shape::Struck;
+use refusals::Refusal;
 use std::io;
 
 fn wide(x: u32) -> u64
@@ -42,7 +43,7 @@ fn check_right(
         &mut boxes,
         &mut drawn,
     );
-    if !test_words::is(r, 216, wide(query_solid::answers::verdict_number(v))) {
+    if !test_words::is(r, 216, wide(refusals::answer_number(v))) {
         return false;
     }
     if !test_words::is(r, 217, query_solid::answers::drawn_count(v) as u64) {
@@ -73,8 +74,10 @@ fn own_hit_right(
 {
     let i = test_words::word(r, 5) as usize;
     let ray: Ray = test_words::ray_at(r, 6);
-    let h: Struck = query_solid::own_hit(numbers, marks, points, starts, owners, i, ray);
-    if !test_words::is(r, 240, wide(query_solid::answers::struck_number(h))) {
+    let h: Result<Hit, Refusal> = query_solid::own_hit(
+        numbers, marks, points, starts, owners, i, ray,
+    );
+    if !test_words::is(r, 240, wide(refusals::answer_number(h))) {
         return false;
     }
     if !test_words::same(query_solid::answers::distance(h), test_words::word(r, 241)) {
@@ -98,7 +101,7 @@ fn own_contains_right(
     let p: Vector = test_words::point_at(r, 12);
     let f = test_words::float_at(r, 15);
     let c = query_solid::own_contains(numbers, marks, points, starts, owners, i, p, f);
-    if !test_words::is(r, 243, wide(query_solid::answers::contained_number(c))) {
+    if !test_words::is(r, 243, wide(refusals::answer_number(c))) {
         return false;
     }
     test_words::is(r, 244, test_words::flag(query_solid::answers::inside(c)))
@@ -183,11 +186,9 @@ fn wrong(s: &[u8]) -> u64
 {
     let count = s.len() / 2048;
     let mut n: u64 = 0;
-    let mut i = 0usize;
-    while i < count {
+    for i in 0..count {
         let at = i * 2048;
         n += test_words::miss(scene_right(&s[at..at + 2048]));
-        i += 1;
     }
     n
 }

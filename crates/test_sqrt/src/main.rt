@@ -36,10 +36,8 @@ fn wrong(s: &[u8]) -> u64
 {
     let count = s.len() / 24;
     let mut n: u64 = 0;
-    let mut i = 0usize;
-    while i < count {
+    for i in 0..count {
         n += test_words::miss(root_right(s, i));
-        i += 1;
     }
     n
 }

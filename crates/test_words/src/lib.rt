@@ -27,6 +27,7 @@ pub fn read_list<R: Read>(input: &mut R, list: &mut [u8]) -> usize
     ensures { (result ≤ length list.new) × (result ≡ length (take result list.new)) }
 {
     let mut n = 0;
+    // no `for`: a read gives any number of bytes
     while n < list.len() {
         let m = read_some(input, list, n);
         if m == n {
@@ -102,12 +103,10 @@ pub fn all_same(v: &[f64], s: &[u8], k: usize) -> bool
     requires { 8 * (k + length v.now) ≤ length s.now }
     ensures { result ≡ all_same v.now s.now k }
 {
-    let mut i = 0;
-    while i < v.len() {
+    for i in 0..v.len() {
         if !same(v[i], word(s, k + i)) {
             return false;
         }
-        i += 1;
     }
     true
 }
@@ -149,10 +148,8 @@ pub fn fill_floats(xs: &mut [f64], n: usize, s: &[u8], k: usize, period: usize)
     requires { (n ≤ length xs.old) × ((0 < period) × (8 * (k + period) ≤ length s.now)) }
     ensures { take n xs.new ≡ floats_from s.now k period n }
 {
-    let mut j = 0;
-    while j < n {
+    for j in 0..n {
         xs[j] = float_at(s, k + j % period);
-        j += 1;
     }
 }
 
@@ -160,10 +157,8 @@ pub fn fill_marks(xs: &mut [u32], n: usize, s: &[u8], k: usize, period: usize)
     requires { (n ≤ length xs.old) × ((0 < period) × (8 * (k + period) ≤ length s.now)) }
     ensures { take n xs.new ≡ marks_from s.now k period n }
 {
-    let mut j = 0;
-    while j < n {
+    for j in 0..n {
         xs[j] = (word(s, k + j % period) % 0x1_0000_0000) as u32;
-        j += 1;
     }
 }
 
@@ -171,9 +166,7 @@ pub fn fill_counts(xs: &mut [usize], n: usize, s: &[u8], k: usize, period: usize
     requires { (n ≤ length xs.old) × ((0 < period) × (8 * (k + period) ≤ length s.now)) }
     ensures { take n xs.new ≡ counts_from s.now k period n }
 {
-    let mut j = 0;
-    while j < n {
+    for j in 0..n {
         xs[j] = word(s, k + j % period) as usize;
-        j += 1;
     }
 }

@@ -56,10 +56,8 @@ fn wrong(s: &[u8]) -> u64
 {
     let all = count(s);
     let mut n: u64 = 0;
-    let mut i = 0usize;
-    while i < all {
+    for i in 0..all {
         n += test_words::miss(right_at(s, i));
-        i += 1;
     }
     n
 }

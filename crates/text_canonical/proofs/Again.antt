@@ -1,7 +1,7 @@
 -- The scene that is read of the text of forms: its drawn entries are these forms, in order. Assumes empty_scene.
-use Prim.Native.Nat.{ℕ, zero, suc, ◌+◌, ◌-◌, ◌*◌, ◌/◌, ◌≤◌, ◌<◌}
-use mathlib.Core.Path.{◌≡◌, refl, sym, ap, ap₂, ◌∙◌, subst}
-use mathlib.Core.Bool.{Bool, true}
+use Prim.Native.Nat.{ℕ, ◌≤◌, ◌<◌}
+use mathlib.Core.Path.{◌≡◌, refl, sym, ap, ap₂, ◌∙◌}
+use mathlib.Core.Bool.{true}
 use mathlib.Core.List.{List, [], ◌∷◌, ◌++◌, map, append_assoc, append-nil}
 use native.Mathlib.Omega.{arith}
 use Rattle.check_parts.specs.Parts.{parts_ok}
@@ -11,10 +11,10 @@ use Rattle.lists.specs.Lists.{Each}
 use Rattle.text_forms.specs.Forms.{last}
 use Rattle.text_scene.specs.Texts.{empty_scene}
 use Rattle.text_canonical.specs.Forms.{Form, form_at, forms_of}
-use Rattle.text_canonical.specs.Writable.{Writable, form_entries}
+use Rattle.text_canonical.specs.Writable.{Writable}
 use Rattle.text_canonical.proofs.Added.{added, added_all, deep_of}
-use Rattle.text_canonical.proofs.Readback.{Sane, Extends, extends-refl, extends-trans, Back, back, form-kept, some-entries}
-use Rattle.text_canonical.proofs.Naming.{Group, grouped, drawn-more, ok-back, low_of}
+use Rattle.text_canonical.proofs.Readback.{Sane, Extends, extends-refl, extends-trans, back, form-kept, some-entries}
+use Rattle.text_canonical.proofs.Naming.{grouped, drawn-more, ok-back, low_of}
 
 -- nested at most 8 deep
 abbrev pub AllLow : List Form → Type 0

@@ -1,17 +1,15 @@
 -- Of the entries that a form adds the last one is named by nobody, the others by one of them; parts are well named, and as deep as the form. Assumes nothing.
-use Prim.Native.Nat.{ℕ, zero, suc, ◌+◌, ◌-◌, ◌*◌, ◌/◌, ◌≤◌, ◌<◌}
+use Prim.Native.Nat.{ℕ, zero, suc, ◌+◌, ◌-◌, ◌≤◌, ◌<◌}
 use mathlib.Core.Path.{◌≡◌, refl, sym, ap, ap₂, ◌∙◌, subst, fun_ext}
 use mathlib.Core.Logic.{◌⊎◌, inl, inr}
 use mathlib.Core.Bool.{Bool, true, false, cond, not, ◌&&◌, ◌||◌, and-eq-true_iff}
 use mathlib.Core.List.{List, [], ◌∷◌, ◌++◌, append-nil}
 use native.Mathlib.Nat.{add-suc, add-zero}
 use native.Mathlib.Omega.{arith}
-use borrow.Author.Tests.{lt-ltb, le-ltb, eq-eqb, ne_eqb, ltb-true}
-use lib.Dec.{ltb, leb, eqb}
+use borrow.Author.Tests.{lt-ltb, eq-eqb, ne_eqb, ltb-true}
+use lib.Dec.{ltb, eqb}
 use lib.ListN.{length, get_or, length-append}
-use lib.Ieee.{Float}
 use Rattle.floats.proofs.Order.{le-or-lt}
-use Rattle.geometry.specs.declared.vector.Vector.{Vector}
 use Rattle.rows.specs.declared.Marks.{Marks}
 use Rattle.scene.specs.Entries.{marks_at}
 use Rattle.check_parts.specs.Parts.{kind_at, first_at, second_at, names, named_before, larger, deepest, depths_to, free_for, parts_free, entry_ok, parts_ok}
@@ -21,10 +19,10 @@ use Rattle.scene.specs.Scenes.{Scene, entries_of}
 use Rattle.text_heads.specs.declared.Head.{Head}
 use Rattle.text_forms.specs.Forms.{last, entered}
 use Rattle.text_canonical.specs.Forms.{Form, round_form, cube_form, triangle_form, placed_form, cut_form, no_form}
-use Rattle.text_canonical.specs.Writable.{Writable, form_entries}
+use Rattle.text_canonical.specs.Writable.{Writable}
 use Rattle.text_canonical.proofs.Added.{head_of, with_lines, added, deep_of}
 use Rattle.text_canonical.proofs.Rereading.{round-not}
-use Rattle.text_canonical.proofs.Readback.{Sane, Extends, Lines, Back, back, last-is, some-entries, larger-left, entered-extends, new-marks, entered-count, L, round-count, round-extends}
+use Rattle.text_canonical.proofs.Readback.{Sane, Extends, back, last-is, some-entries, larger-left, entered-extends, new-marks, entered-count, L, round-count, round-extends}
 
 -- an entry that is well named names only what is before it
 named-before-it : (k f g i : ℕ) (nb : ℕ → Bool) → parts_free k f g i nb ≡ true → (p : ℕ) → i ≤ p → names k f g p ≡ false

@@ -7,19 +7,16 @@ use mathlib.Core.List.{List, [], ◌∷◌, ◌++◌}
 use native.Mathlib.Nat.{pow-suc}
 use native.Mathlib.Numerals.{add-one}
 use native.Mathlib.Omega.{arith}
-use borrow.Author.Tests.{lt-ltb, le-ltb, le-leb, eq-eqb}
-use lib.Dec.{T, ltb, leb, eqb}
+use borrow.Author.Tests.{lt-ltb, le-ltb, le-leb}
+use lib.Dec.{T, ltb}
 use lib.ListN.{length, length-append}
-use lib.Ieee.{Float, binary64, fits, of_bits, to_bits}
+use lib.Ieee.{Float, binary64, fits, to_bits}
 use lib.Ieee.Bits.{of_bits-to_bits, to_bits-lt}
-use Rattle.floats.specs.Arith.{bits}
 use Rattle.floats.proofs.Order.{le-or-lt}
 use Rattle.text_numbers.specs.Numerals.{digit_of, all_digits, value, decimal_from, decimal_of, hex_from, hex_of, patterned, numeral_of}
-use Rattle.text_numbers.specs.declared.Whole.TheVariants.{Value}
-use Rattle.text_numbers.specs.declared.Pattern.TheVariants.{Bits}
-use Rattle.text_numbers.specs.declared.Numeral.TheVariants.{Float as float}
-use Rattle.text_tokens.specs.Tokens.{Token, word, Got, got, and_then, word_in, real_of, number_in, whole_of, count_in}
+use Rattle.text_tokens.specs.Tokens.{Token, word, got, and_then, word_in, real_of, number_in, whole_of, count_in}
 use Rattle.text_drawing.specs.Numbers.{digit_byte, hex_word, decimal_word, decimal_text}
+use Rattle.std.specs.Prelude.{Some}
 
 -- # and sixteen digits: a number's word
 abbrev pub hex_number : Float → List ℕ
@@ -75,7 +72,7 @@ hex-length zero v = refl
 hex-length (suc k) v = length-append (hex_word k (v / 16)) (digit_byte (v % 16) ∷ []) ∙ ap (λ (n : ℕ). n + 1) (hex-length k (v / 16)) ∙ add-one k
 
 -- a float as # and sixteen digits is read as that float
-pub hex-read : (x : Float) → T (fits binary64 x) → numeral_of (hex_number x) ≡ float x
+pub hex-read : (x : Float) → T (fits binary64 x) → numeral_of (hex_number x) ≡ Some x
 unfolding numeral_of hex_of hex_from patterned
 hex-read x h = rw (hex-length 16 (to_bits binary64 x), hex-digits 16 (to_bits binary64 x), hex-value 16 (to_bits binary64 x) (to_bits-lt binary64 x h), of_bits-to_bits binary64 x h)
 
@@ -104,7 +101,7 @@ decimal-value (suc k) n h =
     by e (inl l) = rw (le-ltb n 10 l) (value-append 10 0 (decimal_word k (n / 10)) (digit_byte (n % 10) ∷ []) ∙ rw (e, digit-of (n % 10) (omega arith)) (omega arith))
     by e (inr l) = rw (lt-ltb n 10 l, digit-of n (omega arith)) (omega arith)
 
-decimal-some : (w : List ℕ) → decimal_from 0 w ≡ Value (value 10 0 w) → (length w ≡ 0 → ⊥) → decimal_of w ≡ Value (value 10 0 w)
+decimal-some : (w : List ℕ) → decimal_from 0 w ≡ Some (value 10 0 w) → (length w ≡ 0 → ⊥) → decimal_of w ≡ Some (value 10 0 w)
 unfolding decimal_of
 decimal-some [] e h = absurd (h refl)
 decimal-some (c ∷ w) e h = e
@@ -117,11 +114,11 @@ some-digit k n e = by (ltb n 10) e
     by true e = omega (arith, e)
     by false e = omega (arith, e, length-append (decimal_word k (n / 10)) (digit_byte (n % 10) ∷ []))
 
-pub decimal-read : (n : ℕ) → n ≤ 1000000 → decimal_of (decimal_text n) ≡ Value n
+pub decimal-read : (n : ℕ) → n ≤ 1000000 → decimal_of (decimal_text n) ≡ Some n
 unfolding decimal_text decimal_from
 decimal-read n h =
     let e : value 10 0 (decimal_word 20 n) ≡ n = decimal-value 20 n (omega (arith, h)) in
-    decimal-some (decimal_word 20 n) (rw (decimal-digits 20 n, e, le-leb n 1000000 h)) (some-digit 19 n) ∙ ap Value e
+    decimal-some (decimal_word 20 n) (rw (decimal-digits 20 n, e, le-leb n 1000000 h)) (some-digit 19 n) ∙ ap Some e
 
 pub count-read : (n : ℕ) (ts : List Token) → n ≤ 1000000 → count_in (word (decimal_text n) ∷ ts) ≡ got n ts
 unfolding count_in word_in and_then whole_of

@@ -1,19 +1,16 @@
 -- Owners and path starts of a scene that forms were added to are as number 4 has them. Assumes nothing.
-use Prim.Native.Nat.{ℕ, zero, suc, ◌+◌, ◌-◌, ◌*◌, ◌/◌, ◌≤◌, ◌<◌}
+use Prim.Native.Nat.{ℕ, suc, ◌+◌, ◌/◌, ◌≤◌, ◌<◌}
 use mathlib.Core.Path.{◌≡◌, refl, sym, ap, ap₂, ◌∙◌, subst}
-use mathlib.Core.Bool.{Bool, true, false, cond, ◌&&◌, and-eq-true_iff}
+use mathlib.Core.Bool.{Bool, true, ◌&&◌, and-eq-true_iff}
 use mathlib.Core.List.{List, [], ◌∷◌, ◌++◌}
 use native.Mathlib.Omega.{arith}
 use borrow.Author.Tests.{lt-ltb, le-leb, eq-eqb}
-use lib.Dec.{ltb, leb, eqb}
+use lib.Dec.{leb, eqb}
 use lib.ListN.{length, get_or, length-append}
-use lib.Ieee.{Float}
 use Rattle.geometry.specs.declared.vector.Vector.{Vector}
 use Rattle.rows.specs.Starts.{next_start, rising, good_starts}
 use Rattle.rows.specs.declared.Marks.{Marks}
-use Rattle.scene.specs.Entries.{marks_at}
-use Rattle.scene.specs.Scenes.{Scene, entries, entries_of}
-use Rattle.check_parts.specs.Parts.{kind_at}
+use Rattle.scene.specs.Scenes.{Scene, entries_of}
 use Rattle.check_parts.specs.Owners.{is_round, round_entry, owners_ok}
 use Rattle.lists.specs.Lists.{Each}
 use Rattle.text_heads.specs.Lines.{point_count}
@@ -23,7 +20,7 @@ use Rattle.text_scene.specs.Texts.{empty_scene}
 use Rattle.text_canonical.specs.Forms.{Form, round_form, cube_form, triangle_form, placed_form, cut_form, no_form}
 use Rattle.text_canonical.specs.Writable.{Writable}
 use Rattle.text_canonical.proofs.Added.{head_of, with_lines, added, added_all, deep_of}
-use Rattle.text_canonical.proofs.Readback.{Sane, Under, Extends, back, next_more, lined, line-marks, line-starts, line-owners, line-count, line-sane, entered-extends, new-marks, SE, EE, CE}
+use Rattle.text_canonical.proofs.Readback.{Sane, Under, Extends, back, next_more, lined, line-marks, line-starts, line-owners, line-count, line-sane, entered-extends, new-marks, SE, CE}
 
 pub record Lawful (s : Scene) : Type 0 where
   pub owners : owners_ok s.marks s.owners ≡ true

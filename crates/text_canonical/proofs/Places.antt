@@ -1,5 +1,5 @@
 -- A form's tokens are read as that form, or there is no place for it. Assumes nothing.
-use Prim.Native.Nat.{ℕ, zero, suc, ◌+◌, ◌-◌, ◌≤◌, ◌<◌}
+use Prim.Native.Nat.{ℕ, zero, suc, ◌-◌}
 use mathlib.Core.Path.{◌≡◌, refl, sym, ap, ◌∙◌}
 use mathlib.Core.Logic.{◌⊎◌, inl, inr}
 use mathlib.Core.Bool.{Bool, true, false, cond}
@@ -7,13 +7,12 @@ use mathlib.Core.List.{List, [], ◌∷◌}
 use native.Mathlib.Omega.{arith}
 use lib.Dec.{ltb, leb}
 use lib.ListN.{length}
-use lib.Ieee.{Float}
 use Rattle.geometry.specs.declared.vector.Vector.{Vector}
 use Rattle.view.specs.declared.View.{View}
 use Rattle.scene.specs.Scenes.{Scene, entries_of}
 use Rattle.check_parts.specs.Owners.{is_round}
 use Rattle.lists.specs.Lists.{Each}
-use Rattle.text_tokens.specs.Tokens.{Token, opens, closes, word, Got, no, got, and_then, open_in, close_in, word_in}
+use Rattle.text_tokens.specs.Tokens.{Token, closes, Got, no, got, and_then, open_in, close_in, word_in}
 use Rattle.text_heads.specs.Heads.{same_word, head_in, named_in}
 use Rattle.text_heads.specs.Lines.{or_else, dotted, points_in, point_count, begun, lines_in}
 use Rattle.text_heads.specs.declared.Head.{Head}

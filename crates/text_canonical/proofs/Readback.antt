@@ -4,19 +4,17 @@ use mathlib.Core.Path.{◌≡◌, refl, sym, ap, ap₂, ◌∙◌, subst}
 use mathlib.Core.Logic.{◌⊎◌, inl, inr}
 use mathlib.Core.Bool.{Bool, true, false, cond}
 use mathlib.Core.List.{List, [], ◌∷◌, ◌++◌, append_assoc, append-nil}
-use native.Mathlib.Nat.{suc-mul}
-use native.Mathlib.Numerals.{add-one}
 use native.Mathlib.Omega.{arith}
-use borrow.Author.Tests.{lt-ltb, le-ltb, le-leb, lt-leb, eq-eqb, ne_eqb}
-use lib.Dec.{T, ltb, leb, eqb}
-use lib.ListN.{length, take, drop, get_or, length-append, length-drop, length-replicate, replicate}
+use borrow.Author.Tests.{lt-ltb, le-ltb, eq-eqb, ne_eqb}
+use lib.Dec.{ltb, eqb}
+use lib.ListN.{length, take, drop, length-append, length-drop, length-replicate, replicate}
 use lib.Seq.{slice, take_all, take-append-le, drop-append-le, take-append_seam, drop-append_seam}
 use lib.Ieee.{Float}
 use Rattle.floats.specs.Arith.{zero_f}
 use Rattle.floats.proofs.Order.{le-or-lt}
 use Rattle.geometry.specs.declared.vector.Vector.{Vector}
-use Rattle.rows.specs.Rows.{row, view, padded}
-use Rattle.rows.specs.Points.{points, point_of, point_row}
+use Rattle.rows.specs.Rows.{row, padded}
+use Rattle.rows.specs.Points.{point_of, point_row}
 use Rattle.rows.specs.Entries.{numbers_of, numbers_row, marks_of}
 use Rattle.rows.specs.Starts.{next_start}
 use Rattle.rows.specs.declared.Marks.{Marks}

@@ -1,28 +1,26 @@
 -- A form's tokens are read as that form: the scene is what the form adds to it. Assumes nothing.
-use Prim.Native.Nat.{ℕ, zero, suc, ◌+◌, ◌-◌, ◌*◌, ◌/◌, ◌≤◌, ◌<◌}
-use mathlib.Core.Path.{◌≡◌, refl, sym, ap, ◌∙◌, subst}
+use Prim.Native.Nat.{ℕ, zero, suc, ◌+◌, ◌-◌, ◌/◌, ◌≤◌, ◌<◌}
+use mathlib.Core.Path.{◌≡◌, refl, sym, ap, ◌∙◌}
 use mathlib.Core.Logic.{◌⊎◌, inl, inr}
 use mathlib.Core.Bool.{Bool, true, false, cond, ◌&&◌, ◌||◌, and-eq-true_iff}
 use mathlib.Core.List.{List, [], ◌∷◌, ◌++◌, append_assoc, append-nil}
 use native.Mathlib.Omega.{arith}
-use borrow.Author.Tests.{lt-ltb, le-ltb, le-leb, lt-leb, eq-eqb, ne_eqb, eqb-true, leb-true}
-use lib.Dec.{T, ltb, leb, eqb}
+use borrow.Author.Tests.{lt-ltb, eq-eqb, ne_eqb, eqb-true, leb-true}
+use lib.Dec.{T, leb, eqb}
 use lib.ListN.{length, length-append}
 use lib.Ieee.{Float, binary64, fits}
-use Rattle.floats.specs.Arith.{zero_f}
-use Rattle.geometry.specs.Vectors.{vec}
 use Rattle.geometry.specs.declared.vector.Vector.{Vector}
 use Rattle.rows.specs.Points.{point_row}
 use Rattle.scene.specs.Entries.{striped}
 use Rattle.scene.specs.Scenes.{Scene, entries_of}
 use Rattle.check_parts.specs.Owners.{is_round}
-use Rattle.text_tokens.specs.Tokens.{Token, opens, closes, word, Got, no, got, mark, and_then, open_in, close_in, word_in, number_in, count_in, count_or}
-use Rattle.text_heads.specs.Heads.{same_word, closed_kind, kind_of, head_in, named_in, kind_in, numbers_in, closed_measures, measures, detail_in, stripes_in, opening_in, point_in, line_word}
+use Rattle.text_tokens.specs.Tokens.{Token, opens, closes, word, got, and_then, open_in, close_in, word_in, count_in, count_or}
+use Rattle.text_heads.specs.Heads.{same_word, closed_kind, kind_of, head_in, named_in, kind_in, numbers_in, closed_measures, measures, detail_in, stripes_in, opening_in, point_in}
 use Rattle.text_heads.specs.Lines.{or_else, dotted, points_in, point_count, begun, lines_in}
 use Rattle.text_heads.specs.declared.Head.{Head}
 use Rattle.text_forms.specs.Forms.{last, entered, enter, enclosed, round_in, body, form}
 use Rattle.text_drawing.specs.Numbers.{decimal_text}
-use Rattle.text_drawing.specs.Determined.{Double, Doubles, AllDoubles}
+use Rattle.text_drawing.specs.Determined.{Doubles, AllDoubles}
 use Rattle.text_canonical.specs.Forms.{Form, round_form, cube_form, triangle_form, placed_form, cut_form, no_form}
 use Rattle.text_canonical.specs.Canonical.{round_word}
 use Rattle.text_canonical.specs.Writable.{F64s, Writable, form_entries, points_among, form_points, form_lines}

@@ -1,33 +1,31 @@
 -- What `yard` reads of the text of a view and forms. Assumes nothing.
-use Prim.Native.Nat.{ℕ, zero, suc, ◌+◌, ◌*◌, ◌/◌, ◌≤◌, ◌<◌}
+use Prim.Native.Nat.{ℕ, ◌+◌, ◌≤◌}
 use mathlib.Core.Path.{◌≡◌, refl, sym, ap, ap₂, ◌∙◌, subst}
 use mathlib.Core.Bool.{Bool, true, false, cond, ◌||◌}
 use mathlib.Core.List.{List, [], ◌∷◌, ◌++◌, append_assoc, append-nil}
 use native.Mathlib.Omega.{arith}
 use borrow.Author.Tests.{le-leb, ne_eqb}
-use lib.Dec.{T, eqb, leb}
-use lib.ListN.{length, drop}
-use lib.Ieee.{Float, binary64, fits}
+use lib.Dec.{eqb}
+use lib.ListN.{length}
+use lib.Ieee.{Float}
 use Rattle.geometry.specs.declared.vector.Vector.{Vector}
 use Rattle.rows.specs.Rows.{flat}
-use Rattle.rows.specs.Entries.{numbers_row}
 use Rattle.scene.specs.Entries.{matrix_of, matrix_numbers}
 use Rattle.view.specs.declared.View.{View}
-use Rattle.scene.specs.Scenes.{Scene, scene_of, entries_of}
-use Rattle.text_tokens.specs.Tokens.{Token, opens, closes, word, Got, no, got, mark, and_then, open_in, close_in, word_in, tokens_from, left, flush, word_byte}
+use Rattle.scene.specs.Scenes.{Scene, entries_of}
+use Rattle.text_tokens.specs.Tokens.{Token, opens, closes, word, got, and_then, open_in, close_in, word_in, tokens_from, left, flush, word_byte}
 use Rattle.text_heads.specs.Heads.{same_word, head_in, named_in, numbers_in, view_word, view_of, view_in, line_word}
 use Rattle.text_heads.specs.Lines.{point_count}
-use Rattle.text_forms.specs.Forms.{form}
 use Rattle.text_drawing.specs.Numbers.{decimal_text}
-use Rattle.text_scene.specs.Texts.{lines_from, unless_empty, filled, lines_left, whole_line, forms_in, Yard, empty_scene, yard_in, yard_of}
+use Rattle.text_scene.specs.Texts.{lines_from, unless_empty, filled, lines_left, whole_line, forms_in, empty_scene, yard_in, yard_of}
 use Rattle.lists.specs.Lists.{Each}
 use Rattle.text_canonical.specs.Forms.{Form, round_form, cube_form, triangle_form, placed_form, cut_form, no_form}
-use Rattle.text_canonical.specs.Canonical.{numbers_text, form_text, view_numbers, view_text, form_line, forms_text}
+use Rattle.text_canonical.specs.Canonical.{form_text, view_numbers, view_text, form_line, forms_text}
 use Rattle.text_canonical.specs.Writable.{F64s, Writable, form_entries, form_points, form_lines, sum_of, FitsYard}
 use Rattle.text_canonical.proofs.Numerals.{hex_number}
 use Rattle.text_canonical.proofs.Added.{head_word, number_tokens, head_tokens, tokens_of, added, added_all}
-use Rattle.text_canonical.proofs.Rereading.{numbers-read, form-read, Grows, grows}
-use Rattle.text_canonical.proofs.Lexing.{numbers_before, points_before, lines_before, detail_before, stripes_before, head_before, text_before, Wordy, Stops, word-token, open-token, close-lexed, numbers-lexed, form-lexed, hex-number-wordy, decimal-text, head-wordy, line-wordy, wordy_of, wordy_test, numbers-before, form-before}
+use Rattle.text_canonical.proofs.Rereading.{numbers-read, form-read, grows}
+use Rattle.text_canonical.proofs.Lexing.{numbers_before, points_before, lines_before, detail_before, stripes_before, head_before, text_before, Wordy, word-token, open-token, close-lexed, numbers-lexed, form-lexed, hex-number-wordy, decimal-text, head-wordy, line-wordy, wordy_of, wordy_test, numbers-before, form-before}
 
 -- ---- the view
 view-count : (v : View) → length (view_numbers v) ≡ 22

@@ -18,38 +18,34 @@ use Rattle.rows.proofs.Rows.{padded-take}
 use Rattle.refusals.specs.Refusals.{number_of}
 use Rattle.refusals.specs.declared.Refusal.{Refusal}
 use Rattle.refusals.specs.declared.Refusal.TheVariants.{Room}
-use Rattle.paths.specs.Answers.{answered, refused}
 use Rattle.paths.specs.Paths.{push_all, paths_of}
 use Rattle.paths.specs.Ends.{places, all_points}
 use Rattle.paths.specs.Ranges.{lesser_of}
-use Rattle.paths.specs.declared.Count.{Count}
-use Rattle.paths.specs.declared.Count.TheVariants.{At, Refused}
-use Rattle.paths.specs.declared.Counts.{Counts}
-use Rattle.paths.specs.declared.Counts.TheVariants.{Both, Refused as NotBoth}
 use Rattle.paths.proofs.Parts.{part-all, lesser-low, length-points}
 use Rattle.paths.proofs.Runs.{extend_fits, extend-full}
 use Rattle.text_drawing.specs.Drawings.{drawing_text, refused_text, text_of, fitting, written, laid}
 use Rattle.text_drawing.specs.Writing.{sofar, adds, CountWithin, Writes}
 use Rattle.text_drawing.proofs.Adding.{writes_as}
+use Rattle.std.specs.Prelude.{Err, Ok, Result}
 
 -- ---- from nothing
-pub within_none : (room : ℕ) → CountWithin (At 0) room
+pub within_none : (room : ℕ) → CountWithin (Ok 0) room
 within_none room n e = let z : ◌≡◌ {A = ℕ} 0 n = cc in omega arith
 
 fits-or-not : (room : ℕ) (t : List ℕ) → push_all room [] t ≡ fitting room t
 unfolding fitting
 fits-or-not room t = by (le-or-lt (length t) room)
   where
-    by : (length t ≤ room) ⊎ (room < length t) → push_all room [] t ≡ cond (leb (length t) room) (answered t) (refused Room)
+    by : (length t ≤ room) ⊎ (room < length t) → push_all room [] t ≡ cond (leb (length t) room) (Ok t) (Err Room)
     by (inl h) = extend_fits room [] t (omega arith) ∙ rw (le-leb (length t) room h)
     by (inr h) = extend-full room [] t (omega arith) (omega arith) ∙ rw (lt-leb (length t) room h)
 
-module _ {t xs ys : List ℕ} {d : Count} (w : Writes t xs (At 0) ys d) where
+module _ {t xs ys : List ℕ} {d : Result ℕ Refusal} (w : Writes t xs (Ok 0) ys d) where
   pub all-written : sofar d ys ≡ fitting (length xs) t
   unfolding adds
   all-written = w.is ∙ fits-or-not (length xs) t
 
-  module _ {r : Count} {zs : List ℕ} (l : length ys ≡ length xs) (a : r ≡ written (sofar d ys)) (b : zs ≡ laid (sofar d ys) (length ys)) where
+  module _ {r : Result ℕ Refusal} {zs : List ℕ} (l : length ys ≡ length xs) (a : r ≡ written (sofar d ys)) (b : zs ≡ laid (sofar d ys) (length ys)) where
     pub all-answered : r ≡ written (fitting (length xs) t)
     all-answered = a ∙ ap written all-written
 
@@ -57,24 +53,24 @@ module _ {t xs ys : List ℕ} {d : Count} (w : Writes t xs (At 0) ys d) where
     all_laid = b ∙ ap₂ laid all-written l
 
 -- ---- to the end
-module _ (xs : List ℕ) (c : Count) where
-  module _ {k : Refusal} (e : c ≡ Refused k) where
-    pub refused-answered : Refused k ≡ written (sofar c xs)
+module _ (xs : List ℕ) (c : Result ℕ Refusal) where
+  module _ {k : Refusal} (e : c ≡ Err k) where
+    pub refused-answered : Err k ≡ written (sofar c xs)
     unfolding written
-    refused-answered = sym (ap (λ (d : Count). written (sofar d xs)) e)
+    refused-answered = sym (ap (λ (d : Result ℕ Refusal). written (sofar d xs)) e)
 
     pub refused-laid : take 0 xs ++ replicate (length xs - 0) 0 ≡ laid (sofar c xs) (length xs)
     unfolding laid
-    refused-laid = let z : length xs - 0 ≡ length xs = omega arith in ap (λ (n : ℕ). replicate n 0) z ∙ sym (ap (λ (d : Count). laid (sofar d xs) (length xs)) e)
+    refused-laid = let z : length xs - 0 ≡ length xs = omega arith in ap (λ (n : ℕ). replicate n 0) z ∙ sym (ap (λ (d : Result ℕ Refusal). laid (sofar d xs) (length xs)) e)
 
-  module _ {n : ℕ} (e : c ≡ At n) (h : n ≤ length xs) where
-    pub at-answered : At n ≡ written (sofar c xs)
+  module _ {n : ℕ} (e : c ≡ Ok n) (h : n ≤ length xs) where
+    pub at-answered : Ok n ≡ written (sofar c xs)
     unfolding written
-    at-answered = sym (ap (λ (d : Count). written (sofar d xs)) e ∙ ap At (length-take-le n xs h))
+    at-answered = sym (ap (λ (d : Result ℕ Refusal). written (sofar d xs)) e ∙ ap Ok (length-take-le n xs h))
 
     pub at-laid : take n xs ++ replicate (length xs - n) 0 ≡ laid (sofar c xs) (length xs)
     unfolding laid
-    at-laid = padded-take 0 xs n h ∙ sym (ap (λ (d : Count). laid (sofar d xs) (length xs)) e)
+    at-laid = padded-take 0 xs n h ∙ sym (ap (λ (d : Result ℕ Refusal). laid (sofar d xs) (length xs)) e)
 
 -- ---- counts that are drawn in
 module _ {A : Type 0} where
@@ -104,10 +100,10 @@ module _ (xs : List Float) (ss : List ℕ) (n m a b : ℕ) (p : a ≡ lesser_of 
   some-starts : take b ss ≡ take m ss
   some-starts = ap (λ (i : ℕ). take i ss) q ∙ take-lesser m ss
 
-  pub drawn-text : {c : Counts} {ts us : List ℕ} {d : Count} → c ≡ Both n m → Writes (drawing_text (paths_of (all_points (take (a * 3) xs)) (take b ss))) ts (At 0) us d → Writes (text_of c xs ss) ts (At 0) us d
+  pub drawn-text : {c : Result (ℕ × ℕ) Refusal} {ts us : List ℕ} {d : Result ℕ Refusal} → c ≡ Ok (n, m) → Writes (drawing_text (paths_of (all_points (take (a * 3) xs)) (take b ss))) ts (Ok 0) us d → Writes (text_of c xs ss) ts (Ok 0) us d
   unfolding text_of
-  drawn-text {c} e w = writes_as (ap₂ (λ (vs : List Vector) (rs : List ℕ). drawing_text (paths_of vs rs)) some-points some-starts ∙ sym (ap (λ (k : Counts). text_of k xs ss) e)) w
+  drawn-text {c} e w = writes_as (ap₂ (λ (vs : List Vector) (rs : List ℕ). drawing_text (paths_of vs rs)) some-points some-starts ∙ sym (ap (λ (k : Result (ℕ × ℕ) Refusal). text_of k xs ss) e)) w
 
-pub refused-text : (xs : List Float) (ss : List ℕ) {c : Counts} {k : Refusal} {n : ℕ} {ts us : List ℕ} {d : Count} → c ≡ NotBoth k → n ≡ number_of k → Writes (refused_text n) ts (At 0) us d → Writes (text_of c xs ss) ts (At 0) us d
+pub refused-text : (xs : List Float) (ss : List ℕ) {c : Result (ℕ × ℕ) Refusal} {k : Refusal} {n : ℕ} {ts us : List ℕ} {d : Result ℕ Refusal} → c ≡ Err k → n ≡ number_of k → Writes (refused_text n) ts (Ok 0) us d → Writes (text_of c xs ss) ts (Ok 0) us d
 unfolding text_of
-refused-text xs ss e q w = writes_as (ap refused_text q ∙ sym (ap (λ (k : Counts). text_of k xs ss) e)) w
+refused-text xs ss e q w = writes_as (ap refused_text q ∙ sym (ap (λ (k : Result (ℕ × ℕ) Refusal). text_of k xs ss) e)) w

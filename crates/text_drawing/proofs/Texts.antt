@@ -1,5 +1,5 @@
 -- A number, a point, a path and a drawing, written part by part. Assumes nothing.
-use Prim.Native.Nat.{ℕ, suc, ◌+◌, ◌-◌, ◌*◌, ◌≤◌, ◌<◌}
+use Prim.Native.Nat.{ℕ, suc, ◌+◌, ◌*◌, ◌≤◌, ◌<◌}
 use mathlib.Core.Path.{◌≡◌, refl, sym, ap, ◌∙◌}
 use mathlib.Core.List.{List, [], ◌∷◌, ◌++◌}
 use native.Mathlib.Numerals.{add-one}
@@ -15,14 +15,15 @@ use Rattle.paths.specs.Paths.{paths_of}
 use Rattle.paths.specs.Ends.{places, all_points}
 use Rattle.paths.specs.Ranges.{range_of}
 use Rattle.paths.specs.declared.Range.{Range}
-use Rattle.paths.specs.declared.Count.{Count}
 use Rattle.paths.proofs.Parts.{part-cons, span-slice}
 use Rattle.text_drawing.specs.Numbers.{bits_of, hex_word, decimal_word, decimal_text}
 use Rattle.text_drawing.specs.Drawings.{drawing_word, refused_word, path_word, end_word, number_text, point_text, path_text, drawing_text, refused_text}
 use Rattle.text_drawing.specs.Writing.{CountWithin, Writes}
 use Rattle.text_drawing.proofs.Adding.{Writing, writing_start, writing-turn, writing-end, writing-as, writes-last, writes_as}
+use Rattle.refusals.specs.declared.Refusal.{Refusal}
+use Rattle.std.specs.Prelude.{Result}
 
-module _ {xs ys zs us : List ℕ} {c d e f : Count} (h : CountWithin c (length xs)) where
+module _ {xs ys zs us : List ℕ} {c d e f : Result ℕ Refusal} (h : CountWithin c (length xs)) where
   pub number_put : (b n : ℕ) (x : Float) → Writes (b ∷ []) xs c ys d → length ys ≡ length xs → Writes (35 ∷ []) ys d zs e → length zs ≡ length ys
       → n ≡ bits_of x → Writes (hex_word 16 n) zs e us f → length us ≡ length zs → Writes (b ∷ number_text x) xs c us f
   unfolding number_text
@@ -43,7 +44,7 @@ module _ {xs ys zs us : List ℕ} {c d e f : Count} (h : CountWithin c (length x
       writes-last end_word (writing-turn (flat point_text v) end_word (writing-turn path_word (flat point_text v ++ end_word) (writing_start h) p l) q m) r g
 
 -- ---- a point
-module _ {xs₀ xs₁ xs₂ xs₃ xs₄ xs₅ : List ℕ} {c₀ c₁ c₂ c₃ c₄ c₅ : Count} (h : CountWithin c₀ (length xs₀)) (v : Vector)
+module _ {xs₀ xs₁ xs₂ xs₃ xs₄ xs₅ : List ℕ} {c₀ c₁ c₂ c₃ c₄ c₅ : Result ℕ Refusal} (h : CountWithin c₀ (length xs₀)) (v : Vector)
     (p₁ : Writes (32 ∷ []) xs₀ c₀ xs₁ c₁) (l₁ : length xs₁ ≡ length xs₀) (p₂ : Writes (40 ∷ number_text v.x) xs₁ c₁ xs₂ c₂) (l₂ : length xs₂ ≡ length xs₁)
     (p₃ : Writes (32 ∷ number_text v.y) xs₂ c₂ xs₃ c₃) (l₃ : length xs₃ ≡ length xs₂) (p₄ : Writes (32 ∷ number_text v.z) xs₃ c₃ xs₄ c₄) (l₄ : length xs₄ ≡ length xs₃)
     (p₅ : Writes (41 ∷ []) xs₄ c₄ xs₅ c₅) (l₅ : length xs₅ ≡ length xs₄) where
@@ -57,8 +58,8 @@ module _ {xs₀ xs₁ xs₂ xs₃ xs₄ xs₅ : List ℕ} {c₀ c₁ c₂ c₃ c
       (writing-turn (32 ∷ []) ((40 ∷ number_text v.x) ++ x) (writing_start h) p₁ l₁) p₂ l₂) p₃ l₃) p₄ l₄) p₅ l₅
 
 -- ---- the loop over the points of a path
-module _ {w xs : List ℕ} {c : Count} {ys : List ℕ} {d : Count} (path : List Float) (i end : ℕ) where
-  pub points-turn : {p : Vector} {zs : List ℕ} {e : Count} → end * 3 ≤ length path → i < end → p ≡ point_of (row 3 i path) → Writing w xs c ys d (flat point_text (slice i end (all_points path)))
+module _ {w xs : List ℕ} {c : Result ℕ Refusal} {ys : List ℕ} {d : Result ℕ Refusal} (path : List Float) (i end : ℕ) where
+  pub points-turn : {p : Vector} {zs : List ℕ} {e : Result ℕ Refusal} → end * 3 ≤ length path → i < end → p ≡ point_of (row 3 i path) → Writing w xs c ys d (flat point_text (slice i end (all_points path)))
       → Writes (point_text p) ys d zs e → length zs ≡ length ys → Writing w xs c zs e (flat point_text (slice (i + 1) end (all_points path)))
   unfolding flat
   points-turn {p} fit l q h k g = writing-turn (point_text p) (flat point_text (slice (i + 1) end (all_points path))) (writing-as (ap (flat point_text) (part-cons path i end fit p l q)) h) k g
@@ -74,8 +75,8 @@ paths-cons : (vs : List Vector) (ss : List ℕ) (i : ℕ) → i < length ss → 
 unfolding paths_of
 paths-cons vs ss i l = rw (drop-cons ss i 0 l, add-one i)
 
-module _ {w xs : List ℕ} {c : Count} {ys : List ℕ} {d : Count} (path : List Float) (starts : List ℕ) (i : ℕ) where
-  pub paths-turn : {p : Range} {zs : List ℕ} {e : Count} → i < length starts → p ≡ range_of (places path) starts i → Writing w xs c ys d (flat path_text (paths_of (all_points path) (drop i starts)))
+module _ {w xs : List ℕ} {c : Result ℕ Refusal} {ys : List ℕ} {d : Result ℕ Refusal} (path : List Float) (starts : List ℕ) (i : ℕ) where
+  pub paths-turn : {p : Range} {zs : List ℕ} {e : Result ℕ Refusal} → i < length starts → p ≡ range_of (places path) starts i → Writing w xs c ys d (flat path_text (paths_of (all_points path) (drop i starts)))
       → Writes (path_text (slice p.from p.end (all_points path))) ys d zs e → length zs ≡ length ys → Writing w xs c zs e (flat path_text (paths_of (all_points path) (drop (i + 1) starts)))
   unfolding flat
   paths-turn {p} l q h k g =
@@ -94,7 +95,7 @@ unfolding paths_of
 length-paths vs [] = refl
 length-paths vs (s ∷ ss) = ap suc (length-paths vs ss)
 
-module _ {xs₀ xs₁ xs₂ xs₃ xs₄ : List ℕ} {c₀ c₁ c₂ c₃ c₄ : Count} (h : CountWithin c₀ (length xs₀)) (vs : List Vector) (ss : List ℕ)
+module _ {xs₀ xs₁ xs₂ xs₃ xs₄ : List ℕ} {c₀ c₁ c₂ c₃ c₄ : Result ℕ Refusal} (h : CountWithin c₀ (length xs₀)) (vs : List Vector) (ss : List ℕ)
     (p₁ : Writes drawing_word xs₀ c₀ xs₁ c₁) (l₁ : length xs₁ ≡ length xs₀) (p₂ : Writes (decimal_word 20 (length ss)) xs₁ c₁ xs₂ c₂) (l₂ : length xs₂ ≡ length xs₁)
     (p₃ : Writes end_word xs₂ c₂ xs₃ c₃) (l₃ : length xs₃ ≡ length xs₂) (p₄ : Writes (flat path_text (paths_of vs ss)) xs₃ c₃ xs₄ c₄) (l₄ : length xs₄ ≡ length xs₃) where
   pub drawing-put : Writes (drawing_text (paths_of vs ss)) xs₀ c₀ xs₄ c₄

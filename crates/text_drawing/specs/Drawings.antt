@@ -1,17 +1,13 @@
 -- The text of a drawing, and of a refusal, as document 01 shows it.
-use Rattle.std.specs.Prelude.{ℕ, cond, List, [], ◌∷◌, ◌++◌, leb, length, take, replicate, Float}
+use Rattle.std.specs.Prelude.{ℕ, cond, List, [], ◌∷◌, ◌++◌, leb, length, take, replicate, Float, Err, Ok, Result}
 use Rattle.geometry.specs.declared.vector.Vector.{Vector}
 use Rattle.refusals.specs.Refusals.{number_of}
 use Rattle.refusals.specs.declared.Refusal.TheVariants.{Room}
 use Rattle.rows.specs.Rows.{flat, padded}
-use Rattle.paths.specs.Answers.{Answer, answered, refused}
 use Rattle.paths.specs.Paths.{paths_of}
 use Rattle.paths.specs.Ends.{all_points}
-use Rattle.paths.specs.declared.Count.{Count}
-use Rattle.paths.specs.declared.Count.TheVariants.{At, Refused}
-use Rattle.paths.specs.declared.Counts.{Counts}
-use Rattle.paths.specs.declared.Counts.TheVariants.{Both, Refused as NotBoth}
 use Rattle.text_drawing.specs.Numbers.{bits_of, hex_word, decimal_text}
+use Rattle.refusals.specs.declared.Refusal.{Refusal}
 
 -- the words that stand in a drawing's text
 abbrev pub drawing_word : List ℕ
@@ -49,18 +45,18 @@ unfoldable pub refused_text : ℕ → List ℕ
 refused_text k = refused_word ++ (decimal_text k ++ end_word)
 
 -- what a draw left: the first n points and the first m starts, or why it was refused
-unfoldable pub text_of : Counts → List Float → List ℕ → List ℕ
-text_of (Both n m) xs ss = drawing_text (paths_of (take n (all_points xs)) (take m ss))
-text_of (NotBoth k) xs ss = refused_text (number_of k)
+unfoldable pub text_of : Result (ℕ × ℕ) Refusal → List Float → List ℕ → List ℕ
+text_of (Ok (n, m)) xs ss = drawing_text (paths_of (take n (all_points xs)) (take m ss))
+text_of (Err k) xs ss = refused_text (number_of k)
 
 -- ---- in a slice of bytes: how many there are, then zeros; a text that doesn't fit leaves zeros throughout
-unfoldable pub fitting : ℕ → List ℕ → Answer (List ℕ)
-fitting room t = cond (leb (length t) room) (answered t) (refused Room)
+unfoldable pub fitting : ℕ → List ℕ → Result (List ℕ) Refusal
+fitting room t = cond (leb (length t) room) (Ok t) (Err Room)
 
-unfoldable pub written : Answer (List ℕ) → Count
-written (answered t) = At (length t)
-written (refused k) = Refused k
+unfoldable pub written : Result (List ℕ) Refusal → Result ℕ Refusal
+written (Ok t) = Ok (length t)
+written (Err k) = Err k
 
-unfoldable pub laid : Answer (List ℕ) → ℕ → List ℕ
-laid (answered t) room = padded 0 room t
-laid (refused k) room = replicate room 0
+unfoldable pub laid : Result (List ℕ) Refusal → ℕ → List ℕ
+laid (Ok t) room = padded 0 room t
+laid (Err k) room = replicate room 0

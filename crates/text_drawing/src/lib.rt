@@ -1,18 +1,16 @@
 // The text of a drawing, as the program `yard` prints it, in a lent slice of bytes.
 #![tactic(auto)]
 
-ghost use Rattle.std.specs.Prelude.{◌≡◌, [], ◌∷◌, ◌++◌, ◌*◌, ◌-◌, ◌≤◌, ◌<◌, length, take, replicate};
+ghost use Rattle.std.specs.Prelude.{◌≡◌, [], ◌∷◌, ◌++◌, ◌*◌, ◌-◌, ◌≤◌, ◌<◌, length, take, replicate, Ok};
 ghost use Rattle.std.proofs.Math.Seq.{slice};
 ghost use Rattle.rows.specs.Rows.{flat};
 ghost use Rattle.paths.specs.Paths.{paths_of};
 ghost use Rattle.paths.specs.Ends.{all_points};
-ghost use Rattle.paths.specs.declared.Count.TheVariants.{At};
 ghost use Rattle.text_drawing.specs.Numbers.{bits_of, digit_byte, hex_word, decimal_word};
 ghost use Rattle.text_drawing.specs.Drawings.{number_text, point_text, path_text, drawing_text, refused_text, text_of, fitting, written, laid};
 ghost use Rattle.text_drawing.specs.Writing.{CountWithin, Writes, sofar};
 
 use geometry::vector::Vector;
-use paths::{Count, Counts};
 use refusals::Refusal;
 
 // The bit pattern of a float; both zeros are +0, and the NaN has one pattern.
@@ -40,37 +38,36 @@ fn digit_byte(d: u64) -> u8
 }
 
 // A byte after those that are there, unless there was trouble before.
-pub fn put_byte(text: &mut [u8], c: Count, b: u8) -> Count
+pub fn put_byte(text: &mut [u8], c: Result<usize, Refusal>, b: u8) -> Result<usize, Refusal>
     requires { CountWithin c (length text.old) }
     ensures { Writes (b ∷ []) text.old c text.new result }
 {
-    match c {
-        Count::Refused(k) => Count::Refused(k),
-        Count::At(n) => {
-            if n < text.len() {
-                text[n] = b;
-                return Count::At(n + 1);
-            }
-            Count::Refused(Refusal::Room)
-        }
+    let n = c?;
+    if n < text.len() {
+        text[n] = b;
+        return Ok(n + 1);
     }
+    Err(Refusal::Room)
 }
 
-pub fn put_word(text: &mut [u8], c: Count, word: &[u8]) -> Count
+pub fn put_word(text: &mut [u8], c: Result<usize, Refusal>, word: &[u8]) -> Result<usize, Refusal>
     requires { CountWithin c (length text.old) }
     ensures { Writes word.now text.old c text.new result }
 {
     let mut d = c;
-    let mut i = 0;
-    while i < word.len() {
+    for i in 0..word.len() {
         d = put_byte(text, d, word[i]);
-        i += 1;
     }
     d
 }
 
 // The last k hexadecimal digits of v.
-pub fn put_hex(text: &mut [u8], c: Count, k: usize, v: u64) -> Count
+pub fn put_hex(
+    text: &mut [u8],
+    c: Result<usize, Refusal>,
+    k: usize,
+    v: u64,
+) -> Result<usize, Refusal>
     requires { CountWithin c (length text.old) }
     ensures { Writes (hex_word k v) text.old c text.new result }
 {
@@ -82,7 +79,12 @@ pub fn put_hex(text: &mut [u8], c: Count, k: usize, v: u64) -> Count
 }
 
 // The decimal digits of n, of which there are at most k.
-pub fn put_decimal(text: &mut [u8], c: Count, k: usize, n: u64) -> Count
+pub fn put_decimal(
+    text: &mut [u8],
+    c: Result<usize, Refusal>,
+    k: usize,
+    n: u64,
+) -> Result<usize, Refusal>
     requires { CountWithin c (length text.old) }
     ensures { Writes (decimal_word k n) text.old c text.new result }
 {
@@ -97,7 +99,12 @@ pub fn put_decimal(text: &mut [u8], c: Count, k: usize, n: u64) -> Count
 }
 
 // A number, with a byte before it.
-fn put_number(text: &mut [u8], c: Count, first: u8, x: f64) -> Count
+fn put_number(
+    text: &mut [u8],
+    c: Result<usize, Refusal>,
+    first: u8,
+    x: f64,
+) -> Result<usize, Refusal>
     requires { CountWithin c (length text.old) }
     ensures { Writes (first ∷ number_text x) text.old c text.new result }
 {
@@ -106,7 +113,7 @@ fn put_number(text: &mut [u8], c: Count, first: u8, x: f64) -> Count
     put_hex(text, e, 16, bits_of(x))
 }
 
-fn put_point(text: &mut [u8], c: Count, v: Vector) -> Count
+fn put_point(text: &mut [u8], c: Result<usize, Refusal>, v: Vector) -> Result<usize, Refusal>
     requires { CountWithin c (length text.old) }
     ensures { Writes (point_text v) text.old c text.new result }
 {
@@ -118,20 +125,30 @@ fn put_point(text: &mut [u8], c: Count, v: Vector) -> Count
 }
 
 // The points of a path from `from` up to `end`.
-fn put_points(text: &mut [u8], c: Count, path: &[f64], from: usize, end: usize) -> Count
+fn put_points(
+    text: &mut [u8],
+    c: Result<usize, Refusal>,
+    path: &[f64],
+    from: usize,
+    end: usize,
+) -> Result<usize, Refusal>
     requires { CountWithin c (length text.old) × (from ≤ end) × (end * 3 ≤ length path.now) }
     ensures { Writes (flat point_text (slice from end (all_points path.now))) text.old c text.new result }
 {
     let mut d = c;
-    let mut i = from;
-    while i < end {
+    for i in from..end {
         d = put_point(text, d, rows::read_point(path, i));
-        i += 1;
     }
     d
 }
 
-fn put_path(text: &mut [u8], c: Count, path: &[f64], from: usize, end: usize) -> Count
+fn put_path(
+    text: &mut [u8],
+    c: Result<usize, Refusal>,
+    path: &[f64],
+    from: usize,
+    end: usize,
+) -> Result<usize, Refusal>
     requires { CountWithin c (length text.old) × (from ≤ end) × (end * 3 ≤ length path.now) }
     ensures { Writes (path_text (slice from end (all_points path.now))) text.old c text.new result }
 {
@@ -140,45 +157,53 @@ fn put_path(text: &mut [u8], c: Count, path: &[f64], from: usize, end: usize) ->
     put_word(text, e, b")\n")
 }
 
-fn put_paths(text: &mut [u8], c: Count, path: &[f64], starts: &[usize]) -> Count
+fn put_paths(
+    text: &mut [u8],
+    c: Result<usize, Refusal>,
+    path: &[f64],
+    starts: &[usize],
+) -> Result<usize, Refusal>
     requires { CountWithin c (length text.old) }
     ensures { Writes (flat path_text (paths_of (all_points path.now) starts.now)) text.old c text.new result }
 {
     let n = path.len() / 3;
     let mut d = c;
-    let mut i = 0;
-    while i < starts.len() {
+    for i in 0..starts.len() {
         let p = paths::range_of(starts, i, n);
         d = put_path(text, d, path, p.from, p.end);
-        i += 1;
     }
     d
 }
 
-fn put_drawing(text: &mut [u8], path: &[f64], starts: &[usize]) -> Count
-    ensures { Writes (drawing_text (paths_of (all_points path.now) starts.now)) text.old (At 0) text.new result }
+fn put_drawing(text: &mut [u8], path: &[f64], starts: &[usize]) -> Result<usize, Refusal>
+    ensures { Writes (drawing_text (paths_of (all_points path.now) starts.now)) text.old (Ok 0) text.new result }
 {
-    let c = put_word(text, Count::At(0), b"(drawing ");
+    let c = put_word(text, Ok(0), b"(drawing ");
     let d = put_decimal(text, c, 20, starts.len() as u64);
     let e = put_word(text, d, b")\n");
     put_paths(text, e, path, starts)
 }
 
-fn put_refused(text: &mut [u8], number: u32) -> Count
-    ensures { Writes (refused_text number) text.old (At 0) text.new result }
+fn put_refused(text: &mut [u8], number: u32) -> Result<usize, Refusal>
+    ensures { Writes (refused_text number) text.old (Ok 0) text.new result }
 {
-    let c = put_word(text, Count::At(0), b"(refused ");
+    let c = put_word(text, Ok(0), b"(refused ");
     let d = put_decimal(text, c, 20, number as u64);
     put_word(text, d, b")\n")
 }
 
 // The text of what a draw left; counts beyond the slices are cut down to them.
-fn put_text(text: &mut [u8], points: &[f64], starts: &[usize], c: Counts) -> Count
-    ensures { Writes (text_of c points.now starts.now) text.old (At 0) text.new result }
+fn put_text(
+    text: &mut [u8],
+    points: &[f64],
+    starts: &[usize],
+    c: Result<(usize, usize), Refusal>,
+) -> Result<usize, Refusal>
+    ensures { Writes (text_of c points.now starts.now) text.old (Ok 0) text.new result }
 {
     match c {
-        Counts::Refused(k) => put_refused(text, k.number()),
-        Counts::Both(n, m) => {
+        Err(k) => put_refused(text, k.number()),
+        Ok((n, m)) => {
             let a = paths::lesser(n, points.len() / 3);
             let b = paths::lesser(m, starts.len());
             put_drawing(text, &points[..a * 3], &starts[..b])
@@ -191,34 +216,37 @@ fn clear(text: &mut [u8], from: usize)
     requires { from ≤ length text.old }
     ensures { text.new ≡ take from text.old ++ replicate (length text.old - from) 0 }
 {
-    let mut i = from;
-    while i < text.len() {
+    for i in from..text.len() {
         text[i] = 0;
-        i += 1;
     }
 }
 
 // The text and then zeros, or zeros throughout.
-pub fn finish(text: &mut [u8], c: Count) -> Count
+pub fn finish(text: &mut [u8], c: Result<usize, Refusal>) -> Result<usize, Refusal>
     requires { CountWithin c (length text.old) }
     ensures answer { result ≡ written (sofar c text.old) }
     ensures lent { text.new ≡ laid (sofar c text.old) (length text.old) }
 {
     match c {
-        Count::Refused(k) => {
+        Err(k) => {
             clear(text, 0);
-            Count::Refused(k)
+            Err(k)
         }
-        Count::At(n) => {
+        Ok(n) => {
             clear(text, n);
-            Count::At(n)
+            Ok(n)
         }
     }
 }
 
 // Writes the text of what a draw left in `points` and `starts`, then zeros, and answers how many bytes
 // it has. A slice that is too short for it is zeros throughout, and the answer is that there is no room.
-pub fn write_drawing(points: &[f64], starts: &[usize], c: Counts, text: &mut [u8]) -> Count
+pub fn write_drawing(
+    points: &[f64],
+    starts: &[usize],
+    c: Result<(usize, usize), Refusal>,
+    text: &mut [u8],
+) -> Result<usize, Refusal>
     ensures answer { result ≡ written (fitting (length text.old) (text_of c points.now starts.now)) }
     ensures lent { text.new ≡ laid (fitting (length text.old) (text_of c points.now starts.now)) (length text.old) }
 {
@@ -227,7 +255,7 @@ pub fn write_drawing(points: &[f64], starts: &[usize], c: Counts, text: &mut [u8
 }
 
 // The same for a refusal by its number alone, as the program's own number 1.
-pub fn write_refused(number: u32, text: &mut [u8]) -> Count
+pub fn write_refused(number: u32, text: &mut [u8]) -> Result<usize, Refusal>
     ensures answer { result ≡ written (fitting (length text.old) (refused_text number)) }
     ensures lent { text.new ≡ laid (fitting (length text.old) (refused_text number)) (length text.old) }
 {

@@ -12,11 +12,11 @@ ghost use Rattle.text_canonical.specs.Forms.{Form, round_form, cube_form, triang
 ghost use Rattle.text_canonical.specs.Canonical.{round_word, numbers_text, count_text, form_text};
 ghost use Rattle.text_entries.specs.Entries.{Formed};
 
-use paths::Count;
+use refusals::Refusal;
 use rows::Marks;
 
 // An opening bracket and the head of a round kind.
-fn put_round_word(text: &mut [u8], c: Count, kind: u32) -> Count
+fn put_round_word(text: &mut [u8], c: Result<usize, Refusal>, kind: u32) -> Result<usize, Refusal>
     requires { CountWithin c (length text.old) }
     ensures { Writes (40 ∷ round_word kind) text.old c text.new result }
 {
@@ -38,7 +38,7 @@ fn put_round_word(text: &mut [u8], c: Count, kind: u32) -> Count
 // A sphere, cylinder or cone, open or closed, with the lines of entry i; `xs` are its numbers.
 fn put_round(
     text: &mut [u8],
-    c: Count,
+    c: Result<usize, Refusal>,
     kind: u32,
     count: u32,
     xs: &[f64],
@@ -46,7 +46,7 @@ fn put_round(
     starts: &[usize],
     owners: &[u32],
     i: usize,
-) -> Count
+) -> Result<usize, Refusal>
     requires { CountWithin c (length text.old) }
     ensures { Writes (form_text (round_form kind count xs.now (own_paths i (paths_of (all_points points.now) starts.now) owners.now))) text.old c text.new result }
 {
@@ -57,7 +57,12 @@ fn put_round(
     text_drawing::put_byte(text, e, 41)
 }
 
-fn put_cube(text: &mut [u8], c: Count, stripes: u32, xs: &[f64]) -> Count
+fn put_cube(
+    text: &mut [u8],
+    c: Result<usize, Refusal>,
+    stripes: u32,
+    xs: &[f64],
+) -> Result<usize, Refusal>
     requires { CountWithin c (length text.old) }
     ensures { Writes (form_text (cube_form stripes xs.now)) text.old c text.new result }
 {
@@ -67,7 +72,7 @@ fn put_cube(text: &mut [u8], c: Count, stripes: u32, xs: &[f64]) -> Count
     text_drawing::put_byte(text, d, 41)
 }
 
-fn put_triangle(text: &mut [u8], c: Count, xs: &[f64]) -> Count
+fn put_triangle(text: &mut [u8], c: Result<usize, Refusal>, xs: &[f64]) -> Result<usize, Refusal>
     requires { CountWithin c (length text.old) }
     ensures { Writes (form_text (triangle_form xs.now)) text.old c text.new result }
 {
@@ -77,7 +82,7 @@ fn put_triangle(text: &mut [u8], c: Count, xs: &[f64]) -> Count
 }
 
 // A placed part, up to the form in it.
-fn put_place(text: &mut [u8], c: Count, xs: &[f64]) -> Count
+fn put_place(text: &mut [u8], c: Result<usize, Refusal>, xs: &[f64]) -> Result<usize, Refusal>
     requires { CountWithin c (length text.old) }
     ensures { Writes (40 ∷ (place ++ (numbers_text xs.now ++ (32 ∷ [])))) text.old c text.new result }
 {
@@ -87,7 +92,7 @@ fn put_place(text: &mut [u8], c: Count, xs: &[f64]) -> Count
 }
 
 // A cut, up to the first form in it.
-fn put_cut(text: &mut [u8], c: Count, operation: u32) -> Count
+fn put_cut(text: &mut [u8], c: Result<usize, Refusal>, operation: u32) -> Result<usize, Refusal>
     requires { CountWithin c (length text.old) }
     ensures { Writes (40 ∷ (cut ++ (count_text operation ++ (32 ∷ [])))) text.old c text.new result }
 {
@@ -99,14 +104,14 @@ fn put_cut(text: &mut [u8], c: Count, operation: u32) -> Count
 // An entry without parts, by its marks and its 16 numbers; nothing where the kind is unknown.
 fn put_simple(
     text: &mut [u8],
-    c: Count,
+    c: Result<usize, Refusal>,
     m: Marks,
     xs: &[f64],
     points: &[f64],
     starts: &[usize],
     owners: &[u32],
     i: usize,
-) -> Count
+) -> Result<usize, Refusal>
     requires { CountWithin c (length text.old) × ((16 ≤ length xs.now) × ((m.kind ≡ 6 → ⊥) × (m.kind ≡ 7 → ⊥))) }
     ensures { (part : ℕ → Form) → Writes (form_text (form_of m xs.now (own_paths i (paths_of (all_points points.now) starts.now) owners.now) part)) text.old c text.new result }
 {
@@ -135,8 +140,8 @@ pub fn put_form(
     i: usize,
     depth: usize,
     text: &mut [u8],
-    c: Count,
-) -> Count
+    c: Result<usize, Refusal>,
+) -> Result<usize, Refusal>
     requires { CountWithin c (length text.old) × Formed numbers.now marks.now i }
     ensures { Writes (form_text (form_at depth (scene_of numbers.now marks.now points.now starts.now owners.now) i)) text.old c text.new result }
 {

@@ -13,16 +13,13 @@ use Rattle.rows.specs.declared.Numbers.{Numbers}
 use Rattle.scene.specs.Scenes.{Scene, entries_of}
 use Rattle.text_tokens.specs.Tokens.{Token, left, no, got, and_then, close_in}
 use Rattle.text_tokens.specs.Seen.{step_as}
-use Rattle.text_tokens.specs.declared.Step.{Step}
-use Rattle.text_tokens.specs.declared.Step.TheVariants.{To as Goes, Off}
 use Rattle.text_heads.specs.Lines.{lines_in}
 use Rattle.text_heads.specs.Cursors.{scene_upto, next_as, CursorWithin}
 use Rattle.text_heads.specs.declared.Cursor.{Cursor}
 use Rattle.text_heads.specs.declared.Head.{Head}
-use Rattle.text_heads.specs.declared.Next.{Next}
-use Rattle.text_heads.specs.declared.Next.TheVariants.{To, No}
 use Rattle.text_heads.proofs.Lines.{take-sets}
 use Rattle.text_forms.specs.Forms.{entered, enter, enclosed, round_in}
+use Rattle.std.specs.Prelude.{None, Option, Some}
 
 pub numbers_more : (e : ℕ) (ns : List Float) (m : Numbers) {ns' : List Float} → e < 512 → 8192 ≤ length ns → ns' ≡ set_row 16 e (numbers_row m) ns → take ((e + 1) * 16) ns' ≡ take (e * 16) ns ++ numbers_row m
 numbers_more e ns m l h w = let n : (e + 1) * 16 ≡ e * 16 + 16 = omega arith in rw (w, n) (take-sets ns (e * 16) (numbers_row m) (omega (arith, l, h)))
@@ -53,24 +50,24 @@ module _ (s : List ℕ) (c : Cursor) (h : Head) (p q : ℕ) (ns : List Float) (m
   unfolding enter
   full ts w l = rw (entries-held c ns ms ps ss os w big, le-ltb c.entries 512 l)
 
-  module _ {r : Step} (close : step_as s r ≡ close_in (left s c.at)) where
-    pub enclose-open : r ≡ Off → next_as s No ns ms ps ss os ≡ enclosed h p q (scene_upto c ns ms ps ss os) (left s c.at)
+  module _ {r : Option ℕ} (close : step_as s r ≡ close_in (left s c.at)) where
+    pub enclose-open : r ≡ None → next_as s None ns ms ps ss os ≡ enclosed h p q (scene_upto c ns ms ps ss os) (left s c.at)
     unfolding next_as step_as enclosed and_then
     enclose-open f = rw (← close, f)
 
-    module _ {n : ℕ} (goes : r ≡ Goes n) where
-      pub enclose-full : CursorWithin c → 512 ≤ c.entries → next_as s No ns ms ps ss os ≡ enclosed h p q (scene_upto c ns ms ps ss os) (left s c.at)
+    module _ {n : ℕ} (goes : r ≡ Some n) where
+      pub enclose-full : CursorWithin c → 512 ≤ c.entries → next_as s None ns ms ps ss os ≡ enclosed h p q (scene_upto c ns ms ps ss os) (left s c.at)
       unfolding next_as step_as enclosed and_then
       enclose-full w l = rw (← close, goes) (sym (full (left s n) w.entries l))
 
       pub enclose-enters : (ns' : List Float) (ms' : List ℕ) → c.entries < 512 → take ((c.entries + 1) * 16) ns' ≡ take (c.entries * 16) ns ++ numbers_row h.row
-          → take ((c.entries + 1) * 4) ms' ≡ take (c.entries * 4) ms ++ (h.kind ∷ h.detail ∷ p ∷ q ∷ []) → next_as s (To (grown c n)) ns' ms' ps ss os ≡ enclosed h p q (scene_upto c ns ms ps ss os) (left s c.at)
+          → take ((c.entries + 1) * 4) ms' ≡ take (c.entries * 4) ms ++ (h.kind ∷ h.detail ∷ p ∷ q ∷ []) → next_as s (Some (grown c n)) ns' ms' ps ss os ≡ enclosed h p q (scene_upto c ns ms ps ss os) (left s c.at)
       unfolding next_as step_as enclosed and_then
       enclose-enters ns' ms' l x y = rw (← close, goes) (ap (λ (a : Scene). got a (left s n)) (held-entered n ns' ms' x y) ∙ sym (enters (left s n) l))
 
 -- ---- a round form
 module _ (s : List ℕ) (c : Cursor) (h : Head) (ns : List Float) (ms : List ℕ) (ps : List Float) (ss os : List ℕ) (w : CursorWithin c) (big : 2048 ≤ length ms) where
-  pub round-full : 512 ≤ c.entries → next_as s No ns ms ps ss os ≡ round_in h (scene_upto c ns ms ps ss os) (left s c.at)
+  pub round-full : 512 ≤ c.entries → next_as s None ns ms ps ss os ≡ round_in h (scene_upto c ns ms ps ss os) (left s c.at)
   unfolding next_as round_in and_then
   round-full l = sym (rw (full s c h 0 0 ns ms big ps ss os (left s c.at) w.entries l))
 
@@ -86,6 +83,6 @@ module _ (s : List ℕ) (c : Cursor) (h : Head) (ns : List Float) (ms : List ℕ
     lines-follow =
         rw (enters s c h 0 0 ns ms big ps ss os (left s c.at) l, ← held-entered s c h 0 0 ns ms big ps ss os c.at ns' ms' x y, begins bs c.at ns' ms', entries-held c ns ms ps ss os w.entries big, o)
 
-    pub round-enters : (ps' : List Float) (ss' os' : List ℕ) (r : Next) → ((ns : List Float) (ms : List ℕ) → next_as s r ns ms ps' ss' os' ≡ lines_in owner (2048 - c.lines) (scene_upto (grown c c.at) ns ms ps ss os) (left s c.at))
+    pub round-enters : (ps' : List Float) (ss' os' : List ℕ) (r : Option Cursor) → ((ns : List Float) (ms : List ℕ) → next_as s r ns ms ps' ss' os' ≡ lines_in owner (2048 - c.lines) (scene_upto (grown c c.at) ns ms ps ss os) (left s c.at))
         → next_as s r ns' ms' ps' ss' os' ≡ round_in h (scene_upto c ns ms ps ss os) (left s c.at)
     round-enters ps' ss' os' r lines = lines ns' ms' ∙ sym lines-follow

@@ -15,23 +15,20 @@ use Rattle.text_heads.specs.Heads.{opening_in}
 use Rattle.text_heads.specs.Cursors.{opened_as, scene_upto, next_as, CursorWithin, WithinNext, Sized}
 use Rattle.text_heads.specs.declared.Cursor.{Cursor}
 use Rattle.text_heads.specs.declared.Head.{Head}
-use Rattle.text_heads.specs.declared.Next.{Next}
-use Rattle.text_heads.specs.declared.Next.TheVariants.{To, No}
-use Rattle.text_heads.specs.declared.Opening.{Opening}
-use Rattle.text_heads.specs.declared.Opening.TheVariants.{Of, NoOpening}
 use Rattle.text_forms.specs.Forms.{last, enclosed, round_in, body, form}
 use Rattle.text_forms.proofs.Entries.{entries-held}
+use Rattle.std.specs.Prelude.{None, Option, Some}
 
 pub form-zero : (d : ℕ) (a : Scene) (ts : List Token) → d ≡ 0 → no ≡ form d a ts
 unfolding form
 form-zero d a ts e = rw e
 
-pub form-none : (d : ℕ) (s : List ℕ) (at : ℕ) (a : Scene) {o : Opening} → opened_as s o ≡ opening_in (left s at) → o ≡ NoOpening → no ≡ form d a (left s at)
+pub form-none : (d : ℕ) (s : List ℕ) (at : ℕ) (a : Scene) {o : Option (Head × ℕ)} → opened_as s o ≡ opening_in (left s at) → o ≡ None → no ≡ form d a (left s at)
 unfolding form opened_as and_then
 form-none zero s at a e f = refl
 form-none (suc d) s at a e f = rw (← e, f)
 
-pub form-as : (d : ℕ) (s : List ℕ) (at : ℕ) (a : Scene) {o : Opening} {h : Head} {n : ℕ} → (d ≡ 0 → ⊥) → opened_as s o ≡ opening_in (left s at) → o ≡ Of h n → body (form (d - 1)) h a (left s n) ≡ form d a (left s at)
+pub form-as : (d : ℕ) (s : List ℕ) (at : ℕ) (a : Scene) {o : Option (Head × ℕ)} {h : Head} {n : ℕ} → (d ≡ 0 → ⊥) → opened_as s o ≡ opening_in (left s at) → o ≡ Some (h, n) → body (form (d - 1)) h a (left s n) ≡ form d a (left s at)
 unfolding form opened_as and_then
 form-as zero s at a l e f = absurd (l refl)
 form-as (suc d) s at a l e f = rw (sub-one, ← e, f)
@@ -67,15 +64,15 @@ module _ (f : Scene → List Token → Got Scene) (h : Head) (s : Scene) (ts : L
           body-cut y v = rw (← r, i, lt-leb h.kind 5 j, x, ne_eqb h.kind 6 k, y, u, v)
 
 -- ---- what the code's answers say
-pub within-next : {r : Next} {c : Cursor} → WithinNext r → r ≡ To c → CursorWithin c
+pub within-next : {r : Option Cursor} {c : Cursor} → WithinNext r → r ≡ Some c → CursorWithin c
 unfolding WithinNext
 within-next w p = rw p at w
 
-pub next-to : (s : List ℕ) {r : Next} {c : Cursor} (ns : List Float) (ms : List ℕ) (ps : List Float) (ss os : List ℕ) {x : Got Scene} → next_as s r ns ms ps ss os ≡ x → r ≡ To c → x ≡ got (scene_upto c ns ms ps ss os) (left s c.at)
+pub next-to : (s : List ℕ) {r : Option Cursor} {c : Cursor} (ns : List Float) (ms : List ℕ) (ps : List Float) (ss os : List ℕ) {x : Got Scene} → next_as s r ns ms ps ss os ≡ x → r ≡ Some c → x ≡ got (scene_upto c ns ms ps ss os) (left s c.at)
 unfolding next_as
 next-to s ns ms ps ss os e p = sym e ∙ rw p
 
-pub next-no : (s : List ℕ) {r : Next} (ns : List Float) (ms : List ℕ) (ps : List Float) (ss os : List ℕ) {x : Got Scene} → next_as s r ns ms ps ss os ≡ x → r ≡ No → x ≡ no
+pub next-no : (s : List ℕ) {r : Option Cursor} (ns : List Float) (ms : List ℕ) (ps : List Float) (ss os : List ℕ) {x : Got Scene} → next_as s r ns ms ps ss os ≡ x → r ≡ None → x ≡ no
 unfolding next_as
 next-no s ns ms ps ss os e p = sym e ∙ rw p
 

@@ -8,8 +8,7 @@ ghost use Rattle.text_tokens.specs.Tokens.{left};
 ghost use Rattle.text_heads.specs.Cursors.{scene_upto, next_as, CursorWithin, WithinNext, Sized};
 ghost use Rattle.text_forms.specs.Forms as Forms;
 
-use text_heads::{Cursor, Head, Next, Opening};
-use text_tokens::Step;
+use text_heads::{Cursor, Head};
 
 fn put_marks(marks: &mut [u32], i: usize, kind: u32, detail: u32, first: u32, second: u32)
     requires { i * 4 + 4 ≤ length marks.old }
@@ -42,20 +41,17 @@ fn enclose(
     q: u32,
     numbers: &mut [f64],
     marks: &mut [u32],
-) -> Next
+) -> Option<Cursor>
     requires { CursorWithin c × ((8192 ≤ length numbers.old) × (2048 ≤ length marks.old)) }
     ensures os_after { (ps : List Float) (ss : List ℕ) (os : List ℕ) → next_as text.now result numbers.new marks.new ps ss os ≡ Forms.enclosed h p q (scene_upto c numbers.old marks.old ps ss os) (left text.now c.at) }
     ensures within_next { WithinNext result }
 {
-    let s = text_tokens::close_at(text, c.at);
-    let Step::To(at) = s else {
-        return Next::No;
-    };
+    let at = text_tokens::close_at(text, c.at)?;
     if c.entries >= 512 {
-        return Next::No;
+        return None;
     }
     push(c, h, p, q, numbers, marks);
-    Next::To(Cursor {
+    Some(Cursor {
         at,
         entries: c.entries + 1,
         points: c.points,
@@ -80,13 +76,13 @@ fn round(
     points: &mut [f64],
     starts: &mut [usize],
     owners: &mut [u32],
-) -> Next
+) -> Option<Cursor>
     requires { CursorWithin c × Sized numbers.old marks.old points.old starts.old owners.old }
     ensures owners_after { next_as text.now result numbers.new marks.new points.new starts.new owners.new ≡ Forms.round_in h (scene_upto c numbers.old marks.old points.old starts.old owners.old) (left text.now c.at) }
     ensures within_next { WithinNext result }
 {
     if c.entries >= 512 {
-        return Next::No;
+        return None;
     }
     push(c, h, 0, 0, numbers, marks);
     let d = Cursor {
@@ -119,18 +115,15 @@ pub fn form(
     points: &mut [f64],
     starts: &mut [usize],
     owners: &mut [u32],
-) -> Next
+) -> Option<Cursor>
     requires { CursorWithin c × Sized numbers.old marks.old points.old starts.old owners.old }
     ensures owners_after { next_as text.now result numbers.new marks.new points.new starts.new owners.new ≡ Forms.form depth (scene_upto c numbers.old marks.old points.old starts.old owners.old) (left text.now c.at) }
     ensures within_next { WithinNext result }
 {
     if depth == 0 {
-        return Next::No;
+        return None;
     }
-    let o = text_heads::opening_at(text, c.at);
-    let Opening::Of(h, at) = o else {
-        return Next::No;
-    };
+    let (h, at) = text_heads::opening_at(text, c.at)?;
     let d = Cursor {
         at,
         entries: c.entries,
@@ -143,17 +136,11 @@ pub fn form(
     if h.kind <= 5 {
         return enclose(text, d, h, 0, 0, numbers, marks);
     }
-    let f = form(text, d, depth - 1, numbers, marks, points, starts, owners);
-    let Next::To(e) = f else {
-        return Next::No;
-    };
+    let e = form(text, d, depth - 1, numbers, marks, points, starts, owners)?;
     let p = last_of(e);
     if h.kind == 6 {
         return enclose(text, e, h, p, 0, numbers, marks);
     }
-    let g = form(text, e, depth - 1, numbers, marks, points, starts, owners);
-    let Next::To(k) = g else {
-        return Next::No;
-    };
+    let k = form(text, e, depth - 1, numbers, marks, points, starts, owners)?;
     enclose(text, k, h, p, last_of(k), numbers, marks)
 }

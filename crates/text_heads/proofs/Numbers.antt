@@ -16,16 +16,9 @@ use Rattle.rows.specs.declared.Numbers.{Numbers}
 use Rattle.view.specs.declared.View.{View}
 use Rattle.text_tokens.specs.Tokens.{left, and_then, number_in, close_in}
 use Rattle.text_tokens.specs.Seen.{found_as, counted_as, step_as}
-use Rattle.text_tokens.specs.declared.NumberRead.{NumberRead}
-use Rattle.text_tokens.specs.declared.NumberRead.TheVariants.{Real, Absent}
-use Rattle.text_tokens.specs.declared.Step.TheVariants.{To as Goes, Off}
-use Rattle.text_tokens.specs.declared.Step.{Step}
-use Rattle.text_tokens.specs.declared.Counted.{Counted}
-use Rattle.text_tokens.specs.declared.Counted.TheVariants.{Count, Uncounted}
 use Rattle.text_heads.specs.Heads.{numbers_in, kind_in, detail_in, measures, stripes_in, opening_in, named_in, view_word, view_of, view_in}
 use Rattle.text_heads.specs.Cursors.{numbers_as, opened_as, viewed_as}
-use Rattle.text_heads.specs.declared.Opening.TheVariants.{Of, NoOpening}
-use Rattle.text_heads.specs.declared.Viewed.TheVariants.{Seen, Unseen}
+use Rattle.std.specs.Prelude.{None, Option, Some}
 
 -- i numbers are read, up to place a; the row held row₀
 pub record Gathered (s : List ℕ) (at n : ℕ) (row₀ row : List Float) (a i : ℕ) : Type 0 where
@@ -39,8 +32,8 @@ module _ (s : List ℕ) (at n : ℕ) (row₀ : List Float) (fits : n ≤ length 
   gathered-start = record { upto = omega arith; long = refl; same = (let e : n - 0 ≡ n = omega arith in rw e); rest = refl }
 
   module _ (row : List Float) (a i : ℕ) (h : Gathered s at n row₀ row a i) where
-    module _ (l : i < n) {x : NumberRead} (f : found_as s x ≡ number_in (left s a)) where
-      pub gathered-turn : {v : Float} {e : ℕ} → x ≡ Real v e → Gathered s at n row₀ (set row i v) e (i + 1)
+    module _ (l : i < n) {x : Option (Float × ℕ)} (f : found_as s x ≡ number_in (left s a)) where
+      pub gathered-turn : {v : Float} {e : ℕ} → x ≡ Some (v, e) → Gathered s at n row₀ (set row i v) e (i + 1)
       unfolding numbers_in and_then found_as
       gathered-turn {v} {e} g =
           let t : n - i ≡ suc (n - (i + 1)) = omega arith in
@@ -51,11 +44,11 @@ module _ (s : List ℕ) (at n : ℕ) (row₀ : List Float) (fits : n ≤ length 
             rest = drop-set-lt n row i v l ∙ h.rest;
           }
 
-      pub gathered-stray : x ≡ Absent → numbers_as s n row Off ≡ numbers_in [] n (left s at)
+      pub gathered-stray : x ≡ None → numbers_as s n row None ≡ numbers_in [] n (left s at)
       unfolding numbers_in and_then found_as numbers_as
       gathered-stray g = let t : n - i ≡ suc (n - (i + 1)) = omega arith in sym (h.same ∙ rw (t, ← f, g))
 
-    pub gathered-end : n ≤ i → numbers_as s n row (Goes a) ≡ numbers_in [] n (left s at)
+    pub gathered-end : n ≤ i → numbers_as s n row (Some a) ≡ numbers_in [] n (left s at)
     unfolding numbers_in numbers_as
     gathered-end l = let t : n - i ≡ 0 = omega arith in let e : n ≡ i = omega (arith, l, h.upto) in sym (h.same ∙ rw (t, e))
 
@@ -78,37 +71,37 @@ rest-row xs e =
     rw n (ap (take 16) (take_all 16 (drop 6 xs) (omega (arith, l))) ∙ take_all 16 (drop 6 xs) (omega (arith, l)))
 
 -- a form's beginning: its kind, its detail, its numbers and its stripes
-module _ (s : List ℕ) (at : ℕ) {h : Counted} (head : counted_as s h ≡ kind_in (left s at)) {k i : ℕ} (kind : h ≡ Count k i) {d : Counted} (detail : counted_as s d ≡ detail_in k (left s i)) where
-  pub opening-undetailed : d ≡ Uncounted → opened_as s NoOpening ≡ opening_in (left s at)
+module _ (s : List ℕ) (at : ℕ) {h : Option (ℕ × ℕ)} (head : counted_as s h ≡ kind_in (left s at)) {k i : ℕ} (kind : h ≡ Some (k, i)) {d : Option (ℕ × ℕ)} (detail : counted_as s d ≡ detail_in k (left s i)) where
+  pub opening-undetailed : d ≡ None → opened_as s None ≡ opening_in (left s at)
   unfolding opened_as opening_in and_then counted_as
   opening-undetailed p = rw (← head, kind, ← detail, p)
 
-  module _ {v j : ℕ} (p : d ≡ Count v j) {n : ℕ} (count : n ≡ measures k) (xs : List Float) {b : Step} (numbers : numbers_as s n xs b ≡ numbers_in [] n (left s j)) where
-    pub opening-short : b ≡ Off → opened_as s NoOpening ≡ opening_in (left s at)
+  module _ {v j : ℕ} (p : d ≡ Some (v, j)) {n : ℕ} (count : n ≡ measures k) (xs : List Float) {b : Option ℕ} (numbers : numbers_as s n xs b ≡ numbers_in [] n (left s j)) where
+    pub opening-short : b ≡ None → opened_as s None ≡ opening_in (left s at)
     unfolding opened_as opening_in and_then counted_as numbers_as
     opening-short q = rw (← head, kind, ← detail, p, ← count, ← numbers, q)
 
-    module _ {e : ℕ} (q : b ≡ Goes e) {t : Counted} (stripes : counted_as s t ≡ stripes_in k v (left s e)) where
-      pub opening-miscounted : t ≡ Uncounted → opened_as s NoOpening ≡ opening_in (left s at)
+    module _ {e : ℕ} (q : b ≡ Some e) {t : Option (ℕ × ℕ)} (stripes : counted_as s t ≡ stripes_in k v (left s e)) where
+      pub opening-miscounted : t ≡ None → opened_as s None ≡ opening_in (left s at)
       unfolding opened_as opening_in and_then counted_as numbers_as
       opening-miscounted u = rw (← head, kind, ← detail, p, ← count, ← numbers, q, ← stripes, u)
 
-      pub opening_of : n ≤ 16 → length xs ≡ 16 → drop n xs ≡ drop n (replicate 16 zero_f) → {w m : ℕ} → t ≡ Count w m → {r : Numbers} → r ≡ numbers_of (row 16 0 xs)
-          → opened_as s (Of (record { kind = k; detail = w; row = r }) m) ≡ opening_in (left s at)
+      pub opening_of : n ≤ 16 → length xs ≡ 16 → drop n xs ≡ drop n (replicate 16 zero_f) → {w m : ℕ} → t ≡ Some (w, m) → {r : Numbers} → r ≡ numbers_of (row 16 0 xs)
+          → opened_as s (Some ((record { kind = k; detail = w; row = r }), m)) ≡ opening_in (left s at)
       unfolding opened_as opening_in and_then counted_as numbers_as
       opening_of l long rest u is = rw (← head, kind, ← detail, p, ← count, ← numbers, q, ← stripes, u, is, padded-row n xs l long rest)
 
 -- the view
-module _ (s : List ℕ) (at : ℕ) {h : Step} (head : step_as s h ≡ named_in view_word (left s at)) {i : ℕ} (goes : h ≡ Goes i) (xs : List Float) {b : Step} (numbers : numbers_as s 22 xs b ≡ numbers_in [] 22 (left s i)) where
-  pub view-short : b ≡ Off → viewed_as s Unseen ≡ view_in (left s at)
+module _ (s : List ℕ) (at : ℕ) {h : Option ℕ} (head : step_as s h ≡ named_in view_word (left s at)) {i : ℕ} (goes : h ≡ Some i) (xs : List Float) {b : Option ℕ} (numbers : numbers_as s 22 xs b ≡ numbers_in [] 22 (left s i)) where
+  pub view-short : b ≡ None → viewed_as s None ≡ view_in (left s at)
   unfolding viewed_as view_in and_then step_as numbers_as
   view-short q = rw (← head, goes, ← numbers, q)
 
-  module _ {j : ℕ} (q : b ≡ Goes j) {c : Step} (close : step_as s c ≡ close_in (left s j)) where
-    pub view-open : c ≡ Off → viewed_as s Unseen ≡ view_in (left s at)
+  module _ {j : ℕ} (q : b ≡ Some j) {c : Option ℕ} (close : step_as s c ≡ close_in (left s j)) where
+    pub view-open : c ≡ None → viewed_as s None ≡ view_in (left s at)
     unfolding viewed_as view_in and_then step_as numbers_as
     view-open p = rw (← head, goes, ← numbers, q, ← close, p)
 
-    pub view-seen : length xs ≡ 22 → {k : ℕ} → c ≡ Goes k → {v : View} → v ≡ view_of xs → viewed_as s (Seen v k) ≡ view_in (left s at)
+    pub view-seen : length xs ≡ 22 → {k : ℕ} → c ≡ Some k → {v : View} → v ≡ view_of xs → viewed_as s (Some (v, k)) ≡ view_in (left s at)
     unfolding viewed_as view_in and_then step_as numbers_as
     view-seen l p w = rw (← head, goes, ← numbers, q, ← close, p, w, take_all 22 xs (omega (arith, l)))

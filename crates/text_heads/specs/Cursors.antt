@@ -1,57 +1,45 @@
 -- What the code's answers stand for: a cursor with the five slices stands for a scene and the tokens that are left.
-use Rattle.std.specs.Prelude.{ℕ, ◌*◌, ◌≤◌, List, length, take, Float}
+use Rattle.std.specs.Prelude.{ℕ, ◌*◌, ◌≤◌, List, length, take, Float, None, Option, Some}
 use Rattle.geometry.specs.declared.vector.Vector.{Vector}
 use Rattle.view.specs.declared.View.{View}
 use Rattle.scene.specs.Scenes.{Scene, scene_of}
 use Rattle.text_tokens.specs.Tokens.{left, Got, no, got}
-use Rattle.text_tokens.specs.declared.Step.{Step}
-use Rattle.text_tokens.specs.declared.Step.TheVariants.{To as Goes, Off}
 use Rattle.text_heads.specs.declared.Cursor.{Cursor}
 use Rattle.text_heads.specs.declared.Head.{Head}
-use Rattle.text_heads.specs.declared.Next.{Next}
-use Rattle.text_heads.specs.declared.Next.TheVariants.{To, No}
-use Rattle.text_heads.specs.declared.Opening.{Opening}
-use Rattle.text_heads.specs.declared.Opening.TheVariants.{Of, NoOpening}
-use Rattle.text_heads.specs.declared.Run.{Run}
-use Rattle.text_heads.specs.declared.Run.TheVariants.{Upto, Broken}
-use Rattle.text_heads.specs.declared.PointRead.{PointRead}
-use Rattle.text_heads.specs.declared.PointRead.TheVariants.{Point, NoPoint}
-use Rattle.text_heads.specs.declared.Viewed.{Viewed}
-use Rattle.text_heads.specs.declared.Viewed.TheVariants.{Seen, Unseen}
 
-unfoldable pub opened_as : List ℕ → Opening → Got Head
-opened_as s (Of h n) = got h (left s n)
-opened_as s NoOpening = no
+unfoldable pub opened_as : List ℕ → Option (Head × ℕ) → Got Head
+opened_as s (Some (h, n)) = got h (left s n)
+opened_as s None = no
 
-unfoldable pub spot_as : List ℕ → PointRead → Got Vector
-spot_as s (Point p n) = got p (left s n)
-spot_as s NoPoint = no
+unfoldable pub spot_as : List ℕ → Option (Vector × ℕ) → Got Vector
+spot_as s (Some (p, n)) = got p (left s n)
+spot_as s None = no
 
-unfoldable pub viewed_as : List ℕ → Viewed → Got View
-viewed_as s (Seen v n) = got v (left s n)
-viewed_as s Unseen = no
+unfoldable pub viewed_as : List ℕ → Option (View × ℕ) → Got View
+viewed_as s (Some (v, n)) = got v (left s n)
+viewed_as s None = no
 
 -- the first n numbers of a row
-unfoldable pub numbers_as : List ℕ → ℕ → List Float → Step → Got (List Float)
-numbers_as s n xs (Goes e) = got (take n xs) (left s e)
-numbers_as s n xs Off = no
+unfoldable pub numbers_as : List ℕ → ℕ → List Float → Option ℕ → Got (List Float)
+numbers_as s n xs (Some e) = got (take n xs) (left s e)
+numbers_as s n xs None = no
 
 -- k points are held
-unfoldable pub run_as : List ℕ → Run → List Float → List ℕ → List Float → List ℕ → List ℕ → Got Scene
-run_as s (Upto n k) ns ms ps ss os = got (scene_of ns ms (take (k * 3) ps) ss os) (left s n)
-run_as s Broken ns ms ps ss os = no
+unfoldable pub run_as : List ℕ → Option (ℕ × ℕ) → List Float → List ℕ → List Float → List ℕ → List ℕ → Got Scene
+run_as s (Some (n, k)) ns ms ps ss os = got (scene_of ns ms (take (k * 3) ps) ss os) (left s n)
+run_as s None ns ms ps ss os = no
 
-unfoldable pub WithinRun : Run → Type 0
-WithinRun (Upto n k) = k ≤ 2048
-WithinRun Broken = Unit {0}
+unfoldable pub WithinRun : Option (ℕ × ℕ) → Type 0
+WithinRun (Some (n, k)) = k ≤ 2048
+WithinRun None = Unit {0}
 
 -- the scene that the slices hold up to a cursor
 unfoldable pub scene_upto : Cursor → List Float → List ℕ → List Float → List ℕ → List ℕ → Scene
 scene_upto c ns ms ps ss os = scene_of (take (c.entries * 16) ns) (take (c.entries * 4) ms) (take (c.points * 3) ps) (take c.lines ss) (take c.lines os)
 
-unfoldable pub next_as : List ℕ → Next → List Float → List ℕ → List Float → List ℕ → List ℕ → Got Scene
-next_as s (To c) ns ms ps ss os = got (scene_upto c ns ms ps ss os) (left s c.at)
-next_as s No ns ms ps ss os = no
+unfoldable pub next_as : List ℕ → Option Cursor → List Float → List ℕ → List Float → List ℕ → List ℕ → Got Scene
+next_as s (Some c) ns ms ps ss os = got (scene_upto c ns ms ps ss os) (left s c.at)
+next_as s None ns ms ps ss os = no
 
 -- the cursor is within the places
 pub record CursorWithin (c : Cursor) : Type 0 where
@@ -59,9 +47,9 @@ pub record CursorWithin (c : Cursor) : Type 0 where
   pub points : c.points ≤ 2048
   pub lines : c.lines ≤ 2048
 
-unfoldable pub WithinNext : Next → Type 0
-WithinNext (To c) = CursorWithin c
-WithinNext No = Unit {0}
+unfoldable pub WithinNext : Option Cursor → Type 0
+WithinNext (Some c) = CursorWithin c
+WithinNext None = Unit {0}
 
 -- the five slices have the places of `yard`
 pub record Sized (ns : List Float) (ms : List ℕ) (ps : List Float) (ss os : List ℕ) : Type 0 where

@@ -12,7 +12,6 @@ ghost use Rattle.text_heads.specs.Cursors.{opened_as, spot_as, viewed_as, number
 
 use geometry::vector::Vector;
 use rows::Numbers;
-use text_tokens::{Counted, Located, NumberRead, Step};
 use view::View;
 
 // How far the reading has come: the place in the line, and how many entries, points and lines are held.
@@ -24,43 +23,12 @@ pub struct Cursor {
     pub lines: usize,
 }
 
-#[derive(Clone, Copy)]
-pub enum Next {
-    To(Cursor),
-    No,
-}
-
 // A form's kind, its detail and its numbers, then zeros.
 #[derive(Clone, Copy)]
 pub struct Head {
     pub kind: u32,
     pub detail: u32,
     pub row: Numbers,
-}
-
-// The place after a line, and how many points are held then.
-#[derive(Clone, Copy)]
-pub enum Run {
-    Upto(usize, usize),
-    Broken,
-}
-
-#[derive(Clone, Copy)]
-pub enum Opening {
-    Of(Head, usize),
-    NoOpening,
-}
-
-#[derive(Clone, Copy)]
-pub enum PointRead {
-    Point(Vector, usize),
-    NoPoint,
-}
-
-#[derive(Clone, Copy)]
-pub enum Viewed {
-    Seen(View, usize),
-    Unseen,
 }
 
 // Whether two words are the same.
@@ -70,12 +38,10 @@ pub fn same_word(w: &[u8], v: &[u8]) -> bool
     if w.len() != v.len() {
         return false;
     }
-    let mut i = 0;
-    while i < w.len() {
+    for i in 0..w.len() {
         if w[i] != v[i] {
             return false;
         }
-        i += 1;
     }
     true
 }
@@ -122,43 +88,34 @@ fn kind_of(w: &[u8]) -> u32
 }
 
 // An opening bracket and a word: where the word begins and ends.
-fn head_at(text: &[u8], at: usize) -> Located
+fn head_at(text: &[u8], at: usize) -> Option<(usize, usize)>
     ensures { (span_as text.now result ≡ Heads.head_in (left text.now at)) × WordWithin (length text.now) result }
 {
-    let s = text_tokens::open_at(text, at);
-    let Step::To(i) = s else {
-        return Located::Nowhere;
-    };
+    let i = text_tokens::open_at(text, at)?;
     text_tokens::word_at(text, i)
 }
 
 // An opening bracket and this word.
-fn named_at(text: &[u8], at: usize, name: &[u8]) -> Step
+fn named_at(text: &[u8], at: usize, name: &[u8]) -> Option<usize>
     ensures { step_as text.now result ≡ Heads.named_in name.now (left text.now at) }
 {
-    let h = head_at(text, at);
-    let Located::At(a, e) = h else {
-        return Step::Off;
-    };
+    let (a, e) = head_at(text, at)?;
     if same_word(&text[a..e], name) {
-        return Step::To(e);
+        return Some(e);
     }
-    Step::Off
+    None
 }
 
 // An opening bracket and the head of a kind.
-fn kind_at(text: &[u8], at: usize) -> Counted
+fn kind_at(text: &[u8], at: usize) -> Option<(u32, usize)>
     ensures { counted_as text.now result ≡ Heads.kind_in (left text.now at) }
 {
-    let h = head_at(text, at);
-    let Located::At(a, e) = h else {
-        return Counted::Uncounted;
-    };
+    let (a, e) = head_at(text, at)?;
     let k = kind_of(&text[a..e]);
     if k == 0 {
-        return Counted::Uncounted;
+        return None;
     }
-    Counted::Count(k, e)
+    Some((k, e))
 }
 
 fn closed_measures(kind: u32) -> usize
@@ -199,7 +156,7 @@ pub fn measures(kind: u32) -> usize
 }
 
 // A cube's stripes and a cut's operation; 0 stands for the detail of other kinds so far.
-fn detail_at(text: &[u8], at: usize, kind: u32) -> Counted
+fn detail_at(text: &[u8], at: usize, kind: u32) -> Option<(u32, usize)>
     ensures { counted_as text.now result ≡ Heads.detail_in kind (left text.now at) }
 {
     if kind == 4 {
@@ -208,87 +165,61 @@ fn detail_at(text: &[u8], at: usize, kind: u32) -> Counted
     if kind == 7 {
         return text_tokens::count_at(text, at);
     }
-    Counted::Count(0, at)
+    Some((0, at))
 }
 
 // n numbers, into the first places of a row.
-fn numbers_at(text: &[u8], at: usize, n: usize, row: &mut [f64]) -> Step
+fn numbers_at(text: &[u8], at: usize, n: usize, row: &mut [f64]) -> Option<usize>
     requires { n ≤ length row.old }
     ensures result_after { numbers_as text.now n row.new result ≡ Heads.numbers_in [] n (left text.now at) }
     ensures row_unchanged { drop n row.new ≡ drop n row.old }
 {
     let mut a = at;
-    let mut i = 0;
-    while i < n {
-        let x = text_tokens::number_at(text, a);
-        let NumberRead::Real(v, e) = x else {
-            return Step::Off;
-        };
+    for i in 0..n {
+        let (v, e) = text_tokens::number_at(text, a)?;
         row[i] = v;
         a = e;
-        i += 1;
     }
-    Step::To(a)
+    Some(a)
 }
 
 // What follows the numbers: the stripes of a cylinder or a cone, open or closed, if a word stands there.
-fn stripes_at(text: &[u8], at: usize, kind: u32, detail: u32) -> Counted
+fn stripes_at(text: &[u8], at: usize, kind: u32, detail: u32) -> Option<(u32, usize)>
     ensures { counted_as text.now result ≡ Heads.stripes_in kind detail (left text.now at) }
 {
     if scene::entry::is_striped(kind) {
         return text_tokens::count_or(text, at, detail);
     }
-    Counted::Count(detail, at)
+    Some((detail, at))
 }
 
 // A form's bracket, head, detail, numbers and stripes.
-pub fn opening_at(text: &[u8], at: usize) -> Opening
+pub fn opening_at(text: &[u8], at: usize) -> Option<(Head, usize)>
     ensures { opened_as text.now result ≡ Heads.opening_in (left text.now at) }
 {
-    let h = kind_at(text, at);
-    let Counted::Count(kind, i) = h else {
-        return Opening::NoOpening;
-    };
-    let d = detail_at(text, i, kind);
-    let Counted::Count(detail, j) = d else {
-        return Opening::NoOpening;
-    };
+    let (kind, i) = kind_at(text, at)?;
+    let (detail, j) = detail_at(text, i, kind)?;
     let mut xs = [0.0; 16];
-    let s = numbers_at(text, j, measures(kind), &mut xs);
-    let Step::To(k) = s else {
-        return Opening::NoOpening;
-    };
-    let t = stripes_at(text, k, kind, detail);
-    let Counted::Count(stripes, m) = t else {
-        return Opening::NoOpening;
-    };
+    let k = numbers_at(text, j, measures(kind), &mut xs)?;
+    let (stripes, m) = stripes_at(text, k, kind, detail)?;
     let row = rows::read_numbers(&xs, 0);
-    Opening::Of(
+    Some((
         Head {
             kind,
             detail: stripes,
             row,
         },
         m,
-    )
+    ))
 }
 
-pub fn point_at(text: &[u8], at: usize) -> PointRead
+pub fn point_at(text: &[u8], at: usize) -> Option<(Vector, usize)>
     ensures { spot_as text.now result ≡ Heads.point_in (left text.now at) }
 {
-    let a = text_tokens::number_at(text, at);
-    let NumberRead::Real(x, i) = a else {
-        return PointRead::NoPoint;
-    };
-    let b = text_tokens::number_at(text, i);
-    let NumberRead::Real(y, j) = b else {
-        return PointRead::NoPoint;
-    };
-    let c = text_tokens::number_at(text, j);
-    let NumberRead::Real(z, k) = c else {
-        return PointRead::NoPoint;
-    };
-    PointRead::Point(Vector { x, y, z }, k)
+    let (x, i) = text_tokens::number_at(text, at)?;
+    let (y, j) = text_tokens::number_at(text, i)?;
+    let (z, k) = text_tokens::number_at(text, j)?;
+    Some((Vector { x, y, z }, k))
 }
 
 // The view of 22 numbers: width, height, step, eye, matrix by rows.
@@ -310,46 +241,34 @@ fn view_of(xs: &[f64]) -> View
     }
 }
 
-pub fn view_at(text: &[u8], at: usize) -> Viewed
+pub fn view_at(text: &[u8], at: usize) -> Option<(View, usize)>
     ensures { viewed_as text.now result ≡ Heads.view_in (left text.now at) }
 {
-    let h = named_at(text, at, b"view");
-    let Step::To(i) = h else {
-        return Viewed::Unseen;
-    };
+    let i = named_at(text, at, b"view")?;
     let mut xs = [0.0; 22];
-    let s = numbers_at(text, i, 22, &mut xs);
-    let Step::To(j) = s else {
-        return Viewed::Unseen;
-    };
-    let c = text_tokens::close_at(text, j);
-    let Step::To(k) = c else {
-        return Viewed::Unseen;
-    };
-    Viewed::Seen(view_of(&xs), k)
+    let j = numbers_at(text, i, 22, &mut xs)?;
+    let k = text_tokens::close_at(text, j)?;
+    Some((view_of(&xs), k))
 }
 
 // The points of a line up to its closing bracket, after the `first` that are held: the place after it, and how many
 // there are then.
-fn line_points(text: &[u8], from: usize, first: usize, points: &mut [f64]) -> Run
+fn line_points(text: &[u8], from: usize, first: usize, points: &mut [f64]) -> Option<(usize, usize)>
     requires { (first ≤ 2048) × (6144 ≤ length points.old) }
     ensures os_after { (ns : List Float) (ms : List ℕ) (ss : List ℕ) (os : List ℕ) → run_as text.now result ns ms points.new ss os ≡ points_in (2048 - first) (scene_of ns ms (take (first * 3) points.old) ss os) (left text.now from) }
     ensures within_run { WithinRun result }
 {
     let mut at = from;
     let mut k = first;
+    // no `for`: up to the closing bracket
     loop {
-        let s = text_tokens::close_at(text, at);
-        if let Step::To(n) = s {
-            return Run::Upto(n, k);
+        if let Some(n) = text_tokens::close_at(text, at) {
+            return Some((n, k));
         }
         if k >= 2048 {
-            return Run::Broken;
+            return None;
         }
-        let p = point_at(text, at);
-        let PointRead::Point(q, n) = p else {
-            return Run::Broken;
-        };
+        let (q, n) = point_at(text, at)?;
         rows::write_point(points, k, q);
         at = n;
         k += 1;
@@ -364,7 +283,7 @@ pub fn lines_of(
     points: &mut [f64],
     starts: &mut [usize],
     owners: &mut [u32],
-) -> Next
+) -> Option<Cursor>
     requires { CursorWithin c × ((6144 ≤ length points.old) × ((2048 ≤ length starts.old) × (2048 ≤ length owners.old))) }
     ensures owners_after { (ns : List Float) (ms : List ℕ) → next_as text.now result ns ms points.new starts.new owners.new ≡ lines_in owner (2048 - c.lines) (scene_upto c ns ms points.old starts.old owners.old) (left text.now c.at) }
     ensures within_next { WithinNext result }
@@ -372,10 +291,10 @@ pub fn lines_of(
     let mut at = c.at;
     let mut p = c.points;
     let mut k = c.lines;
+    // no `for`: up to the closing bracket
     loop {
-        let s = text_tokens::close_at(text, at);
-        if let Step::To(n) = s {
-            return Next::To(Cursor {
+        if let Some(n) = text_tokens::close_at(text, at) {
+            return Some(Cursor {
                 at: n,
                 entries: c.entries,
                 points: p,
@@ -383,18 +302,12 @@ pub fn lines_of(
             });
         }
         if k >= 2048 {
-            return Next::No;
+            return None;
         }
-        let h = named_at(text, at, b"line");
-        let Step::To(n) = h else {
-            return Next::No;
-        };
+        let n = named_at(text, at, b"line")?;
         starts[k] = p;
         owners[k] = owner;
-        let r = line_points(text, n, p, points);
-        let Run::Upto(m, q) = r else {
-            return Next::No;
-        };
+        let (m, q) = line_points(text, n, p, points)?;
         at = m;
         p = q;
         k += 1;

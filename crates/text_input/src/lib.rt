@@ -25,6 +25,7 @@ pub fn read_text<R: Read>(input: &mut R, text: &mut [u8]) -> usize
     ensures { (result ≤ length text.new) × (result ≡ length (take result text.new)) }
 {
     let mut n = 0;
+    // no `for`: a read gives any number of bytes
     while n < text.len() {
         let m = read_some(input, text, n);
         if m == n {

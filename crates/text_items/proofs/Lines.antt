@@ -19,7 +19,6 @@ use Rattle.paths.specs.Paths.{paths_of}
 use Rattle.paths.specs.Ends.{places, all_points}
 use Rattle.paths.specs.Ranges.{range_of}
 use Rattle.paths.specs.declared.Range.{Range}
-use Rattle.paths.specs.declared.Count.{Count}
 use Rattle.paths.proofs.Parts.{part-cons, span-slice}
 use Rattle.draw_lines.specs.Lines.{owned_by, own_path, own_paths}
 use Rattle.draw_lines.proofs.Owning.{ownLeft, own_turn, own-end}
@@ -27,6 +26,8 @@ use Rattle.text_heads.specs.Heads.{line_word}
 use Rattle.text_drawing.specs.Writing.{CountWithin, Writes}
 use Rattle.text_drawing.proofs.Adding.{Writing, writing_start, writing-turn, writing-end, writing-as, writes-last, writes_as, writes_nothing}
 use Rattle.text_canonical.specs.Canonical.{numbers_text, line_text}
+use Rattle.refusals.specs.declared.Refusal.{Refusal}
+use Rattle.std.specs.Prelude.{Result}
 
 -- ---- the numbers of a path's points are a part of the slice
 module _ (xs : List Float) (end : ℕ) (fit : end * 3 ≤ length xs) where
@@ -50,7 +51,7 @@ module _ (xs : List Float) (end : ℕ) (fit : end * 3 ≤ length xs) where
       ap (λ (i : ℕ). take i (drop (from * 3) xs)) m ∙ sym (numbers_of (end - from) from (omega (arith, l)))
 
 -- ---- a line
-module _ {xs ys zs us : List ℕ} {c d e f : Count} (h : CountWithin c (length xs)) where
+module _ {xs ys zs us : List ℕ} {c d e f : Result ℕ Refusal} (h : CountWithin c (length xs)) where
   pub line-put : (ps : List Vector) (ns : List Float) → ns ≡ flat point_row ps → Writes (32 ∷ 40 ∷ line_word) xs c ys d → length ys ≡ length xs
       → Writes (numbers_text ns) ys d zs e → length zs ≡ length ys → Writes (41 ∷ []) zs e us f → length us ≡ length zs → Writes (line_text ps) xs c us f
   unfolding line_text
@@ -64,7 +65,7 @@ unfolding flat
 flat-both g [] ls = refl
 flat-both g (k ∷ ks) ls = rw (flat-both g ks ls, append_assoc)
 
-module _ (i j : ℕ) (vs : List Vector) (ss owners : List ℕ) {xs : List ℕ} {c : Count} where
+module _ (i j : ℕ) (vs : List Vector) (ss owners : List ℕ) {xs : List ℕ} {c : Result ℕ Refusal} where
   not-owned : owned_by owners j i ≡ false → CountWithin c (length xs) → Writes (flat line_text (own_path i j vs ss owners)) xs c xs c
   unfolding own_path flat
   not-owned e h = rw e (writes_nothing h)
@@ -77,15 +78,15 @@ module _ (i j : ℕ) (vs : List Vector) (ss owners : List ℕ) {xs : List ℕ} {
   unfolding owned_by
   other-owner {o} {k} p q n h = not-owned (rw (ne_eqb (get_or owners j 0) i (λ e. n (p ∙ q ∙ e)), and-false (ltb j (length owners)))) h
 
-  pub own_line : {o k : ℕ} → j < length owners → o ≡ k → k ≡ get_or owners j 0 → o ≡ i → {ys : List ℕ} {d : Count} → Writes (line_text (slice (get_or ss j 0) (end_of (length vs) ss j) vs)) xs c ys d
+  pub own_line : {o k : ℕ} → j < length owners → o ≡ k → k ≡ get_or owners j 0 → o ≡ i → {ys : List ℕ} {d : Result ℕ Refusal} → Writes (line_text (slice (get_or ss j 0) (end_of (length vs) ss j) vs)) xs c ys d
       → Writes (flat line_text (own_path i j vs ss owners)) xs c ys d
   unfolding own_path owned_by flat
   own_line {o} {k} l p q e w =
       rw (lt-ltb j (length owners) l, eq-eqb (get_or owners j 0) i (sym q ∙ sym p ∙ e))
       (writes_as (sym (append-nil (line_text (slice (get_or ss j 0) (end_of (length vs) ss j) vs)))) w)
 
-module _ {w xs : List ℕ} {c : Count} {ys : List ℕ} {d : Count} (i : ℕ) (vs : List Vector) (ss owners : List ℕ) (j : ℕ) where
-  pub lines-turn : {zs : List ℕ} {e : Count} → j < length ss → Writing w xs c ys d (flat line_text (ownLeft i vs ss owners j)) → Writes (flat line_text (own_path i j vs ss owners)) ys d zs e
+module _ {w xs : List ℕ} {c : Result ℕ Refusal} {ys : List ℕ} {d : Result ℕ Refusal} (i : ℕ) (vs : List Vector) (ss owners : List ℕ) (j : ℕ) where
+  pub lines-turn : {zs : List ℕ} {e : Result ℕ Refusal} → j < length ss → Writing w xs c ys d (flat line_text (ownLeft i vs ss owners j)) → Writes (flat line_text (own_path i j vs ss owners)) ys d zs e
       → length zs ≡ length ys → Writing w xs c zs e (flat line_text (ownLeft i vs ss owners (j + 1)))
   lines-turn l h k m =
       let s = ap (flat line_text) (own_turn i vs ss owners j l) ∙ flat-both line_text (own_path i j vs ss owners) (ownLeft i vs ss owners (j + 1)) in

@@ -12,7 +12,7 @@ ghost use Rattle.draw_lines.specs.Lines.{own_path, own_paths};
 ghost use Rattle.text_drawing.specs.Writing.{CountWithin, Writes};
 ghost use Rattle.text_canonical.specs.Canonical.{hex_text, numbers_text, count_text, stripes_text, line_text};
 
-use paths::Count;
+use refusals::Refusal;
 
 // The bit pattern of a float as it is; the NaN has one pattern.
 fn pattern_of(x: f64) -> u64
@@ -24,7 +24,7 @@ fn pattern_of(x: f64) -> u64
     f64::to_bits(x)
 }
 
-fn put_bits(text: &mut [u8], c: Count, x: f64) -> Count
+fn put_bits(text: &mut [u8], c: Result<usize, Refusal>, x: f64) -> Result<usize, Refusal>
     requires { CountWithin c (length text.old) }
     ensures { Writes (hex_text x) text.old c text.new result }
 {
@@ -34,21 +34,19 @@ fn put_bits(text: &mut [u8], c: Count, x: f64) -> Count
 }
 
 // Numbers, one after the other.
-pub fn put_numbers(text: &mut [u8], c: Count, xs: &[f64]) -> Count
+pub fn put_numbers(text: &mut [u8], c: Result<usize, Refusal>, xs: &[f64]) -> Result<usize, Refusal>
     requires { CountWithin c (length text.old) }
     ensures { Writes (numbers_text xs.now) text.old c text.new result }
 {
     let mut d = c;
-    let mut i = 0;
-    while i < xs.len() {
+    for i in 0..xs.len() {
         d = put_bits(text, d, xs[i]);
-        i += 1;
     }
     d
 }
 
 // A count or an operation.
-pub fn put_count(text: &mut [u8], c: Count, n: u32) -> Count
+pub fn put_count(text: &mut [u8], c: Result<usize, Refusal>, n: u32) -> Result<usize, Refusal>
     requires { CountWithin c (length text.old) }
     ensures { Writes (count_text n) text.old c text.new result }
 {
@@ -57,7 +55,7 @@ pub fn put_count(text: &mut [u8], c: Count, n: u32) -> Count
 }
 
 // A round solid's count, left out where it is 0.
-pub fn put_stripes(text: &mut [u8], c: Count, n: u32) -> Count
+pub fn put_stripes(text: &mut [u8], c: Result<usize, Refusal>, n: u32) -> Result<usize, Refusal>
     requires { CountWithin c (length text.old) }
     ensures { Writes (stripes_text n) text.old c text.new result }
 {
@@ -68,7 +66,13 @@ pub fn put_stripes(text: &mut [u8], c: Count, n: u32) -> Count
 }
 
 // A line of the points from `from` up to `end`.
-fn put_line(text: &mut [u8], c: Count, points: &[f64], from: usize, end: usize) -> Count
+fn put_line(
+    text: &mut [u8],
+    c: Result<usize, Refusal>,
+    points: &[f64],
+    from: usize,
+    end: usize,
+) -> Result<usize, Refusal>
     requires { CountWithin c (length text.old) × (from ≤ end) × (end * 3 ≤ length points.now) }
     ensures { Writes (line_text (slice from end (all_points points.now))) text.old c text.new result }
 {
@@ -82,13 +86,13 @@ fn put_line(text: &mut [u8], c: Count, points: &[f64], from: usize, end: usize) 
 // Handed-in path j, if entry i owns it.
 fn put_own_line(
     text: &mut [u8],
-    c: Count,
+    c: Result<usize, Refusal>,
     points: &[f64],
     starts: &[usize],
     owners: &[u32],
     j: usize,
     i: usize,
-) -> Count
+) -> Result<usize, Refusal>
     requires { CountWithin c (length text.old) × (j < length starts.now) }
     ensures { Writes (flat line_text (own_path i j (all_points points.now) starts.now owners.now)) text.old c text.new result }
 {
@@ -105,20 +109,18 @@ fn put_own_line(
 // The handed-in paths of entry i, in order.
 pub fn put_lines(
     text: &mut [u8],
-    c: Count,
+    c: Result<usize, Refusal>,
     points: &[f64],
     starts: &[usize],
     owners: &[u32],
     i: usize,
-) -> Count
+) -> Result<usize, Refusal>
     requires { CountWithin c (length text.old) }
     ensures { Writes (flat line_text (own_paths i (paths_of (all_points points.now) starts.now) owners.now)) text.old c text.new result }
 {
     let mut d = c;
-    let mut j = 0;
-    while j < starts.len() {
+    for j in 0..starts.len() {
         d = put_own_line(text, d, points, starts, owners, j, i);
-        j += 1;
     }
     d
 }

@@ -10,9 +10,7 @@ use lib.ListN.{length, drop, get_or, take, drop_of_length-le}
 use lib.Seq.{drop-cons, take_all}
 use borrow.Author.Tests.{lt-ltb, le-ltb, lt-leb, le-leb, eq-eqb, ne_eqb}
 use Rattle.text_numbers.specs.Numerals.{digit_of, all_digits, value, decimal_from, decimal_of, hex_from, hex_of, numeral_of, patterned, negated, as_float}
-use Rattle.text_numbers.specs.declared.Numeral.TheVariants.{NoNumber}
-use Rattle.text_numbers.specs.declared.Whole.TheVariants.{Value, Bad}
-use Rattle.text_numbers.specs.declared.Pattern.TheVariants.{Bits, Wrong}
+use Rattle.std.specs.Prelude.{None, Some}
 
 pub and-false : (b : Bool) → (b && false) ≡ false
 and-false true = refl
@@ -32,7 +30,7 @@ module _ (n : ℕ) (s : List ℕ) (i d : ℕ) (l : i < length s) (e : d ≡ digi
   unfolding decimal_from all_digits value
   decimal-more b = rw (e, add-one i, drop-cons s i 0 l, lt-ltb (digit_of (get_or s i 0)) 10 (rw e at b))
 
-  pub decimal-stray : 10 ≤ d → decimal_from n (drop i s) ≡ Bad
+  pub decimal-stray : 10 ≤ d → decimal_from n (drop i s) ≡ None
   unfolding decimal_from all_digits value
   decimal-stray b = rw (drop-cons s i 0 l, ← e, le-ltb d 10 b, and-false)
 
@@ -40,19 +38,19 @@ module _ (n : ℕ) (s : List ℕ) (i d : ℕ) (l : i < length s) (e : d ≡ digi
   unfolding hex_from all_digits value
   hex-more b = rw (e, add-one i, drop-cons s i 0 l, lt-ltb (digit_of (get_or s i 0)) 16 (rw e at b))
 
-  pub hex-stray : 16 ≤ d → hex_from n (drop i s) ≡ Wrong
+  pub hex-stray : 16 ≤ d → hex_from n (drop i s) ≡ None
   unfolding hex_from all_digits value
   hex-stray b = rw (drop-cons s i 0 l, ← e, le-ltb d 16 b)
 
-pub decimal-over : (n : ℕ) (s : List ℕ) → 1000000 < n → decimal_from n s ≡ Bad
+pub decimal-over : (n : ℕ) (s : List ℕ) → 1000000 < n → decimal_from n s ≡ None
 unfolding decimal_from
 decimal-over n s h = rw (lt-leb (value 10 n s) 1000000 (omega (arith, value_grows n s)))
 
-pub decimal-end : (n : ℕ) (s : List ℕ) (i : ℕ) → n ≤ 1000000 → length s ≤ i → decimal_from n (drop i s) ≡ Value n
+pub decimal-end : (n : ℕ) (s : List ℕ) (i : ℕ) → n ≤ 1000000 → length s ≤ i → decimal_from n (drop i s) ≡ Some n
 unfolding decimal_from all_digits value
 decimal-end n s i h l = rw (drop_of_length-le s {i = i} l, le-leb n 1000000 h)
 
-pub hex-end : (n : ℕ) (s : List ℕ) (i : ℕ) → length s ≤ i → hex_from n (drop i s) ≡ Bits n
+pub hex-end : (n : ℕ) (s : List ℕ) (i : ℕ) → length s ≤ i → hex_from n (drop i s) ≡ Some n
 unfolding hex_from all_digits value
 hex-end n s i l = rw (drop_of_length-le s {i = i} l)
 
@@ -63,7 +61,7 @@ hex-below n d i h l = rw (add-one, pow-suc) (omega arith)
 pub hex-fits : (n i : ℕ) → n < 16 ^ i → i < 16 → n < 16 ^ 15
 hex-fits n i h l = omega (arith, pow-le-pow_right {n = 16} (omega arith) {i = i} {j = 15} (omega arith))
 
-pub nothing : (w : List ℕ) → length w ≡ 0 → decimal_of w ≡ Bad
+pub nothing : (w : List ℕ) → length w ≡ 0 → decimal_of w ≡ None
 unfolding decimal_of
 nothing [] h = refl
 nothing (c ∷ s) h = absurd (omega (arith, h))
@@ -78,7 +76,7 @@ something (c ∷ s) h = refl
 abbrev rest : List ℕ → List ℕ
 rest w = take (length w - 1) (drop 1 w)
 
-pub number-none : (w : List ℕ) → length w ≡ 0 → numeral_of w ≡ NoNumber
+pub number-none : (w : List ℕ) → length w ≡ 0 → numeral_of w ≡ None
 unfolding numeral_of
 number-none [] h = refl
 number-none (c ∷ s) h = absurd (omega (arith, h))

@@ -4,26 +4,6 @@
 ghost use Rattle.std.specs.Prelude.{◌≡◌};
 ghost use Rattle.text_numbers.specs.Numerals.{digit_of, decimal_of, hex_of, numeral_of};
 
-// A decimal's value, or that the word is none.
-#[derive(Clone, Copy)]
-pub enum Whole {
-    Value(u32),
-    Bad,
-}
-
-// The value of sixteen hexadecimal digits, or that the word is not that.
-#[derive(Clone, Copy)]
-pub enum Pattern {
-    Bits(u64),
-    Wrong,
-}
-
-#[derive(Clone, Copy)]
-pub enum Numeral {
-    Float(f64),
-    NoNumber,
-}
-
 // The value of a digit of either case, or 16 where the byte is no digit.
 pub fn digit(c: u8) -> u32
     ensures { result ≡ digit_of c }
@@ -50,84 +30,63 @@ pub fn digit(c: u8) -> u32
 }
 
 // A whole decimal without sign, at most 1,000,000.
-pub fn decimal(w: &[u8]) -> Whole
+pub fn decimal(w: &[u8]) -> Option<u32>
     ensures { result ≡ decimal_of w.now }
 {
     if w.len() == 0 {
-        return Whole::Bad;
+        return None;
     }
     let mut n: u32 = 0;
-    let mut i: usize = 0;
-    while i < w.len() {
+    for i in 0usize..w.len() {
         let d = digit(w[i]);
         if d >= 10 {
-            return Whole::Bad;
+            return None;
         }
         n = n * 10 + d;
         if n > 1000000 {
-            return Whole::Bad;
+            return None;
         }
-        i += 1;
     }
-    Whole::Value(n)
+    Some(n)
 }
 
 // Sixteen hexadecimal digits.
-pub fn hexadecimal(w: &[u8]) -> Pattern
+pub fn hexadecimal(w: &[u8]) -> Option<u64>
     ensures { result ≡ hex_of w.now }
 {
     if w.len() != 16 {
-        return Pattern::Wrong;
+        return None;
     }
     let mut n: u64 = 0;
-    let mut i: usize = 0;
-    while i < w.len() {
+    for i in 0usize..w.len() {
         let d = digit(w[i]);
         if d >= 16 {
-            return Pattern::Wrong;
+            return None;
         }
         n = n * 16 + d as u64;
-        i += 1;
     }
-    Pattern::Bits(n)
+    Some(n)
 }
 
 // A number: # and sixteen hexadecimal digits, or a decimal, with - before it if negative.
-pub fn number(w: &[u8]) -> Numeral
+pub fn number(w: &[u8]) -> Option<f64>
     ensures { result ≡ numeral_of w.now }
 {
     if w.len() == 0 {
-        return Numeral::NoNumber;
+        return None;
     }
     let c = w[0];
     if c == 35 {
-        let p = hexadecimal(&w[1..]);
-        match p {
-            Pattern::Bits(b) => {
-                return Numeral::Float(floats::float_of(b));
-            }
-            Pattern::Wrong => {
-                return Numeral::NoNumber;
-            }
-        }
+        let b = hexadecimal(&w[1..])?;
+        return Some(floats::float_of(b));
     }
     if c == 45 {
-        let m = decimal(&w[1..]);
-        match m {
-            Whole::Value(n) => {
-                if n == 0 {
-                    return Numeral::Float(0.0);
-                }
-                return Numeral::Float(-(n as f64));
-            }
-            Whole::Bad => {
-                return Numeral::NoNumber;
-            }
+        let n = decimal(&w[1..])?;
+        if n == 0 {
+            return Some(0.0);
         }
+        return Some(-(n as f64));
     }
-    let d = decimal(w);
-    match d {
-        Whole::Value(n) => Numeral::Float(n as f64),
-        Whole::Bad => Numeral::NoNumber,
-    }
+    let n = decimal(w)?;
+    Some(n as f64)
 }

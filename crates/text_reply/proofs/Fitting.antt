@@ -11,7 +11,6 @@ use Rattle.refusals.specs.declared.Refusal.{Refusal}
 use Rattle.refusals.specs.declared.Refusal.TheVariants.{Lengths, Values, Parts, Measures, Placing, Extent, View as BadView, Point, Restarts, Waiting, Room, Stripes}
 use Rattle.scene.specs.Scenes.{Scene}
 use Rattle.view.specs.declared.View.{View}
-use Rattle.paths.specs.Answers.{Answer, answered, refused}
 use Rattle.paths.specs.Paths.{Paths}
 use Rattle.draw.specs.Draw.{draw_with}
 use Rattle.draw.proofs.Answered.{drawn-so, drawing-laid}
@@ -20,6 +19,7 @@ use Rattle.text_scene.specs.Texts.{Yard, yard_of}
 use Rattle.text_drawing.specs.Drawings.{fitting, laid}
 use Rattle.text_drawing.proofs.Sizes.{text-fits, refused-fits}
 use Rattle.text_reply.specs.Reply.{enough, yard_places, answer_text, drawn_text, read_text, reply_of, shown}
+use Rattle.std.specs.Prelude.{Err, Ok, Result}
 
 number_small : (k : Refusal) → number_of k < 10000
 unfolding number_of
@@ -40,11 +40,11 @@ drawn-fits : (s : Scene) (v : View) → length (drawn_text s v) ≤ enough
 unfolding answer_text
 drawn-fits s v = by (draw_with millionth s v yard_places) refl
   where
-    by : (a : Answer Paths) → draw_with millionth s v yard_places ≡ a → length (answer_text a) ≤ enough
-    by (answered p) e =
+    by : (a : Result Paths Refusal) → draw_with millionth s v yard_places ≡ a → length (answer_text a) ≤ enough
+    by (Ok p) e =
         let h = drawing-laid millionth s v yard_places p (drawn-so millionth s v yard_places p e) in
         text-fits p.vertices p.starts h.1 h.2 h.0
-    by (refused k) e = omega (arith, refused-fits (number_of k) (number_small k))
+    by (Err k) e = omega (arith, refused-fits (number_of k) (number_small k))
 
 reply-fits : (text : List ℕ) → length (reply_of text) ≤ enough
 unfolding reply_of read_text

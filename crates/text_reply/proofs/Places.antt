@@ -12,11 +12,8 @@ use Rattle.rows.specs.Rows.{view, flat, padded}
 use Rattle.rows.specs.Points.{points, point_of, point_row}
 use Rattle.rows.proofs.Rows.{length-flat, view-flat}
 use Rattle.tree_nodes.specs.Nodes.{places_of}
-use Rattle.paths.specs.Answers.{Answer, answered, refused}
 use Rattle.paths.specs.Paths.{Paths, paths_of}
 use Rattle.paths.specs.Ends.{places, all_points, counted, laid_points, laid_starts, Finished}
-use Rattle.paths.specs.declared.Count.{Count}
-use Rattle.paths.specs.declared.Counts.{Counts}
 use Rattle.view.specs.declared.View.{View}
 use Rattle.scene.specs.Scenes.{Scene}
 use Rattle.draw_render.specs.Render.{Places}
@@ -24,6 +21,8 @@ use Rattle.draw_render.specs.Slices.{places_in}
 use Rattle.draw.specs.Draw.{draw_with}
 use Rattle.text_drawing.specs.Drawings.{drawing_text, text_of, fitting, written, laid}
 use Rattle.text_reply.specs.Reply.{yard_places, answer_text, drawn_text}
+use Rattle.std.specs.Prelude.{Err, Ok, Result}
+use Rattle.refusals.specs.declared.Refusal.{Refusal}
 
 -- ---- the first points of a slice
 take-view : {A B : Type 0} (k : ℕ) (f : List A → B) (n m : ℕ) (xs : List A) → n ≤ m → take n (view k f m xs) ≡ view k f n xs
@@ -51,12 +50,12 @@ starts-back : (ss : List ℕ) (m : ℕ) → take (length ss) (padded 0 m ss) ≡
 unfolding padded
 starts-back ss m = take_at ss (replicate (m - length ss) 0) (length ss) refl
 
-left-text : (a : Answer Paths) (n m : ℕ) → text_of (counted a) (laid_points a n) (laid_starts a m) ≡ answer_text a
+left-text : (a : Result Paths Refusal) (n m : ℕ) → text_of (counted a) (laid_points a n) (laid_starts a m) ≡ answer_text a
 unfolding text_of answer_text
-left-text (answered p) n m = ap₂ (λ (x : List Vector) (y : List ℕ). drawing_text (paths_of x y)) (points-back p.vertices n) (starts-back p.starts m)
-left-text (refused k) n m = refl
+left-text (Ok p) n m = ap₂ (λ (x : List Vector) (y : List ℕ). drawing_text (paths_of x y)) (points-back p.vertices n) (starts-back p.starts m)
+left-text (Err k) n m = refl
 
-finished-text : (a : Answer Paths) (n m : ℕ) {xs : List Float} {ss : List ℕ} {c : Counts} → Finished a n m xs ss c → text_of c xs ss ≡ answer_text a
+finished-text : (a : Result Paths Refusal) (n m : ℕ) {xs : List Float} {ss : List ℕ} {c : Result (ℕ × ℕ) Refusal} → Finished a n m xs ss c → text_of c xs ss ≡ answer_text a
 finished-text a n m w = rw (w.answer, w.points_laid, w.starts_laid) (left-text a n m)
 
 -- ---- the places of `yard`
@@ -79,12 +78,12 @@ lent_is =
     (length-replicate 6144 zero_f) (length-replicate {A = ℕ} 2048 0)
 
 -- ---- what is written of a text is what is written of an equal one
-abbrev pub Wrote : List ℕ → ℕ → Count → List ℕ → Type 0
+abbrev pub Wrote : List ℕ → ℕ → Result ℕ Refusal → List ℕ → Type 0
 Wrote t room r ys = (r ≡ written (fitting room t)) × (ys ≡ laid (fitting room t) room)
 
-pub wrote_as : {s t : List ℕ} (room : ℕ) (r : Count) (ys : List ℕ) → s ≡ t → Wrote s room r ys → Wrote t room r ys
+pub wrote_as : {s t : List ℕ} (room : ℕ) (r : Result ℕ Refusal) (ys : List ℕ) → s ≡ t → Wrote s room r ys → Wrote t room r ys
 wrote_as room r ys e w = subst (λ (x : List ℕ). Wrote x room r ys) e w
 
-pub drawn-wrote : (s : Scene) (v : View) (n m : ℕ) (xs : List Float) (ss : List ℕ) {c : Counts} → Finished (draw_with millionth s v lent) n m xs ss c → (room : ℕ) (r : Count) (ys : List ℕ)
+pub drawn-wrote : (s : Scene) (v : View) (n m : ℕ) (xs : List Float) (ss : List ℕ) {c : Result (ℕ × ℕ) Refusal} → Finished (draw_with millionth s v lent) n m xs ss c → (room : ℕ) (r : Result ℕ Refusal) (ys : List ℕ)
     → Wrote (text_of c xs ss) room r ys → Wrote (drawn_text s v) room r ys
 drawn-wrote s v n m xs ss w room r ys = wrote_as room r ys (finished-text (draw_with millionth s v lent) n m w ∙ ap (λ (p : Places). answer_text (draw_with millionth s v p)) lent_is)

@@ -8,17 +8,16 @@ use Rattle.view.specs.declared.View.{View}
 use Rattle.scene.specs.Scenes.{scene_of}
 use Rattle.text_scene.specs.Texts.{yard_of}
 use Rattle.text_scene.specs.Readings.{reading_as}
-use Rattle.text_scene.specs.declared.Reading.{Reading}
-use Rattle.text_scene.specs.declared.Reading.TheVariants.{Scene as SceneRead, Refused}
 use Rattle.text_drawing.specs.Drawings.{refused_text}
 use Rattle.text_reply.specs.Reply.{drawn_text, read_text, reply_of}
+use Rattle.std.specs.Prelude.{None, Option, Some}
 
 -- what was read, and what the arrays hold then
-module _ (text : List ℕ) (r : Reading) (ns : List Float) (ms : List ℕ) (ps : List Float) (ss os : List ℕ) (is : reading_as r ns ms ps ss os ≡ yard_of text) where
-  pub reply-refused : r ≡ Refused → refused_text 1 ≡ reply_of text
+module _ (text : List ℕ) (r : Option (View × ℕ × ℕ × ℕ)) (ns : List Float) (ms : List ℕ) (ps : List Float) (ss os : List ℕ) (is : reading_as r ns ms ps ss os ≡ yard_of text) where
+  pub reply-refused : r ≡ None → refused_text 1 ≡ reply_of text
   unfolding reply_of read_text reading_as
   reply-refused f = sym (rw (← is, f))
 
-  pub reply-drawn : (v : View) (e p l : ℕ) → r ≡ SceneRead v e p l → drawn_text (scene_of (take (e * 16) ns) (take (e * 4) ms) (take (p * 3) ps) (take l ss) (take l os)) v ≡ reply_of text
+  pub reply-drawn : (v : View) (e p l : ℕ) → r ≡ Some (v, e, p, l) → drawn_text (scene_of (take (e * 16) ns) (take (e * 4) ms) (take (p * 3) ps) (take l ss) (take l os)) v ≡ reply_of text
   unfolding reply_of read_text reading_as
   reply-drawn v e p l f = sym (rw (← is, f))

@@ -1,9 +1,8 @@
 -- What the program `yard` answers a text: the drawing of the scene that it stands for, or why it is refused.
-use Rattle.std.specs.Prelude.{ℕ, List, []}
+use Rattle.std.specs.Prelude.{ℕ, List, [], Err, Ok, Result}
 use Rattle.floats.specs.Arith.{millionth}
 use Rattle.refusals.specs.Refusals.{number_of}
 use Rattle.scene.specs.Scenes.{Scene}
-use Rattle.paths.specs.Answers.{Answer, answered, refused}
 use Rattle.paths.specs.Paths.{Paths, paths_of}
 use Rattle.view.specs.declared.View.{View}
 use Rattle.draw_render.specs.Render.{Places}
@@ -11,6 +10,7 @@ use Rattle.draw.specs.Draw.{draw_with}
 use Rattle.text_tokens.specs.Tokens.{Got, no, got}
 use Rattle.text_scene.specs.Texts.{Yard, yard_of}
 use Rattle.text_drawing.specs.Drawings.{drawing_text, refused_text}
+use Rattle.refusals.specs.declared.Refusal.{Refusal}
 
 -- the places of `yard`: 2,048 points, path starts or nodes in each slice
 abbrev pub yard_places : Places
@@ -23,9 +23,9 @@ yard_places = record {
 }
 
 -- the text of a draw's answer: its paths, or the number of its refusal
-unfoldable pub answer_text : Answer Paths → List ℕ
-answer_text (answered p) = drawing_text (paths_of p.vertices p.starts)
-answer_text (refused k) = refused_text (number_of k)
+unfoldable pub answer_text : Result Paths Refusal → List ℕ
+answer_text (Ok p) = drawing_text (paths_of p.vertices p.starts)
+answer_text (Err k) = refused_text (number_of k)
 
 -- document 02: `yard` passes 1e-6 itself
 abbrev pub drawn_text : Scene → View → List ℕ
@@ -44,6 +44,6 @@ abbrev pub enough : ℕ
 enough = 129039
 
 -- what is printed of a text that has to fit in a slice: all of it, or nothing
-unfoldable pub shown : Answer (List ℕ) → List ℕ
-shown (answered t) = t
-shown (refused k) = []
+unfoldable pub shown : Result (List ℕ) Refusal → List ℕ
+shown (Ok t) = t
+shown (Err k) = []

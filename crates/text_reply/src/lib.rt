@@ -6,8 +6,7 @@ ghost use Rattle.scene.specs.Scenes.{scene_of};
 ghost use Rattle.text_drawing.specs.Drawings.{fitting, written, laid};
 ghost use Rattle.text_reply.specs.Reply.{enough, drawn_text, reply_of, shown};
 
-use paths::Count;
-use text_scene::Reading;
+use refusals::Refusal;
 use view::View;
 
 // Draws a scene in the places of `yard`, in fine detail, and writes the text of the drawing, or of its refusal.
@@ -19,7 +18,7 @@ fn drawn(
     owners: &[u32],
     view: View,
     text: &mut [u8],
-) -> Count
+) -> Result<usize, Refusal>
     ensures answer { result ≡ written (fitting (length text.old) (drawn_text (scene_of numbers.now marks.now points.now starts.now owners.now) view)) }
     ensures lent { text.new ≡ laid (fitting (length text.old) (drawn_text (scene_of numbers.now marks.now points.now starts.now owners.now) view)) (length text.old) }
 {
@@ -55,7 +54,7 @@ fn drawn(
 
 // Writes what `yard` answers a text into `out`, then zeros, and answers how many bytes it has. A slice
 // that is too short for it is zeros throughout, and the answer is that there is no room.
-pub fn reply(text: &[u8], out: &mut [u8]) -> Count
+pub fn reply(text: &[u8], out: &mut [u8]) -> Result<usize, Refusal>
     ensures answer { result ≡ written (fitting (length out.old) (reply_of text.now)) }
     ensures lent { out.new ≡ laid (fitting (length out.old) (reply_of text.now)) (length out.old) }
 {
@@ -73,8 +72,8 @@ pub fn reply(text: &[u8], out: &mut [u8]) -> Count
         &mut owners,
     );
     match r {
-        Reading::Refused => text_drawing::write_refused(1, out),
-        Reading::Scene(view, e, p, l) => drawn(
+        None => text_drawing::write_refused(1, out),
+        Some((view, e, p, l)) => drawn(
             &numbers[..e * 16],
             &marks[..e * 4],
             &points[..p * 3],
@@ -95,7 +94,7 @@ pub fn answer(text: &[u8], out: &mut [u8]) -> usize
 {
     let r = reply(text, out);
     match r {
-        Count::At(n) => n,
-        Count::Refused(_) => 0,
+        Ok(n) => n,
+        Err(_) => 0,
     }
 }

@@ -8,8 +8,7 @@ ghost use Rattle.text_writer.specs.Writer.{written_of};
 ghost use Rattle.text_reply.specs.Reply.{shown};
 ghost use Rattle.text_restate.specs.Restating.{writer_text, restate_of};
 
-use paths::Count;
-use text_scene::Reading;
+use refusals::Refusal;
 use view::View;
 
 // The canonical text of a view and a scene, or the text of its refusal.
@@ -21,20 +20,20 @@ fn restated(
     owners: &[u32],
     view: View,
     out: &mut [u8],
-) -> Count
+) -> Result<usize, Refusal>
     ensures answer { result ≡ written (fitting (length out.old) (writer_text (written_of (length out.old) (scene_of numbers.now marks.now points.now starts.now owners.now) view))) }
     ensures lent { out.new ≡ laid (fitting (length out.old) (writer_text (written_of (length out.old) (scene_of numbers.now marks.now points.now starts.now owners.now) view))) (length out.old) }
 {
     let c = text_writer::write(numbers, marks, points, starts, owners, view, out);
     match c {
-        Count::At(n) => Count::At(n),
-        Count::Refused(k) => text_drawing::write_refused(k.number(), out),
+        Ok(n) => Ok(n),
+        Err(k) => text_drawing::write_refused(k.number(), out),
     }
 }
 
 // Writes what `canonical` answers a text into `out`, then zeros, and answers how many bytes it has. A slice
 // that is too short for the yard's text holds the refusal, and one too short for that zeros throughout.
-pub fn restate(text: &[u8], out: &mut [u8]) -> Count
+pub fn restate(text: &[u8], out: &mut [u8]) -> Result<usize, Refusal>
     ensures answer { result ≡ written (fitting (length out.old) (restate_of (length out.old) text.now)) }
     ensures lent { out.new ≡ laid (fitting (length out.old) (restate_of (length out.old) text.now)) (length out.old) }
 {
@@ -52,8 +51,8 @@ pub fn restate(text: &[u8], out: &mut [u8]) -> Count
         &mut owners,
     );
     match r {
-        Reading::Refused => text_drawing::write_refused(1, out),
-        Reading::Scene(view, e, p, l) => restated(
+        None => text_drawing::write_refused(1, out),
+        Some((view, e, p, l)) => restated(
             &numbers[..e * 16],
             &marks[..e * 4],
             &points[..p * 3],
@@ -72,7 +71,7 @@ pub fn answer(text: &[u8], out: &mut [u8]) -> usize
 {
     let r = restate(text, out);
     match r {
-        Count::At(n) => n,
-        Count::Refused(_) => 0,
+        Ok(n) => n,
+        Err(_) => 0,
     }
 }

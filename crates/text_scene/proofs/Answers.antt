@@ -17,18 +17,11 @@ use Rattle.text_tokens.specs.Tokens.{Got, no, got, and_then, left, part, is_over
 use Rattle.text_heads.specs.Heads.{view_in}
 use Rattle.text_heads.specs.Cursors.{scene_upto, viewed_as}
 use Rattle.text_heads.specs.declared.Cursor.{Cursor}
-use Rattle.text_heads.specs.declared.Next.{Next}
-use Rattle.text_heads.specs.declared.Next.TheVariants.{To, No}
-use Rattle.text_heads.specs.declared.Viewed.{Viewed}
-use Rattle.text_heads.specs.declared.Viewed.TheVariants.{Seen, Unseen}
 use Rattle.text_scene.specs.Texts.{Yard, lines_left, whole_line, forms_in, empty_scene, yard_in, yard_of}
 use Rattle.text_scene.specs.Answers.{reading_of, scene_read}
 use Rattle.text_scene.specs.Readings.{line_as, scene_as, reading_as, WithinReading, ReadingFits}
-use Rattle.text_scene.specs.declared.Line.{Line}
-use Rattle.text_scene.specs.declared.Line.TheVariants.{At, Over}
-use Rattle.text_scene.specs.declared.Reading.{Reading}
-use Rattle.text_scene.specs.declared.Reading.TheVariants.{Scene as SceneRead, Refused}
 use Rattle.text_scene.proofs.Texts.{whole-over, whole-more}
+use Rattle.std.specs.Prelude.{None, Option, Some}
 
 -- ---- the view and the forms after it
 module _ (s : List ℕ) where
@@ -36,51 +29,51 @@ module _ (s : List ℕ) where
   unfolding yard_of
   yard-long h = rw (lt-leb (length s) 65536 h)
 
-  module _ (short : length s ≤ 65536) {l : Line} (line : lines_left s 0 ≡ line_as s l) where
-    pub yard-empty : l ≡ Over → no ≡ yard_of s
+  module _ (short : length s ≤ 65536) {l : Option (ℕ × ℕ)} (line : lines_left s 0 ≡ line_as s l) where
+    pub yard-empty : l ≡ None → no ≡ yard_of s
     unfolding yard_of yard_in line_as
     yard-empty f = rw (le-leb (length s) 65536 short, line, f)
 
-    module _ {a e : ℕ} (f : l ≡ At a e) (v : Viewed) (viewed : viewed_as (part a e s) v ≡ view_in (left (part a e s) 0)) where
+    module _ {a e : ℕ} (f : l ≡ Some (a, e)) (v : Option (View × ℕ)) (viewed : viewed_as (part a e s) v ≡ view_in (left (part a e s) 0)) where
       next : yard_of s ≡ and_then (whole_line (viewed_as (part a e s) v)) (λ x _. and_then (forms_in empty_scene (lines_left s (e + 1))) (λ y ts. got (record { view = x; scene = y }) ts))
       unfolding yard_of yard_in line_as
       next = rw (le-leb (length s) 65536 short, line, f, viewed)
 
-      pub yard-unseen : v ≡ Unseen → no ≡ yard_of s
+      pub yard-unseen : v ≡ None → no ≡ yard_of s
       unfolding viewed_as whole_line and_then
       yard-unseen p = sym (next ∙ rw p)
 
-      module _ {x : View} {k : ℕ} (p : v ≡ Seen x k) {b : Bool} (over : b ≡ is_over (left (part a e s) k)) where
+      module _ {x : View} {k : ℕ} (p : v ≡ Some (x, k)) {b : Bool} (over : b ≡ is_over (left (part a e s) k)) where
         pub yard-more : b ≡ false → no ≡ yard_of s
         unfolding viewed_as and_then
         yard-more q = sym (next ∙ rw (p, whole-more x (left (part a e s) k) (sym over ∙ q)))
 
-        module _ (q : b ≡ true) (ns : List Float) (ms : List ℕ) (ps : List Float) (ss os : List ℕ) (r : Next) (forms : scene_as r ns ms ps ss os ≡ forms_in empty_scene (lines_left s (e + 1))) where
+        module _ (q : b ≡ true) (ns : List Float) (ms : List ℕ) (ps : List Float) (ss os : List ℕ) (r : Option Cursor) (forms : scene_as r ns ms ps ss os ≡ forms_in empty_scene (lines_left s (e + 1))) where
           seen : yard_of s ≡ and_then (scene_as r ns ms ps ss os) (λ y ts. got (record { view = x; scene = y }) ts)
           unfolding viewed_as and_then
           seen = next ∙ rw (p, whole-over x (left (part a e s) k) (sym over ∙ q), forms)
 
-          pub yard-no : r ≡ No → no ≡ yard_of s
+          pub yard-no : r ≡ None → no ≡ yard_of s
           unfolding scene_as and_then
           yard-no t = sym (seen ∙ rw t)
 
-          pub yard-read : {c : Cursor} → r ≡ To c → reading_as (SceneRead x c.entries c.points c.lines) ns ms ps ss os ≡ yard_of s
+          pub yard-read : {c : Cursor} → r ≡ Some c → reading_as (Some (x, c.entries, c.points, c.lines)) ns ms ps ss os ≡ yard_of s
           unfolding scene_as and_then reading_as scene_upto
           yard-read t = sym (seen ∙ rw t)
 
 -- ---- the arrays
-pub fits-within : (r : Reading) (ns : List Float) (ms : List ℕ) (ps : List Float) (ss os : List ℕ) → WithinReading r
+pub fits-within : (r : Option (View × ℕ × ℕ × ℕ)) (ns : List Float) (ms : List ℕ) (ps : List Float) (ss os : List ℕ) → WithinReading r
     → length ns ≡ 8192 → length ms ≡ 2048 → length ps ≡ 6144 → length ss ≡ 2048 → length os ≡ 2048 → ReadingFits r ns ms ps ss os
 unfolding WithinReading ReadingFits
-fits-within (SceneRead v e p l) ns ms ps ss os w a b c d g = (omega (arith, w.0, a), (omega (arith, w.0, b), (omega (arith, w.1.0, c), (omega (arith, w.1.1, d), omega (arith, w.1.1, g)))))
-fits-within Refused ns ms ps ss os w a b c d g = tt
+fits-within (Some (v, e, p, l)) ns ms ps ss os w a b c d g = (omega (arith, w.0, a), (omega (arith, w.0, b), (omega (arith, w.1.0, c), (omega (arith, w.1.1, d), omega (arith, w.1.1, g)))))
+fits-within None ns ms ps ss os w a b c d g = tt
 
-pub read_fits : {r : Reading} {v : View} {e p l : ℕ} (ns : List Float) (ms : List ℕ) (ps : List Float) (ss os : List ℕ) → ReadingFits r ns ms ps ss os → r ≡ SceneRead v e p l
+pub read_fits : {r : Option (View × ℕ × ℕ × ℕ)} {v : View} {e p l : ℕ} (ns : List Float) (ms : List ℕ) (ps : List Float) (ss os : List ℕ) → ReadingFits r ns ms ps ss os → r ≡ Some (v, e, p, l)
     → (e * 16 ≤ length ns) × ((e * 4 ≤ length ms) × ((p * 3 ≤ length ps) × ((l ≤ length ss) × (l ≤ length os))))
 unfolding ReadingFits
 read_fits ns ms ps ss os w f = rw f at w
 
-pub read-within : {r : Reading} {v : View} {e p l : ℕ} → WithinReading r → r ≡ SceneRead v e p l → (e ≤ 512) × ((p ≤ 2048) × (l ≤ 2048))
+pub read-within : {r : Option (View × ℕ × ℕ × ℕ)} {v : View} {e p l : ℕ} → WithinReading r → r ≡ Some (v, e, p, l) → (e ≤ 512) × ((p ≤ 2048) × (l ≤ 2048))
 unfolding WithinReading
 read-within w f = rw f at w
 
@@ -92,7 +85,7 @@ cleared z m n xs l e w = w ∙ padded-take z xs n l ∙ rw e
 pub kept-front : {A : Type 0} (z : A) (n : ℕ) (xs : List A) {ys : List A} → n ≤ length xs → ys ≡ take n xs ++ replicate (length xs - n) z → take n ys ≡ take n xs
 kept-front z n xs l w = ap (take n) w ∙ take_at (take n xs) (replicate (length xs - n) z) n (length-take-le n xs l)
 
-module _ (x : Got Yard) (v : View) (e p l : ℕ) (ns : List Float) (ms : List ℕ) (ps : List Float) (ss os : List ℕ) {r : Reading} (is : reading_as r ns ms ps ss os ≡ x) (f : r ≡ SceneRead v e p l) (fits : ReadingFits r ns ms ps ss os) where
+module _ (x : Got Yard) (v : View) (e p l : ℕ) (ns : List Float) (ms : List ℕ) (ps : List Float) (ss os : List ℕ) {r : Option (View × ℕ × ℕ × ℕ)} (is : reading_as r ns ms ps ss os ≡ x) (f : r ≡ Some (v, e, p, l)) (fits : ReadingFits r ns ms ps ss os) where
   all : (e * 16 ≤ length ns) × ((e * 4 ≤ length ms) × ((p * 3 ≤ length ps) × ((l ≤ length ss) × (l ≤ length os))))
   all = read_fits ns ms ps ss os fits f
 
@@ -100,7 +93,7 @@ module _ (x : Got Yard) (v : View) (e p l : ℕ) (ns : List Float) (ms : List �
   unfolding reading_as
   scene = sym is ∙ rw f
 
-  pub read_answer : SceneRead v e p l ≡ reading_of x
+  pub read_answer : Some (v, e, p, l) ≡ reading_of x
   unfolding reading_of
   read_answer =
       let a : length (take (e * 4) ms) / 4 ≡ e = (let t : length (take (e * 4) ms) ≡ e * 4 = length-take-le (e * 4) ms all.1.0 in rw t (omega arith)) in
@@ -130,26 +123,26 @@ module _ (x : Got Yard) (v : View) (e p l : ℕ) (ns : List Float) (ms : List �
   module _ (ns' : List Float) (ms' : List ℕ) (ps' : List Float) (ss' os' : List ℕ) where
     pub read_held : ns' ≡ take (e * 16) ns ++ replicate (length ns - e * 16) zero_f → ms' ≡ take (e * 4) ms ++ replicate (length ms - e * 4) 0
         → ps' ≡ take (p * 3) ps ++ replicate (length ps - p * 3) zero_f → ss' ≡ take l ss ++ replicate (length ss - l) 0 → os' ≡ take l os ++ replicate (length os - l) 0
-        → reading_as (SceneRead v e p l) ns' ms' ps' ss' os' ≡ x
+        → reading_as (Some (v, e, p, l)) ns' ms' ps' ss' os' ≡ x
     unfolding reading_as
     read_held a b c d g =
         rw (kept-front zero_f (e * 16) ns all.0 a, kept-front 0 (e * 4) ms all.1.0 b, kept-front zero_f (p * 3) ps all.1.1.0 c, kept-front 0 l ss all.1.1.1.0 d, kept-front 0 l os all.1.1.1.1 g)
         (sym scene)
 
-    pub held_fits : length ns' ≡ length ns → length ms' ≡ length ms → length ps' ≡ length ps → length ss' ≡ length ss → length os' ≡ length os → ReadingFits (SceneRead v e p l) ns' ms' ps' ss' os'
+    pub held_fits : length ns' ≡ length ns → length ms' ≡ length ms → length ps' ≡ length ps → length ss' ≡ length ss → length os' ≡ length os → ReadingFits (Some (v, e, p, l)) ns' ms' ps' ss' os'
     unfolding ReadingFits
     held_fits a b c d g = (omega (arith, all.0, a), (omega (arith, all.1.0, b), (omega (arith, all.1.1.0, c), (omega (arith, all.1.1.1.0, d), omega (arith, all.1.1.1.1, g)))))
 
-module _ (x : Got Yard) (ns : List Float) (ms : List ℕ) (ps : List Float) (ss os : List ℕ) {r : Reading} (is : reading_as r ns ms ps ss os ≡ x) (f : r ≡ Refused) where
+module _ (x : Got Yard) (ns : List Float) (ms : List ℕ) (ps : List Float) (ss os : List ℕ) {r : Option (View × ℕ × ℕ × ℕ)} (is : reading_as r ns ms ps ss os ≡ x) (f : r ≡ None) where
   none : x ≡ no
   unfolding reading_as
   none = sym is ∙ rw f
 
-  pub refused-held : (ns' : List Float) (ms' : List ℕ) (ps' : List Float) (ss' os' : List ℕ) → reading_as Refused ns' ms' ps' ss' os' ≡ x
+  pub refused-held : (ns' : List Float) (ms' : List ℕ) (ps' : List Float) (ss' os' : List ℕ) → reading_as None ns' ms' ps' ss' os' ≡ x
   unfolding reading_as
   refused-held ns' ms' ps' ss' os' = sym none
 
-  pub refused-answer : Refused ≡ reading_of x
+  pub refused-answer : None ≡ reading_of x
   unfolding reading_of
   refused-answer = rw none
 
@@ -177,6 +170,6 @@ module _ (x : Got Yard) (ns : List Float) (ms : List ℕ) (ps : List Float) (ss 
   unfolding scene_read
   refused-owners m k w = rw none (zeros 0 m os k w)
 
-pub refused-fits : (ns : List Float) (ms : List ℕ) (ps : List Float) (ss os : List ℕ) → ReadingFits Refused ns ms ps ss os
+pub refused-fits : (ns : List Float) (ms : List ℕ) (ps : List Float) (ss os : List ℕ) → ReadingFits None ns ms ps ss os
 unfolding ReadingFits
 refused-fits ns ms ps ss os = tt

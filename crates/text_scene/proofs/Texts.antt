@@ -14,13 +14,10 @@ use Rattle.text_tokens.specs.Tokens.{Token, no, got, and_then, left, part, token
 use Rattle.text_tokens.proofs.Tokens.{part-more}
 use Rattle.text_heads.specs.Cursors.{scene_upto, next_as, CursorWithin}
 use Rattle.text_heads.specs.declared.Cursor.{Cursor}
-use Rattle.text_heads.specs.declared.Next.{Next}
-use Rattle.text_heads.specs.declared.Next.TheVariants.{To, No}
 use Rattle.text_forms.specs.Forms.{form}
 use Rattle.text_scene.specs.Texts.{lines_from, unless_empty, filled, lines_left, whole_line, forms_in, empty_scene}
 use Rattle.text_scene.specs.Readings.{line_as, LineWithin, scene_as}
-use Rattle.text_scene.specs.declared.Line.{Line}
-use Rattle.text_scene.specs.declared.Line.TheVariants.{At, Over}
+use Rattle.std.specs.Prelude.{None, Option, Some}
 
 -- ---- the end of a line: its bytes up to i are no line feeds
 pub record Running (s : List ℕ) (at i : ℕ) : Type 0 where
@@ -83,15 +80,15 @@ module _ (s : List ℕ) (at : ℕ) where
       pub skipped-turn : a ≤ e → b ≡ true → Skipped s at (e + 1)
       skipped-turn l f = record { from = omega (arith, h.from); same = h.same ∙ end ∙ empty-skipped (left (part a e s) 0) (lines_left s (e + 1)) (sym over ∙ f) }
 
-      pub skipped-line : b ≡ false → lines_left s at ≡ line_as s (At a e)
+      pub skipped-line : b ≡ false → lines_left s at ≡ line_as s (Some (a, e))
       unfolding line_as
       skipped-line f = h.same ∙ end ∙ filled-kept (left (part a e s) 0) (lines_left s (e + 1)) (sym over ∙ f)
 
-    pub skipped-over : length s < a → lines_left s at ≡ line_as s Over
+    pub skipped-over : length s < a → lines_left s at ≡ line_as s None
     unfolding line_as
     skipped-over l = h.same ∙ after s at a (omega arith)
 
-pub line-lies : (n at : ℕ) {l : Line} {a e : ℕ} → LineWithin n at l → l ≡ At a e → (at ≤ a) × ((a ≤ e) × (e ≤ n))
+pub line-lies : (n at : ℕ) {l : Option (ℕ × ℕ)} {a e : ℕ} → LineWithin n at l → l ≡ Some (a, e) → (at ≤ a) × ((a ≤ e) × (e ≤ n))
 unfolding LineWithin
 line-lies n at i p = rw p at i
 
@@ -124,24 +121,24 @@ module _ (s : List ℕ) (at : ℕ) (ns₀ : List Float) (ms₀ : List ℕ) (ps�
   unfolding scene_upto
   formed-start = record { within = record { entries = omega arith; points = omega arith; lines = omega arith }; long-ns = refl; long-ms = refl; long-ps = refl; long-ss = refl; long-os = refl; same = refl }
 
-  module _ (ns : List Float) (ms : List ℕ) (ps : List Float) (ss os : List ℕ) (i : ℕ) (c : Cursor) (h : Formed s at ns₀ ms₀ ps₀ ss₀ os₀ ns ms ps ss os i c) {l : Line} (line : lines_left s i ≡ line_as s l) where
-    pub formed-end : l ≡ Over → scene_as (To c) ns ms ps ss os ≡ forms_in empty_scene (lines_left s at)
+  module _ (ns : List Float) (ms : List ℕ) (ps : List Float) (ss os : List ℕ) (i : ℕ) (c : Cursor) (h : Formed s at ns₀ ms₀ ps₀ ss₀ os₀ ns ms ps ss os i c) {l : Option (ℕ × ℕ)} (line : lines_left s i ≡ line_as s l) where
+    pub formed-end : l ≡ None → scene_as (Some c) ns ms ps ss os ≡ forms_in empty_scene (lines_left s at)
     unfolding scene_as line_as forms_in
     formed-end f = sym (h.same ∙ rw (line, f))
 
-    module _ {a e : ℕ} (f : l ≡ At a e) (ns' : List Float) (ms' : List ℕ) (ps' : List Float) (ss' os' : List ℕ) (r : Next)
+    module _ {a e : ℕ} (f : l ≡ Some (a, e)) (ns' : List Float) (ms' : List ℕ) (ps' : List Float) (ss' os' : List ℕ) (r : Option Cursor)
         (read : next_as (part a e s) r ns' ms' ps' ss' os' ≡ form 512 (scene_upto (unread c) ns ms ps ss os) (left (part a e s) 0)) where
       -- the form of the next line
       next : forms_in empty_scene (lines_left s at) ≡ and_then (whole_line (next_as (part a e s) r ns' ms' ps' ss' os')) (λ b _. forms_in b (lines_left s (e + 1)))
       unfolding line_as forms_in scene_upto
       next = h.same ∙ rw (line, f, read)
 
-      pub formed-no : r ≡ No → scene_as No ns' ms' ps' ss' os' ≡ forms_in empty_scene (lines_left s at)
+      pub formed-no : r ≡ None → scene_as None ns' ms' ps' ss' os' ≡ forms_in empty_scene (lines_left s at)
       unfolding scene_as next_as whole_line and_then
       formed-no p = sym (next ∙ rw p)
 
-      module _ {g : Cursor} (p : r ≡ To g) {b : Bool} (over : b ≡ is_over (left (part a e s) g.at)) where
-        pub formed-more : b ≡ false → scene_as No ns' ms' ps' ss' os' ≡ forms_in empty_scene (lines_left s at)
+      module _ {g : Cursor} (p : r ≡ Some g) {b : Bool} (over : b ≡ is_over (left (part a e s) g.at)) where
+        pub formed-more : b ≡ false → scene_as None ns' ms' ps' ss' os' ≡ forms_in empty_scene (lines_left s at)
         unfolding scene_as next_as and_then
         formed-more q = sym (next ∙ rw (p, whole-more (scene_upto g ns' ms' ps' ss' os') (left (part a e s) g.at) (sym over ∙ q)))
 

@@ -1,20 +1,19 @@
 -- What a text is answered with, and what the lent arrays hold then.
-use Rattle.std.specs.Prelude.{ℕ, ◌/◌, length}
+use Rattle.std.specs.Prelude.{ℕ, ◌/◌, length, None, Option, Some}
 use Rattle.scene.specs.Scenes.{Scene, entries_of}
 use Rattle.text_tokens.specs.Tokens.{Got, no, got}
 use Rattle.text_scene.specs.Texts.{Yard, empty_scene}
-use Rattle.text_scene.specs.declared.Reading.{Reading}
-use Rattle.text_scene.specs.declared.Reading.TheVariants.{Scene as SceneRead, Refused}
+use Rattle.view.specs.declared.View.{View}
 
 -- document 01's number: 1 where the text is refused, 0 where it is not
-unfoldable pub reading_number : Reading → ℕ
-reading_number (SceneRead v e p l) = 0
-reading_number Refused = 1
+unfoldable pub reading_number : Option (View × ℕ × ℕ × ℕ) → ℕ
+reading_number (Some (v, e, p, l)) = 0
+reading_number None = 1
 
 -- the view, and how many entries, points and lines there are
-unfoldable pub reading_of : Got Yard → Reading
-reading_of (got y ts) = SceneRead y.view (entries_of y.scene) (length y.scene.points / 3) (length y.scene.starts)
-reading_of no = Refused
+unfoldable pub reading_of : Got Yard → Option (View × ℕ × ℕ × ℕ)
+reading_of (got y ts) = Some (y.view, (entries_of y.scene), (length y.scene.points / 3), (length y.scene.starts))
+reading_of no = None
 
 -- what was read; nothing after a refusal
 unfoldable pub scene_read : Got Yard → Scene

@@ -1,19 +1,19 @@
 -- The tokens from a place on, by the byte that stands there.
 use Prim.Native.Nat.{ℕ, zero, suc, ◌+◌, ◌-◌, ◌≤◌, ◌<◌}
 use mathlib.Core.Path.{◌≡◌, refl, ap, sym, ◌∙◌}
-use mathlib.Core.Bool.{Bool, true, false}
+use mathlib.Core.Bool.{Bool, true, false, not}
 use mathlib.Core.List.{List, [], ◌∷◌, ◌++◌}
 use native.Mathlib.Numerals.{add-one}
 use native.Mathlib.Omega.{arith}
 use lib.ListN.{length, take, drop, get_or, drop_of_length-le, length-drop}
 use lib.Seq.{drop-cons, take-suc, get_or-drop}
 use borrow.Author.Tests.{ne_eqb}
-use Rattle.text_tokens.specs.Seen.{TokenWithin, WordWithin}
-use Rattle.text_tokens.specs.declared.Located.{Located}
-use Rattle.text_tokens.specs.declared.Located.TheVariants.{At}
+use Rattle.text_tokens.specs.Seen.{seen, TokenWithin, WordWithin}
 use Rattle.text_tokens.specs.declared.Tok.{Tok}
-use Rattle.text_tokens.specs.declared.Tok.TheVariants.{Word}
-use Rattle.text_tokens.specs.Tokens.{Token, opens, closes, word, word_byte, marked, flush, tokens_from, left, part}
+use Rattle.text_tokens.specs.declared.Tok.TheVariants.{Opens, Closes, Word}
+use Rattle.text_tokens.specs.Tokens.{Token, opens, closes, word, word_byte, marked, flush, tokens_from, left, part, is_over}
+use Rattle.std.specs.Prelude.{None, Option, Some}
+use Rattle.std.specs.Prelude.{is_some}
 
 module _ (s : List ℕ) (i : ℕ) (l : i < length s) where
   -- a byte that is no word's, after the bytes w of a word
@@ -98,10 +98,22 @@ pub is_word : (b : ℕ) → (b ≡ 32 → ⊥) → (b ≡ 40 → ⊥) → (b ≡
 unfolding word_byte
 is_word b p q r = simp (ne_eqb b 32 p, ne_eqb b 40 q, ne_eqb b 41 r)
 
-pub inside-word : (n : ℕ) {t : Tok} {a e : ℕ} → TokenWithin n t → t ≡ Word a e → (a ≤ e) × (e ≤ n)
+pub inside-word : (n : ℕ) {t : Option Tok} {a e : ℕ} → TokenWithin n t → t ≡ Some (Word a e) → (a ≤ e) × (e ≤ n)
 unfolding TokenWithin
 inside-word n i p = rw p at i
 
-pub lies_at : (n : ℕ) {t : Located} {a e : ℕ} → WordWithin n t → t ≡ At a e → (a ≤ e) × (e ≤ n)
+pub lies_at : (n : ℕ) {t : Option (ℕ × ℕ)} {a e : ℕ} → WordWithin n t → t ≡ Some (a, e) → (a ≤ e) × (e ≤ n)
 unfolding WordWithin
 lies_at n i p = rw p at i
+
+-- no token is seen where none was found
+pub none_over : (s : List ℕ) (t : Option Tok) (r : Bool) → is_some t ≡ not r → r ≡ is_over (seen s t)
+unfolding seen is_over
+none_over s None true e = refl
+none_over s None false e = cc
+none_over s (Some (Opens n)) true e = cc
+none_over s (Some (Opens n)) false e = refl
+none_over s (Some (Closes n)) true e = cc
+none_over s (Some (Closes n)) false e = refl
+none_over s (Some (Word a n)) true e = cc
+none_over s (Some (Word a n)) false e = refl

@@ -1,10 +1,6 @@
 -- A line of text as a list of tokens, and readers of its first tokens.
-use Rattle.std.specs.Prelude.{ℕ, ◌+◌, ◌-◌, Bool, true, false, cond, not, ◌||◌, List, [], ◌∷◌, ◌++◌, eqb, take, drop, Float}
+use Rattle.std.specs.Prelude.{ℕ, ◌-◌, Bool, true, false, cond, not, ◌||◌, List, [], ◌∷◌, ◌++◌, eqb, take, drop, Float, None, Option, Some}
 use Rattle.text_numbers.specs.Numerals.{numeral_of, decimal_of}
-use Rattle.text_numbers.specs.declared.Whole.{Whole}
-use Rattle.text_numbers.specs.declared.Whole.TheVariants.{Value, Bad}
-use Rattle.text_numbers.specs.declared.Numeral.{Numeral}
-use Rattle.text_numbers.specs.declared.Numeral.TheVariants.{Float as float, NoNumber}
 
 pub data Token : Type 0 where
   opens : Token
@@ -72,16 +68,16 @@ unfoldable pub is_over : List Token → Bool
 is_over [] = true
 is_over (t ∷ ts) = false
 
-unfoldable pub real_of : Numeral → List Token → Got Float
-real_of (float x) ts = got x ts
-real_of NoNumber ts = no
+unfoldable pub real_of : Option Float → List Token → Got Float
+real_of (Some x) ts = got x ts
+real_of None ts = no
 
 unfoldable pub number_in : List Token → Got Float
 number_in ts = and_then (word_in ts) (λ w us. real_of (numeral_of w) us)
 
-unfoldable pub whole_of : Whole → List Token → Got ℕ
-whole_of (Value n) ts = got n ts
-whole_of Bad ts = no
+unfoldable pub whole_of : Option ℕ → List Token → Got ℕ
+whole_of (Some n) ts = got n ts
+whole_of None ts = no
 
 -- a decimal without sign
 unfoldable pub count_in : List Token → Got ℕ

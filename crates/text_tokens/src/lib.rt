@@ -11,32 +11,6 @@ pub enum Tok {
     Opens(usize),
     Closes(usize),
     Word(usize, usize),
-    Over,
-}
-
-// A word's begin and end, or that there is none.
-#[derive(Clone, Copy)]
-pub enum Located {
-    At(usize, usize),
-    Nowhere,
-}
-
-#[derive(Clone, Copy)]
-pub enum Step {
-    To(usize),
-    Off,
-}
-
-#[derive(Clone, Copy)]
-pub enum NumberRead {
-    Real(f64, usize),
-    Absent,
-}
-
-#[derive(Clone, Copy)]
-pub enum Counted {
-    Count(u32, usize),
-    Uncounted,
 }
 
 // Whether a byte is a word's: no space and no bracket.
@@ -59,14 +33,12 @@ fn in_word(b: u8) -> bool
 fn skip(text: &[u8], at: usize) -> usize
     ensures { (left text.now at ≡ left text.now result) × (result < length text.now → get_or text.now result 0 ≡ 32 → ⊥) }
 {
-    let mut i = at;
-    while i < text.len() {
+    for i in at..text.len() {
         if text[i] != 32 {
             return i;
         }
-        i += 1;
     }
-    i
+    text.len()
 }
 
 // The end of the word that starts at `at`.
@@ -74,71 +46,63 @@ fn word_end(text: &[u8], at: usize) -> usize
     requires { (at < length text.now) × (word_byte (get_or text.now at 0) ≡ true) }
     ensures { (at ≤ result) × (result ≤ length text.now) × (left text.now at ≡ word (part at result text.now) ∷ left text.now result) }
 {
-    let mut i = at + 1;
-    while i < text.len() {
+    for i in at + 1..text.len() {
         if !in_word(text[i]) {
             return i;
         }
-        i += 1;
     }
-    i
+    text.len()
 }
 
 // The token at or after `at`.
-pub fn token(text: &[u8], at: usize) -> Tok
+pub fn token(text: &[u8], at: usize) -> Option<Tok>
     ensures { (seen text.now result ≡ left text.now at) × TokenWithin (length text.now) result }
 {
     let i = skip(text, at);
     if i >= text.len() {
-        return Tok::Over;
+        return None;
     }
     let b = text[i];
     if b == 40 {
-        return Tok::Opens(i + 1);
+        return Some(Tok::Opens(i + 1));
     }
     if b == 41 {
-        return Tok::Closes(i + 1);
+        return Some(Tok::Closes(i + 1));
     }
     let e = word_end(text, i);
-    Tok::Word(i, e)
+    Some(Tok::Word(i, e))
 }
 
 // A word: where it begins and ends.
-pub fn word_at(text: &[u8], at: usize) -> Located
+pub fn word_at(text: &[u8], at: usize) -> Option<(usize, usize)>
     ensures { (span_as text.now result ≡ word_in (left text.now at)) × WordWithin (length text.now) result }
 {
-    let t = token(text, at);
-    match t {
-        Tok::Word(a, e) => Located::At(a, e),
-        Tok::Opens(_) => Located::Nowhere,
-        Tok::Closes(_) => Located::Nowhere,
-        Tok::Over => Located::Nowhere,
+    match token(text, at)? {
+        Tok::Word(a, e) => Some((a, e)),
+        Tok::Opens(_) => None,
+        Tok::Closes(_) => None,
     }
 }
 
 // An opening bracket: the place after it.
-pub fn open_at(text: &[u8], at: usize) -> Step
+pub fn open_at(text: &[u8], at: usize) -> Option<usize>
     ensures { step_as text.now result ≡ open_in (left text.now at) }
 {
-    let t = token(text, at);
-    match t {
-        Tok::Opens(n) => Step::To(n),
-        Tok::Closes(_) => Step::Off,
-        Tok::Word(_, _) => Step::Off,
-        Tok::Over => Step::Off,
+    match token(text, at)? {
+        Tok::Opens(n) => Some(n),
+        Tok::Closes(_) => None,
+        Tok::Word(_, _) => None,
     }
 }
 
 // A closing bracket: the place after it.
-pub fn close_at(text: &[u8], at: usize) -> Step
+pub fn close_at(text: &[u8], at: usize) -> Option<usize>
     ensures { step_as text.now result ≡ close_in (left text.now at) }
 {
-    let t = token(text, at);
-    match t {
-        Tok::Closes(n) => Step::To(n),
-        Tok::Opens(_) => Step::Off,
-        Tok::Word(_, _) => Step::Off,
-        Tok::Over => Step::Off,
+    match token(text, at)? {
+        Tok::Closes(n) => Some(n),
+        Tok::Opens(_) => None,
+        Tok::Word(_, _) => None,
     }
 }
 
@@ -146,54 +110,35 @@ pub fn close_at(text: &[u8], at: usize) -> Step
 pub fn is_over(text: &[u8], at: usize) -> bool
     ensures { result ≡ is_over (left text.now at) }
 {
-    let t = token(text, at);
-    match t {
-        Tok::Over => true,
-        Tok::Opens(_) => false,
-        Tok::Closes(_) => false,
-        Tok::Word(_, _) => false,
-    }
+    token(text, at).is_none()
 }
 
 // A number, and the place after it.
-pub fn number_at(text: &[u8], at: usize) -> NumberRead
+pub fn number_at(text: &[u8], at: usize) -> Option<(f64, usize)>
     ensures { found_as text.now result ≡ number_in (left text.now at) }
 {
-    let w = word_at(text, at);
-    let Located::At(a, e) = w else {
-        return NumberRead::Absent;
-    };
-    let x = text_numbers::number(&text[a..e]);
-    match x {
-        text_numbers::Numeral::Float(v) => NumberRead::Real(v, e),
-        text_numbers::Numeral::NoNumber => NumberRead::Absent,
-    }
+    let (a, e) = word_at(text, at)?;
+    let v = text_numbers::number(&text[a..e])?;
+    Some((v, e))
 }
 
 // A decimal without sign, and the place after it.
-pub fn count_at(text: &[u8], at: usize) -> Counted
+pub fn count_at(text: &[u8], at: usize) -> Option<(u32, usize)>
     ensures { counted_as text.now result ≡ count_in (left text.now at) }
 {
-    let w = word_at(text, at);
-    let Located::At(a, e) = w else {
-        return Counted::Uncounted;
-    };
-    let x = text_numbers::decimal(&text[a..e]);
-    match x {
-        text_numbers::Whole::Value(v) => Counted::Count(v, e),
-        text_numbers::Whole::Bad => Counted::Uncounted,
-    }
+    let (a, e) = word_at(text, at)?;
+    let v = text_numbers::decimal(&text[a..e])?;
+    Some((v, e))
 }
 
 // The same where a word stands; where none does, n, and the place as it is.
-pub fn count_or(text: &[u8], at: usize, n: u32) -> Counted
+pub fn count_or(text: &[u8], at: usize, n: u32) -> Option<(u32, usize)>
     ensures { counted_as text.now result ≡ count_or n (left text.now at) }
 {
-    let t = token(text, at);
-    match t {
-        Tok::Word(_, _) => count_at(text, at),
-        Tok::Opens(_) => Counted::Count(n, at),
-        Tok::Closes(_) => Counted::Count(n, at),
-        Tok::Over => Counted::Count(n, at),
+    match token(text, at) {
+        Some(Tok::Word(_, _)) => count_at(text, at),
+        Some(Tok::Opens(_)) => Some((n, at)),
+        Some(Tok::Closes(_)) => Some((n, at)),
+        None => Some((n, at)),
     }
 }

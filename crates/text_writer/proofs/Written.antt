@@ -1,6 +1,6 @@
 -- What the writer answers after its check of the scene and of the view. Assumes nothing.
-use Prim.Native.Nat.{ℕ, ◌*◌, ◌≤◌, ◌<◌}
-use mathlib.Core.Path.{◌≡◌, refl, sym, ap, ap₂, ◌∙◌, subst}
+use Prim.Native.Nat.{ℕ, ◌≤◌}
+use mathlib.Core.Path.{◌≡◌, sym, ap, ap₂, ◌∙◌, subst}
 use mathlib.Core.Bool.{Bool, true, false}
 use mathlib.Core.List.{List, map}
 use native.Mathlib.Omega.{arith}
@@ -13,31 +13,27 @@ use Rattle.refusals.specs.declared.Refusal.TheVariants.{View as BadView}
 use Rattle.check_parts.specs.Parts.{named_before}
 use Rattle.check_parts.specs.Drawn.{drawn}
 use Rattle.check_scene.specs.Checks.{check_of, if_accepted}
-use Rattle.check_scene.specs.declared.Verdict.{Verdict}
-use Rattle.check_scene.specs.declared.Verdict.TheVariants.{Accepted, Refused}
 use Rattle.check_scene.proofs.Accepted.{left_is, accepted-numbers, own-drawn}
 use Rattle.check_sound.proofs.Passing.{accepted-passes}
 use Rattle.query_scene.proofs.Plants.{each-unnamed, accepted-count, accepted-many}
 use Rattle.lists.specs.Lists.{Each}
-use Rattle.paths.specs.Answers.{Answer, refused}
-use Rattle.paths.specs.declared.Count.{Count}
-use Rattle.paths.specs.declared.Count.TheVariants.{At, Refused as NoCount}
 use Rattle.view.specs.Views.{view_ok}
 use Rattle.view.specs.declared.View.{View}
 use Rattle.text_drawing.specs.Drawings.{fitting, written, laid}
 use Rattle.text_drawing.specs.Writing.{CountWithin, Writes, sofar}
 use Rattle.text_drawing.proofs.Ends.{all-written}
-use Rattle.text_canonical.specs.Forms.{Form, form_at}
+use Rattle.text_canonical.specs.Forms.{form_at}
 use Rattle.text_canonical.specs.Canonical.{forms_text}
 use Rattle.text_entries.specs.Entries.{Formed}
 use Rattle.text_writer.specs.Writer.{written_after, written_of}
+use Rattle.std.specs.Prelude.{Err, Ok, Result}
 
 -- a refusal has no count
-pub within-refused : (k : Refusal) (room : ℕ) → CountWithin (NoCount k) room
+pub within-refused : (k : Refusal) (room : ℕ) → CountWithin (Err k) room
 within-refused k room n e = let z : ◌≡◌ {A = ℕ} 0 1 = cc in absurd (omega arith)
 
 -- ---- what an accepted scene has
-module _ (s : Scene) (n : ℕ) (is : check_of s ≡ Accepted n) where
+module _ (s : Scene) (n : ℕ) (is : check_of s ≡ Ok n) where
   drawn-formed : Each (Formed s.numbers s.marks) (drawn s.marks)
   drawn-formed =
       each-unnamed (Formed s.numbers s.marks) (named_before s.marks (entries_of s)) (entries_of s)
@@ -47,16 +43,16 @@ pub formed-as : (ns : List Float) (ms : List ℕ) {i j : ℕ} → i ≡ j → Fo
 formed-as ns ms e F = subst (Formed ns ms) (sym e) F
 
 -- ---- after the check: d is the verdict, and ds what stands in the slice of the drawn entries
-module _ (s : Scene) (v : View) (room : ℕ) {d : Verdict} (judged : d ≡ check_of s) where
-  pub scene-refused : {k : Refusal} → d ≡ Refused k → (xs : List ℕ) → sofar (NoCount k) xs ≡ written_of room s v
+module _ (s : Scene) (v : View) (room : ℕ) {d : Result ℕ Refusal} (judged : d ≡ check_of s) where
+  pub scene-refused : {k : Refusal} → d ≡ Err k → (xs : List ℕ) → sofar (Err k) xs ≡ written_of room s v
   unfolding written_of written_after
   scene-refused e xs = sym (rw (← judged, e))
 
-  module _ {n : ℕ} (h : d ≡ Accepted n) where
-    is : check_of s ≡ Accepted n
+  module _ {n : ℕ} (h : d ≡ Ok n) where
+    is : check_of s ≡ Ok n
     is = sym judged ∙ h
 
-    pub view-refused : {b : Bool} → b ≡ view_ok v → b ≡ false → (xs : List ℕ) → sofar (NoCount BadView) xs ≡ written_of room s v
+    pub view-refused : {b : Bool} → b ≡ view_ok v → b ≡ false → (xs : List ℕ) → sofar (Err BadView) xs ≡ written_of room s v
     unfolding written_of written_after
     view-refused e f xs = sym (rw (is, ← e, f))
 
@@ -70,12 +66,12 @@ module _ (s : Scene) (v : View) (room : ℕ) {d : Verdict} (judged : d ≡ check
       pub few-listed : n ≤ 1024
       few-listed = accepted-many s n is
 
-      pub all-put : {b : Bool} → b ≡ view_ok v → b ≡ true → {xs ys : List ℕ} {r : Count} → length xs ≡ room → Writes (forms_text v (map (form_at 8 s) (take n ds))) xs (At 0) ys r → sofar r ys ≡ written_of room s v
+      pub all-put : {b : Bool} → b ≡ view_ok v → b ≡ true → {xs ys : List ℕ} {r : Result ℕ Refusal} → length xs ≡ room → Writes (forms_text v (map (form_at 8 s) (take n ds))) xs (Ok 0) ys r → sofar r ys ≡ written_of room s v
       unfolding written_of written_after
       all-put e f {xs} l w =
           all-written w ∙ ap₂ (λ (m : ℕ) (ids : List ℕ). fitting m (forms_text v (map (form_at 8 s) ids))) l listed ∙ sym (rw (is, ← e, f))
 
 -- ---- at the end
-pub ends_so : {a : Answer (List ℕ)} (c : Count) (ys : List ℕ) {room : ℕ} {r : Count} {zs : List ℕ} → sofar c ys ≡ a → length ys ≡ room → r ≡ written (sofar c ys) → zs ≡ laid (sofar c ys) (length ys)
+pub ends_so : {a : Result (List ℕ) Refusal} (c : Result ℕ Refusal) (ys : List ℕ) {room : ℕ} {r : Result ℕ Refusal} {zs : List ℕ} → sofar c ys ≡ a → length ys ≡ room → r ≡ written (sofar c ys) → zs ≡ laid (sofar c ys) (length ys)
     → (r ≡ written a) × (zs ≡ laid a room)
 ends_so c ys e l h k = (h ∙ ap written e, k ∙ ap₂ laid e l)

@@ -1,10 +1,9 @@
 // The canonical writer (document 02, xii): a view and a scene as forms, in a lent slice of bytes.
 #![tactic(auto)]
 
-ghost use Rattle.std.specs.Prelude.{◌≡◌, [], ◌∷◌, ◌++◌, map, length};
+ghost use Rattle.std.specs.Prelude.{◌≡◌, [], ◌∷◌, ◌++◌, map, length, Ok};
 ghost use Rattle.rows.specs.Rows.{flat};
 ghost use Rattle.scene.specs.Scenes.{scene_of};
-ghost use Rattle.paths.specs.declared.Count.TheVariants.{At};
 ghost use Rattle.text_drawing.specs.Drawings.{written, laid};
 ghost use Rattle.text_drawing.specs.Writing.{CountWithin, Writes, sofar};
 ghost use Rattle.text_canonical.specs.Forms.{form_at};
@@ -13,13 +12,11 @@ ghost use Rattle.lists.specs.Lists.{Each};
 ghost use Rattle.text_entries.specs.Entries.{Formed};
 ghost use Rattle.text_writer.specs.Writer.{written_of};
 
-use check_scene::Verdict;
-use paths::Count;
 use refusals::Refusal;
 use view::View;
 
 // The view's line.
-fn put_view(text: &mut [u8], c: Count, view: View) -> Count
+fn put_view(text: &mut [u8], c: Result<usize, Refusal>, view: View) -> Result<usize, Refusal>
     requires { CountWithin c (length text.old) }
     ensures { Writes (view_text view ++ (10 ∷ [])) text.old c text.new result }
 {
@@ -63,18 +60,16 @@ fn put_forms(
     owners: &[u32],
     listed: &[u32],
     text: &mut [u8],
-    c: Count,
-) -> Count
+    c: Result<usize, Refusal>,
+) -> Result<usize, Refusal>
     requires { CountWithin c (length text.old) × Each (Formed numbers.now marks.now) listed.now }
     ensures { Writes (flat form_line (map (form_at 8 (scene_of numbers.now marks.now points.now starts.now owners.now)) listed.now)) text.old c text.new result }
 {
     let mut d = c;
-    let mut k = 0;
-    while k < listed.len() {
+    for k in 0..listed.len() {
         let i = rows::index(listed[k]);
         let e = text_entries::put_form(numbers, marks, points, starts, owners, i, 8, text, d);
         d = text_drawing::put_byte(text, e, 10);
-        k += 1;
     }
     d
 }
@@ -89,11 +84,11 @@ fn put_yard(
     listed: &[u32],
     view: View,
     text: &mut [u8],
-) -> Count
+) -> Result<usize, Refusal>
     requires { Each (Formed numbers.now marks.now) listed.now }
-    ensures { Writes (forms_text view (map (form_at 8 (scene_of numbers.now marks.now points.now starts.now owners.now)) listed.now)) text.old (At 0) text.new result }
+    ensures { Writes (forms_text view (map (form_at 8 (scene_of numbers.now marks.now points.now starts.now owners.now)) listed.now)) text.old (Ok 0) text.new result }
 {
-    let c = put_view(text, Count::At(0), view);
+    let c = put_view(text, Ok(0), view);
     put_forms(numbers, marks, points, starts, owners, listed, text, c)
 }
 
@@ -107,13 +102,13 @@ fn put_checked(
     owners: &[u32],
     view: View,
     text: &mut [u8],
-) -> Count
+) -> Result<usize, Refusal>
     ensures { (sofar result text.new ≡ written_of (length text.old) (scene_of numbers.now marks.now points.now starts.now owners.now) view) × CountWithin result (length text.new) }
 {
     let mut inverses = [0.0; 16384];
     let mut boxes = [0.0; 6144];
     let mut drawn = [0u32; 1024];
-    let v = check_scene::check(
+    let n = check_scene::check(
         numbers,
         marks,
         points,
@@ -122,25 +117,20 @@ fn put_checked(
         &mut inverses,
         &mut boxes,
         &mut drawn,
-    );
-    match v {
-        Verdict::Refused(k) => Count::Refused(k),
-        Verdict::Accepted(n) => {
-            if !view.is_ok() {
-                return Count::Refused(Refusal::View);
-            }
-            put_yard(
-                numbers,
-                marks,
-                points,
-                starts,
-                owners,
-                &drawn[..n],
-                view,
-                text,
-            )
-        }
+    )?;
+    if !view.is_ok() {
+        return Err(Refusal::View);
     }
+    put_yard(
+        numbers,
+        marks,
+        points,
+        starts,
+        owners,
+        &drawn[..n],
+        view,
+        text,
+    )
 }
 
 // Writes the canonical text of a view and a scene, then zeros, and answers how many bytes it has; or why it
@@ -153,7 +143,7 @@ pub fn write(
     owners: &[u32],
     view: View,
     text: &mut [u8],
-) -> Count
+) -> Result<usize, Refusal>
     ensures answer { result ≡ written (written_of (length text.old) (scene_of numbers.now marks.now points.now starts.now owners.now) view) }
     ensures lent { text.new ≡ laid (written_of (length text.old) (scene_of numbers.now marks.now points.now starts.now owners.now) view) (length text.old) }
 {

@@ -14,7 +14,6 @@ use Rattle.rows.specs.Entries.{numbers_of}
 use Rattle.rows.specs.declared.Marks.{Marks}
 use Rattle.rows.specs.declared.Numbers.{Numbers}
 use Rattle.scene.specs.Entries.{closed_of, simple_of, striped, stripe_count, matrix_of, marks_at, numbers_at, own_entry}
-use Rattle.scene.specs.declared.entry.Simple.{Simple}
 use Rattle.scene.specs.Scenes.{Scene, entries_of}
 use Rattle.scene_shape.specs.Shapes.{shape_box}
 use Rattle.check_parts.specs.Parts.{parts_ok}
@@ -32,6 +31,8 @@ use Rattle.text_canonical.specs.Forms.{Form, round_form, cube_form, triangle_for
 use Rattle.text_canonical.proofs.Rereading.{round-not, round-within}
 use Rattle.theorem_canonical.proofs.Opened.{form-by, form-opens}
 use Rattle.theorem_canonical.proofs.Values.{simple-used, matrix-used, four, five, none-kind, other-simple, lined_form, lined-is}
+use Rattle.std.specs.Prelude.{Option}
+use Rattle.solids.specs.declared.solid.Solid.{Solid}
 
 -- numbers 3, 14, 5 and 6 of an entry
 abbrev pub tested : Marks → Numbers → Bool
@@ -96,15 +97,15 @@ module _ (m : Marks) (r : List Float) (ls : List (List Vector)) (sub : ℕ → F
 
   round-case : is_round m.kind ≡ true → tested m n ≡ test_form (round_form m.kind (stripe_count m) (take (measures m.kind) r) ls)
   unfolding test_form stripe_count
-  round-case h = marks-alone ∙ round-test m.kind m.detail n h ∙ ap (λ (z : Simple). leb (cond (striped m.kind) m.detail 0) 360 && (simple_measured z && true)) (simple-used m.kind (measures m.kind) r refl)
+  round-case h = marks-alone ∙ round-test m.kind m.detail n h ∙ ap (λ (z : Option Solid). leb (cond (striped m.kind) m.detail 0) 360 && (simple_measured z && true)) (simple-used m.kind (measures m.kind) r refl)
 
   cube-case : m.kind ≡ 4 → tested m n ≡ test_form (cube_form m.detail (take 6 r))
   unfolding test_form
-  cube-case q = at-kind 4 q ∙ cube-test m.detail n ∙ ap (λ (z : Simple). is_stripes m.detail && (simple_measured z && true)) (simple-used 4 6 r four)
+  cube-case q = at-kind 4 q ∙ cube-test m.detail n ∙ ap (λ (z : Option Solid). is_stripes m.detail && (simple_measured z && true)) (simple-used 4 6 r four)
 
   triangle-case : m.kind ≡ 5 → tested m n ≡ test_form (triangle_form (take 9 r))
   unfolding test_form
-  triangle-case q = at-kind 5 q ∙ triangle_test m.detail n ∙ ap (λ (z : Simple). simple_measured z && true) (simple-used 5 9 r five)
+  triangle-case q = at-kind 5 q ∙ triangle_test m.detail n ∙ ap (λ (z : Option Solid). simple_measured z && true) (simple-used 5 9 r five)
 
   placed-case : m.kind ≡ 6 → tested m n ≡ test_form (placed_form (take 16 r) (sub m.first))
   unfolding test_form

@@ -19,8 +19,6 @@ use Rattle.check_measures.specs.Measures.{measured}
 use Rattle.check_scene.specs.Placings.{placing_ok}
 use Rattle.check_scene.specs.Extents.{own_box}
 use Rattle.check_scene.specs.Checks.{lengths_agree, values_ok, stripes_ok, names_ok, lines_owned, starts_ok, measures_ok, placings_ok, extents_ok, first_met, check_of}
-use Rattle.check_scene.specs.declared.Verdict.{Verdict}
-use Rattle.check_scene.specs.declared.Verdict.TheVariants.{Accepted, Refused}
 use Rattle.refusals.specs.declared.Refusal.{Refusal}
 use Rattle.check_sound.specs.Passing.{Passing}
 use Rattle.limits.specs.Limits.{within_box}
@@ -37,6 +35,7 @@ use Rattle.text_canonical.proofs.Readback.{Sane, Extends, Back, back, form-kept,
 use Rattle.text_canonical.proofs.Again.{AllLow}
 use Rattle.text_canonical.proofs.Owning.{Lawful}
 use Rattle.theorem_canonical.proofs.Judging.{tested, test_at, test_form, box_tested, box-at, Passes, AllPass, at_top}
+use Rattle.std.specs.Prelude.{Ok, Result}
 
 -- each entry passes, as its form
 abbrev pub EachPasses : Scene → Type 0
@@ -148,13 +147,13 @@ module _ (s : Scene) (S : Sane s) (few : entries_of s ≤ 1024) (ok : parts_ok s
   }
 
 -- a test that holds is passed
-step : (t : Bool) (x y v : Verdict) → t ≡ true → x ≡ v → cond t x y ≡ v
+step : (t : Bool) (x y v : Result ℕ Refusal) → t ≡ true → x ≡ v → cond t x y ≡ v
 step t x y v e h = ap (λ (b : Bool). cond b x y) e ∙ h
 
-pub passing-accepted : (s : Scene) → Passing s → check_of s ≡ Accepted (length (drawn s.marks))
+pub passing-accepted : (s : Scene) → Passing s → check_of s ≡ Ok (length (drawn s.marks))
 unfolding check_of first_met
 passing-accepted s P =
-    let v : Verdict = Accepted (length (drawn s.marks)) in
+    let v : Result ℕ Refusal = Ok (length (drawn s.marks)) in
     step (lengths_agree s) _ _ v P.lengths
     (step (values_ok s) _ _ v P.values
     (step (stripes_ok s) _ _ v P.stripes

@@ -6,7 +6,6 @@ use mathlib.Core.List.{List, []}
 use Rattle.view.specs.declared.View.{View}
 use Rattle.scene.specs.Scenes.{Scene, entries_of}
 use Rattle.check_parts.specs.Parts.{parts_ok}
-use Rattle.check_scene.specs.declared.Verdict.TheVariants.{Accepted}
 use Rattle.check_sound.specs.Passing.{Passing}
 use Rattle.check_sound.proofs.Passing.{accepted-passes}
 use Rattle.lists.specs.Lists.{Each}

@@ -10,14 +10,11 @@ use Rattle.scene.specs.Scenes.{Scene, entries_of}
 use Rattle.check_parts.specs.Parts.{named_before, parts_ok}
 use Rattle.check_parts.specs.Drawn.{drawn}
 use Rattle.check_scene.specs.Checks.{check_of}
-use Rattle.check_scene.specs.declared.Verdict.{Verdict}
-use Rattle.check_scene.specs.declared.Verdict.TheVariants.{Accepted}
 use Rattle.check_sound.specs.Passing.{Passing}
 use Rattle.check_sound.proofs.Passing.{accepted-passes}
 use Rattle.refusals.specs.declared.Refusal.TheVariants.{View as BadView}
 use Rattle.query_scene.proofs.Plants.{each-unnamed, accepted-count}
 use Rattle.lists.specs.Lists.{Each}
-use Rattle.paths.specs.Answers.{Answer, refused}
 use Rattle.paths.specs.Paths.{Paths}
 use Rattle.path_rdp.specs.Rdp.{threshold_ok}
 use Rattle.view.specs.Views.{view_ok}
@@ -40,6 +37,8 @@ use Rattle.theorem_canonical.proofs.Values.{lined_form, lined-is}
 use Rattle.theorem_canonical.proofs.Judging.{AllPass, all_pass}
 use Rattle.theorem_canonical.proofs.Writing.{writable-at}
 use Rattle.theorem_canonical.proofs.Passing.{EachPasses, passing-each, each-passing, passing-accepted, added-all-pass, count-all, lengths-are}
+use Rattle.std.specs.Prelude.{Err, Ok, Result}
+use Rattle.refusals.specs.declared.Refusal.{Refusal}
 
 -- ---- the forms of a scene
 each-of-map : (P : Form → Type 0) (f : ℕ → Form) (l : List ℕ) → Each (λ (i : ℕ). P (f i)) l → Each P (map f l)
@@ -58,7 +57,7 @@ map-through s h (i ∷ l) = ap₂ (λ (x : Lined) (xs : List Lined). x ∷ xs) (
 drawn-values : (s : Scene) → Passing s → map (lined_in s) (drawn s.marks) ≡ map lined_form (forms_of s)
 drawn-values s P = let n = lengths-are s P.lengths in map-through s (λ i. lined-is s n.2 n.1 8 i) (drawn s.marks)
 
-module _ (v : View) (s : Scene) (n : ℕ) (is : check_of s ≡ Accepted n) (F : InF64 v s) (Y : FitsYard v (forms_of s)) where
+module _ (v : View) (s : Scene) (n : ℕ) (is : check_of s ≡ Ok n) (F : InF64 v s) (Y : FitsYard v (forms_of s)) where
   P : Passing s
   P = accepted-passes s n is
 
@@ -97,12 +96,12 @@ module _ (v : View) (s : Scene) (n : ℕ) (is : check_of s ≡ Accepted n) (F : 
   same_count = sym (length-map (drawn u.marks) (form_at 8 u)) ∙ ap length again ∙ length-map (drawn s.marks) (form_at 8 s) ∙ sym (accepted-count s n is)
 
   same-judged : check_of u ≡ check_of s
-  same-judged = passing-accepted u Q ∙ ap Accepted same_count ∙ sym is
+  same-judged = passing-accepted u Q ∙ ap Ok same_count ∙ sym is
 
   same-drawn : (t : Float) (w : Places) → draw_with t u v w ≡ draw_with t s v w
   unfolding draw_with
   same-drawn t w =
-      ap₂ (λ (x : Verdict) (a : Answer Paths). drawn_after x (cond (view_ok v && threshold_ok t) a (refused BadView))) same-judged
+      ap₂ (λ (x : Result ℕ Refusal) (a : Result Paths Refusal). drawn_after x (cond (view_ok v && threshold_ok t) a (Err BadView))) same-judged
       (same-drawing t v w (lined_in u) (lined_in s) (drawn u.marks) (drawn s.marks) same-values)
 
   alike : DrawsAlike v s u

@@ -19,11 +19,9 @@ use Rattle.rows.specs.declared.Marks.{Marks}
 use Rattle.rows.specs.declared.Numbers.{Numbers}
 use Rattle.solids.specs.declared.solid.Solid.{Solid}
 use Rattle.scene.specs.Entries.{closed_of, simple_of, striped, stripe_count, matrix_of, op_of, cut_of, composite_of, simple_or, entry_of, matrix_numbers, marks_at, numbers_at, own_entry}
-use Rattle.scene.specs.declared.entry.Simple.{Simple}
-use Rattle.scene.specs.declared.entry.Simple.TheVariants.{Is, Other}
 use Rattle.scene.specs.declared.entry.Op.{Op}
 use Rattle.scene.specs.declared.entry.Entry.{Entry}
-use Rattle.scene.specs.declared.entry.Entry.TheVariants.{Simple as SimpleEntry, Placed, Cut, None}
+use Rattle.scene.specs.declared.entry.Entry.TheVariants.{Simple as SimpleEntry, Placed, Cut}
 use Rattle.scene.specs.Scenes.{Scene, entries_of}
 use Rattle.check_parts.specs.Owners.{is_round}
 use Rattle.check_measures.specs.Values.{is_kind, is_stripes, known, few_stripes}
@@ -39,6 +37,7 @@ use Rattle.text_canonical.specs.Forms.{Form, round_form, cube_form, triangle_for
 use Rattle.text_canonical.proofs.Rereading.{round-not, round-within}
 use Rattle.text_numbers.proofs.Digits.{and-false}
 use Rattle.theorem_canonical.proofs.Opened.{form-by}
+use Rattle.std.specs.Prelude.{None, Option, Some}
 
 -- ---- the numbers that a kind uses
 used-are : (k : ℕ) → measures k ≡ used_numbers k
@@ -62,9 +61,9 @@ unfolding measures
 five = refl
 
 -- ---- what is drawn
-unfoldable pub lined_simple : Simple → ℕ → List (List Vector) → Lined
-lined_simple (Is s) n ls = lined s (solid_paths s n ls)
-lined_simple Other n ls = no_lines
+unfoldable pub lined_simple : Option Solid → ℕ → List (List Vector) → Lined
+lined_simple (Some s) n ls = lined s (solid_paths s n ls)
+lined_simple None n ls = no_lines
 
 abbrev inverse_of : Numbers → Numbers
 inverse_of n = matrix_numbers (inverted (matrix_of n)).inverse
@@ -78,7 +77,7 @@ lined_form (placed_form xs f) = placed_lines (matrix_of (numbers_of xs)) (matrix
 lined_form (cut_form o f g) = cond (leb o 3) (cut_lines (op_of o) (lined_form f) (lined_form g)) no_lines
 lined_form no_form = no_lines
 
-module _ (F : ℕ → Lined) (n : Numbers) (det : ℕ) (ls : List (List Vector)) (e : Entry) where
+module _ (F : ℕ → Lined) (n : Numbers) (det : ℕ) (ls : List (List Vector)) (e : Option Entry) where
   abbrev own : Solid → List (List Vector)
   own s = solid_paths s det ls
 
@@ -121,7 +120,7 @@ rounds : (is_round 1 ≡ true) × (is_round 2 ≡ true) × (is_round 3 ≡ true)
 unfolding is_round
 rounds = (refl, refl, refl, refl, refl)
 
-pub other-simple : (k : ℕ) (n : Numbers) → is_round k ≡ false → eqb k 4 ≡ false → eqb k 5 ≡ false → simple_of k n ≡ Other
+pub other-simple : (k : ℕ) (n : Numbers) → is_round k ≡ false → eqb k 4 ≡ false → eqb k 5 ≡ false → simple_of k n ≡ None
 unfolding simple_of closed_of
 other-simple k n h e4 e5 =
     rw (ne_eqb k 1 (λ e. not_round k 1 h rounds.0 e), ne_eqb k 2 (λ e. not_round k 2 h rounds.1 e), ne_eqb k 3 (λ e. not_round k 3 h rounds.2 e), e4, e5, ne_eqb k 8 (λ e. not_round k 8 h rounds.3 e), ne_eqb k 9 (λ e. not_round k 9 h rounds.4 e))
@@ -145,7 +144,7 @@ module _ (F : ℕ → Lined) (G : ℕ → Form) (alike : (k : ℕ) → F k ≡ l
   abbrev whole : Lined
   whole = lined_of F (λ (s : Solid). solid_paths s m.detail ls) (entry_of m (numbers_of r) (inverse_of (numbers_of r)))
 
-  abbrev composite : Entry
+  abbrev composite : Option Entry
   composite = composite_of m (numbers_of r) (inverse_of (numbers_of r))
 
   abbrev simply : ℕ → Lined
@@ -159,7 +158,7 @@ module _ (F : ℕ → Lined) (G : ℕ → Form) (alike : (k : ℕ) → F k ≡ l
   unfolding composite_of cut_of lined_form lined_of
   cut-part q = rw q (by (leb m.detail 3))
     where
-      by : (t : Bool) → lined_of F (λ (s : Solid). solid_paths s m.detail ls) (cond t (Cut (op_of m.detail) m.first m.second) None) ≡ cond t (cut_lines (op_of m.detail) (lined_form (G m.first)) (lined_form (G m.second))) no_lines
+      by : (t : Bool) → lined_of F (λ (s : Solid). solid_paths s m.detail ls) (cond t (Some (Cut (op_of m.detail) m.first m.second)) None) ≡ cond t (cut_lines (op_of m.detail) (lined_form (G m.first)) (lined_form (G m.second))) no_lines
       by true = ap₂ (cut_lines (op_of m.detail)) (alike m.first) (alike m.second)
       by false = refl
 
@@ -173,15 +172,15 @@ module _ (F : ℕ → Lined) (G : ℕ → Form) (alike : (k : ℕ) → F k ≡ l
 
   round-case : is_round m.kind ≡ true → whole ≡ lined_form (round_form m.kind (stripe_count m) (take (measures m.kind) r) ls)
   unfolding lined_form stripe_count
-  round-case h = whole_is ∙ round-lined F (numbers_of r) m.detail ls composite m.kind h ∙ ap (λ (z : Simple). lined_simple z (cond (striped m.kind) m.detail 0) ls) (simple-used m.kind (measures m.kind) r refl)
+  round-case h = whole_is ∙ round-lined F (numbers_of r) m.detail ls composite m.kind h ∙ ap (λ (z : Option Solid). lined_simple z (cond (striped m.kind) m.detail 0) ls) (simple-used m.kind (measures m.kind) r refl)
 
   cube-case : m.kind ≡ 4 → whole ≡ lined_form (cube_form m.detail (take 6 r))
   unfolding lined_form
-  cube-case q = whole_is ∙ ap simply q ∙ cube-lined F (numbers_of r) m.detail ls composite ∙ ap (λ (z : Simple). lined_simple z m.detail []) (simple-used 4 6 r four)
+  cube-case q = whole_is ∙ ap simply q ∙ cube-lined F (numbers_of r) m.detail ls composite ∙ ap (λ (z : Option Solid). lined_simple z m.detail []) (simple-used 4 6 r four)
 
   triangle-case : m.kind ≡ 5 → whole ≡ lined_form (triangle_form (take 9 r))
   unfolding lined_form
-  triangle-case q = whole_is ∙ ap simply q ∙ triangle-lined F (numbers_of r) m.detail ls composite ∙ ap (λ (z : Simple). lined_simple z 0 []) (simple-used 5 9 r five)
+  triangle-case q = whole_is ∙ ap simply q ∙ triangle-lined F (numbers_of r) m.detail ls composite ∙ ap (λ (z : Option Solid). lined_simple z 0 []) (simple-used 5 9 r five)
 
   none-case : is_round m.kind ≡ false → eqb m.kind 4 ≡ false → eqb m.kind 5 ≡ false → eqb m.kind 6 ≡ false → eqb m.kind 7 ≡ false → whole ≡ lined_form no_form
   unfolding lined_form
@@ -210,7 +209,7 @@ nought : no_lines ≡ lined_form no_form
 unfolding lined_form
 nought = refl
 
-off : (F : ℕ → Lined) (o : Solid → List (List Vector)) (t : Bool) (e : Entry) → lined_of F o (cond (t && false) e None) ≡ no_lines
+off : (F : ℕ → Lined) (o : Solid → List (List Vector)) (t : Bool) (e : Option Entry) → lined_of F o (cond (t && false) e None) ≡ no_lines
 unfolding lined_of
 off F o true e = refl
 off F o false e = refl
@@ -228,7 +227,7 @@ module _ (s : Scene) (fit : entries_of s * 16 ≤ length s.numbers) (even : leng
     entry-there : i < entries_of s → lined_of F (own_lines s.marks s.points s.starts s.owners i) (own_entry s.numbers s.marks i) ≡ lined_form (form_of (marks_at s.marks i) (row 16 i s.numbers) (lines_at s i) G)
     unfolding own_lines
     entry-there l =
-        ap₂ (λ (d : ℕ) (e : Entry). lined_of F (λ (x : Solid). solid_paths x d (lines_at s i)) e) (detail-there l) (entry_read l)
+        ap₂ (λ (d : ℕ) (e : Option Entry). lined_of F (λ (x : Solid). solid_paths x d (lines_at s i)) e) (detail-there l) (entry_read l)
         ∙ lined-as F G alike (marks_at s.marks i) (row 16 i s.numbers) (lines_at s i)
 
     entry-off : entries_of s ≤ i → lined_of F (own_lines s.marks s.points s.starts s.owners i) (own_entry s.numbers s.marks i) ≡ lined_form (form_of (marks_at s.marks i) (row 16 i s.numbers) (lines_at s i) G)

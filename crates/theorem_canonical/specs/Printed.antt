@@ -1,8 +1,7 @@
 -- Request (xii): an accepted text already in canonical form is printed as it came.
-use Rattle.std.specs.Prelude.{ℕ, ◌≡◌, List, []}
+use Rattle.std.specs.Prelude.{ℕ, ◌≡◌, List, [], Ok}
 use Rattle.view.specs.declared.View.{View}
 use Rattle.check_scene.specs.Checks.{check_of}
-use Rattle.check_scene.specs.declared.Verdict.TheVariants.{Accepted}
 use Rattle.lists.specs.Lists.{Each}
 use Rattle.text_tokens.specs.Tokens.{got}
 use Rattle.text_scene.specs.Texts.{Yard, yard_of}
@@ -21,5 +20,5 @@ pub record InForm (text : List ℕ) : Type 0 where
 -- `yard` reads the text, and the scene that it reads is accepted: then the writer prints the text as it came
 abbrev pub PrintedAsItCame : Type 0
 PrintedAsItCame =
-    (text : List ℕ) (y : Yard) (n : ℕ) → InForm text → yard_of text ≡ got y [] → check_of y.scene ≡ Accepted n
+    (text : List ℕ) (y : Yard) (n : ℕ) → InForm text → yard_of text ≡ got y [] → check_of y.scene ≡ Ok n
     → canonical_text y.view y.scene ≡ text

@@ -1,9 +1,8 @@
 -- Request (xii): if the canonical text of an accepted scene fits what `yard` takes, the scene read back draws to the same bits at the same threshold and slice lengths.
-use Rattle.std.specs.Prelude.{ℕ, ◌≡◌, [], Float}
+use Rattle.std.specs.Prelude.{ℕ, ◌≡◌, [], Float, Ok}
 use Rattle.view.specs.declared.View.{View}
 use Rattle.scene.specs.Scenes.{Scene}
 use Rattle.check_scene.specs.Checks.{check_of}
-use Rattle.check_scene.specs.declared.Verdict.TheVariants.{Accepted}
 use Rattle.draw_render.specs.Render.{Places}
 use Rattle.draw.specs.Draw.{draw_with}
 use Rattle.text_tokens.specs.Tokens.{got}
@@ -27,5 +26,5 @@ pub record DrawsAlike (v : View) (s u : Scene) : Type 0 where
 -- what is read back of the canonical text of an accepted scene: the same view, and a scene that draws alike
 abbrev pub ReadBackAlike : Type 0
 ReadBackAlike =
-    (v : View) (s : Scene) (n : ℕ) → check_of s ≡ Accepted n → InF64 v s → FitsYard v (forms_of s)
+    (v : View) (s : Scene) (n : ℕ) → check_of s ≡ Ok n → InF64 v s → FitsYard v (forms_of s)
     → (u : Scene) × (yard_of (canonical_text v s) ≡ got (record { view = v; scene = u }) []) × DrawsAlike v s u

@@ -17,13 +17,13 @@ use Rattle.check_parts.specs.Parts.{named_before}
 use Rattle.check_parts.specs.Drawn.{unnamed, drawn}
 use Rattle.check_scene.specs.Checks.{check_of}
 use Rattle.scene.specs.Scenes.{Scene, entries_of}
-use Rattle.check_scene.specs.declared.Verdict.TheVariants.{Accepted}
 use Rattle.check_scene.proofs.Accepted.{own-box}
 use Rattle.check_sound.proofs.Sound.{accepted-sound}
 use Rattle.tree_split.specs.Build.{box_at}
 use Rattle.tree_build.proofs.BuiltTree.{built-tree}
 use Rattle.theorem_hiding.specs.Covers.{TreeOf}
 use Rattle.query_scene.specs.Queries.{boxes_left, scene_tree}
+use Rattle.std.specs.Prelude.{Ok}
 
 -- ---- a tree is built of solids by their boxes alone
 module _ {S : Type 0} (f g : S → BBox) where
@@ -59,7 +59,7 @@ unnamed-below g (suc n) i m = go (g n) (λ q. unnamed-below g n i q) (member-app
     go false rec (inr (inl e)) = omega (arith, e)
     go false rec (inr (inr q)) = absurd q
 
-module _ (s : Scene) (n : ℕ) (is : check_of s ≡ Accepted n) where
+module _ (s : Scene) (n : ℕ) (is : check_of s ≡ Ok n) where
   drawn-entry : (i : ℕ) → Member i (drawn s.marks) → i < entries_of s
   drawn-entry i m = unnamed-below (named_before s.marks (entries_of s)) (entries_of s) i m
 

@@ -1,5 +1,5 @@
 -- Document 01's terms of demand 3, of a scene and of the public calls on it.
-use Rattle.std.specs.Prelude.{ℕ, ◌≡◌, List, Float}
+use Rattle.std.specs.Prelude.{ℕ, ◌≡◌, List, Float, Ok}
 use Rattle.floats.specs.Arith.{zero_f}
 use Rattle.geometry.specs.declared.vector.Vector.{Vector}
 use Rattle.rows.specs.Rows.{padded}
@@ -8,7 +8,6 @@ use Rattle.tree_nodes.specs.Nodes.{box_rows, mark_rows}
 use Rattle.check_parts.specs.Drawn.{drawn}
 use Rattle.scene.specs.Scenes.{Scene}
 use Rattle.theorem_hiding.specs.Covers.{ShortBy, CoversBy, Holds}
-use Rattle.query_scene.specs.declared.Built.TheVariants.{Nodes}
 use Rattle.query_scene.specs.Queries.{scene_nodes, scene_order, build_of}
 
 -- document 01's covers: the solid covers the point as seen from the eye. It hangs on solid, point and eye alone.
@@ -28,7 +27,7 @@ pub record BuiltRows (s : Scene) (nodeBoxes : List Float) (nodeMarks order : Lis
   pub places : ℕ
   pub room : ℕ
   pub count : ℕ
-  pub answered : build_of s places room ≡ Nodes count
+  pub answered : build_of s places room ≡ Ok count
   pub B : ℕ
   pub M : ℕ
   pub O : ℕ

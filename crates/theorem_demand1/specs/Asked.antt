@@ -1,5 +1,5 @@
 -- No call asks anything of its arguments: what a caller must show before it calls, `Asked`, which the check makes of a contract's `requires`, holds of
--- them all. Left out are the four calls on the plotter's registers: they are lent a struct and proved by hand, so that the check makes no `Asked`; they
+-- them all. Left out are the four calls on the plotter's registers, which are lent a struct; they
 -- have no `requires`.
 use Rattle.std.specs.Prelude.{ℕ, List}
 use contract.Lifetimes.{Lfts}

@@ -14,10 +14,10 @@ use Rattle.tree_nodes.specs.Nodes.{places_of, box_rows, mark_rows}
 use Rattle.tree_sight.specs.Sights.{Answered}
 use Rattle.tree_sight.specs.declared.Sight.{Sight}
 use Rattle.tree_sight.specs.declared.Sight.TheVariants.{Visible, Hidden}
-use Rattle.query_scene.specs.declared.Built.TheVariants.{Nodes}
 use Rattle.query_scene.specs.Queries.{scene_nodes, scene_order, if_built, build_of, visible_of, occluder_of}
-use Rattle.query_scene.specs.declared.NamedSight.{NamedSight}
 use Rattle.theorem_demand3.specs.Demand3.{RowsLeft, Answers, alone}
+use Rattle.std.specs.Prelude.{Ok, Option, Result}
+use Rattle.refusals.specs.declared.Refusal.{Refusal}
 
 -- the rows, and what the public visible and occluder answer on them
 abbrev pub boxes_on : Scene → List Float
@@ -29,10 +29,10 @@ marks_on s = padded 0 0 (mark_rows (scene_nodes s))
 abbrev pub order_on : Scene → List ℕ
 order_on s = padded 0 0 (scene_order s)
 
-abbrev pub seen_on_rows : Scene → Vector → Vector → Sight
+abbrev pub seen_on_rows : Scene → Vector → Vector → Result Sight Refusal
 seen_on_rows s = visible_of s (boxes_on s) (marks_on s) (order_on s)
 
-abbrev pub named_on_rows : Scene → Vector → Vector → NamedSight
+abbrev pub named_on_rows : Scene → Vector → Vector → Result (Option ℕ) Refusal
 named_on_rows s = occluder_of s (boxes_on s) (marks_on s) (order_on s)
 
 -- as many places as there are rows leave no zeros
@@ -43,7 +43,7 @@ no-zeros {A} z xs =
     let k : 0 - length xs ≡ length (xs ++ replicate (0 - length xs) z) - length xs = omega (arith, length-append xs (replicate (0 - length xs) z), n) in
     ap (λ (m : ℕ). xs ++ replicate m z) k
 
-pub rows_left : (s : Scene) (count : ℕ) → build_of s (places_of (boxes_on s) (marks_on s)) (length (order_on s)) ≡ Nodes count → RowsLeft s (boxes_on s) (marks_on s) (order_on s)
+pub rows_left : (s : Scene) (count : ℕ) → build_of s (places_of (boxes_on s) (marks_on s)) (length (order_on s)) ≡ Ok count → RowsLeft s (boxes_on s) (marks_on s) (order_on s)
 unfolding if_built
 rows_left s count is = (
   boxes_on s,
@@ -54,10 +54,10 @@ rows_left s count is = (
 )
 
 -- yes and no are no refusals
-pub yes_or_no : (a : Sight) → (a ≡ Visible) ⊎ (a ≡ Hidden) → Answered a
+pub yes_or_no : (a : Result Sight Refusal) → (a ≡ Ok Visible) ⊎ (a ≡ Ok Hidden) → Answered a
 yes_or_no a (inl e) k h = let z : ◌≡◌ {A = ℕ} 0 1 = cc in omega arith
 yes_or_no a (inr e) k h = let z : ◌≡◌ {A = ℕ} 0 1 = cc in omega arith
 
-pub eye-test : (s : Scene) (count : ℕ) → build_of s (places_of (boxes_on s) (marks_on s)) (length (order_on s)) ≡ Nodes count
-    → (eye point : Vector) (a : Sight) → seen_on_rows s eye point ≡ a → Answers s eye point a
+pub eye-test : (s : Scene) (count : ℕ) → build_of s (places_of (boxes_on s) (marks_on s)) (length (order_on s)) ≡ Ok count
+    → (eye point : Vector) (a : Result Sight Refusal) → seen_on_rows s eye point ≡ a → Answers s eye point a
 eye-test s count is eye point a seen = alone (boxes_on s) (marks_on s) (order_on s) (rows_left s count is) seen

@@ -18,7 +18,6 @@ use Rattle.solids.specs.Cubes.{cube_hit}
 use Rattle.solids.specs.Solids.{solid_box, hit_of}
 use Rattle.scene.specs.Entries.{striped, stripe_count, simple_of, simple_or, entry_of, own_entry}
 use Rattle.scene_shape.specs.Shapes.{shape_of, read, shape_box, shape_hit}
-use Rattle.scene_shape.specs.declared.Struck.TheVariants.{At}
 use Rattle.check_measures.specs.Measures.{measured, simple_measured, solid_measured, cube_measured, exceeds}
 use Rattle.check_measures.specs.Values.{known, is_kind, is_stripes, few_stripes}
 use Rattle.check_parts.specs.Drawn.{unnamed}
@@ -34,12 +33,12 @@ use Rattle.tree_walk.specs.Walks.{walk_rows, walk_on, scan, tried, nearer, backw
 use Rattle.tree_sight.specs.Sights.{eye_ray, sees, by_distance}
 use Rattle.tree_sight.specs.declared.Sight.TheVariants.{Visible, Hidden}
 use Rattle.query_scene.specs.Queries.{build_of, built_after, planted_of, visible_of, seen_after, occluder_of, named_after, hides, hider_by}
-use Rattle.query_scene.specs.declared.Built.TheVariants.{Nodes}
-use Rattle.query_scene.specs.declared.NamedSight.TheVariants.{Hidden as HiddenBy}
 use Rattle.draw.specs.Drawing.{solid_in}
 use Rattle.theorem_demand3.specs.Demand3.{Covers, Premise}
 use Rattle.theorem_demand3.specs.Witnesses.{cube_yard, overhead, far_side, near_side, CubeCovers}
 use Rattle.theorem_demand3.proofs.Answers.{boxes_on, marks_on, order_on, seen_on_rows, named_on_rows, rows_left, eye-test}
+use Rattle.std.specs.Prelude.{Ok, Result, Some}
+use Rattle.refusals.specs.declared.Refusal.{Refusal}
 
 far-covered : Covers (solid_in cube_yard 0) overhead far_side
 unfolding simple_of simple_or entry_of own_entry shape_of read shape_box solid_box shape_hit hit_of cube_hit box_test overlap slab ordered eye_ray sqrt_of distance_of length_of length_squared sub_v div_v div_scalar dot min_v max_v min_component max_component min_of max_of add sub mul div lt le eq neg is_nan of_bits
@@ -50,7 +49,7 @@ unfolding eye_ray sqrt_of distance_of length_of length_squared sub_v div_scalar 
 far-premise = record { apart = tt; direction = record { x = tt; y = tt; z = tt } }
 
 -- the near side is a miss, whose t is INF: it does not fall short
-near-misses : shape_hit (solid_in cube_yard 0) (eye_ray overhead near_side) ≡ At no_hit
+near-misses : shape_hit (solid_in cube_yard 0) (eye_ray overhead near_side) ≡ Ok no_hit
 unfolding simple_of simple_or entry_of own_entry shape_of read shape_hit hit_of cube_hit eye_ray sqrt_of distance_of length_of length_squared sub_v div_v div_scalar dot min_v max_v min_component max_component min_of max_of add sub mul div lt le eq neg is_nan of_bits
 near-misses = refl
 
@@ -58,7 +57,7 @@ miss-is-long : T (lt no_hit.t (distance_of overhead near_side)) → ⊥
 unfolding eye_ray sqrt_of distance_of length_of length_squared sub_v div_scalar dot add sub mul div lt le eq neg is_nan of_bits
 miss-is-long h = h
 
-same-hit : {g h : Hit} → At g ≡ At h → g ≡ h
+same-hit : {g h : Hit} → ◌≡◌ {A = Result Hit Refusal} (Ok g) (Ok h) → g ≡ h
 same-hit e = cc
 
 near-uncovered : Covers (solid_in cube_yard 0) overhead near_side → ⊥
@@ -66,19 +65,19 @@ near-uncovered c =
     let e : c.falls.own ≡ no_hit = same-hit (sym c.falls.returned ∙ near-misses) in
     miss-is-long (subst (λ (h : Hit). T (lt h.t (distance_of overhead near_side))) e c.falls.short)
 
-built : build_of cube_yard (places_of (boxes_on cube_yard) (marks_on cube_yard)) (length (order_on cube_yard)) ≡ Nodes 1
+built : build_of cube_yard (places_of (boxes_on cube_yard) (marks_on cube_yard)) (length (order_on cube_yard)) ≡ Ok 1
 unfolding build_of built_after planted_of check_of first_met lengths_agree all_of known is_kind is_stripes few_stripes stripe_count striped names named_before deepest depths_to parts_free entry_ok parts_ok owners_ok good_starts measured simple_measured solid_measured cube_measured exceeds placing_ok within_box within_point within simple_of simple_or entry_of own_entry shape_of read shape_box solid_box unnamed nodes_for order_for layout root_of below_of leaves below_root tree_of plan_of plan_axis arranged split_by hull_of hull lt le eq neg of_bits places_of padded flat
 built = refl
 
-far-hidden : seen_on_rows cube_yard overhead far_side ≡ Hidden
+far-hidden : seen_on_rows cube_yard overhead far_side ≡ Ok Hidden
 unfolding visible_of seen_after sees by_distance walk_rows walk_on scan tried nearer backward places_of padded flat list_to check_of first_met lengths_agree all_of known is_kind is_stripes few_stripes stripe_count striped names named_before deepest depths_to parts_free entry_ok parts_ok owners_ok good_starts measured simple_measured solid_measured cube_measured exceeds placing_ok within_box within_point within simple_of simple_or entry_of own_entry shape_of read shape_box solid_box shape_hit hit_of cube_hit unnamed nodes_for order_for layout root_of below_of leaves below_root tree_of plan_of plan_axis arranged split_by hull_of hull extend_box box_test overlap slab ordered eye_ray sqrt_of distance_of length_of length_squared sub_v div_v div_scalar dot min_v max_v min_component max_component min_of max_of add sub mul div lt le eq neg is_nan of_bits
 far-hidden = refl
 
-far-named : named_on_rows cube_yard overhead far_side ≡ HiddenBy 0
+far-named : named_on_rows cube_yard overhead far_side ≡ Ok (Some 0)
 unfolding occluder_of named_after hides hider_by walk_rows walk_on scan tried nearer backward places_of padded flat list_to check_of first_met lengths_agree all_of known is_kind is_stripes few_stripes stripe_count striped names named_before deepest depths_to parts_free entry_ok parts_ok owners_ok good_starts measured simple_measured solid_measured cube_measured exceeds placing_ok within_box within_point within simple_of simple_or entry_of own_entry shape_of read shape_box solid_box shape_hit hit_of cube_hit unnamed nodes_for order_for layout root_of below_of leaves below_root tree_of plan_of plan_axis arranged split_by hull_of hull extend_box box_test overlap slab ordered eye_ray sqrt_of distance_of length_of length_squared sub_v div_v div_scalar dot min_v max_v min_component max_component min_of max_of add sub mul div lt le eq neg is_nan of_bits
 far-named = refl
 
-near-visible : seen_on_rows cube_yard overhead near_side ≡ Visible
+near-visible : seen_on_rows cube_yard overhead near_side ≡ Ok Visible
 unfolding visible_of seen_after sees by_distance walk_rows walk_on scan tried nearer backward places_of padded flat list_to check_of first_met lengths_agree all_of known is_kind is_stripes few_stripes stripe_count striped names named_before deepest depths_to parts_free entry_ok parts_ok owners_ok good_starts measured simple_measured solid_measured cube_measured exceeds placing_ok within_box within_point within simple_of simple_or entry_of own_entry shape_of read shape_box solid_box shape_hit hit_of cube_hit unnamed nodes_for order_for layout root_of below_of leaves below_root tree_of plan_of plan_axis arranged split_by hull_of hull extend_box box_test overlap slab ordered eye_ray sqrt_of distance_of length_of length_squared sub_v div_v div_scalar dot min_v max_v min_component max_component min_of max_of add sub mul div lt le eq neg is_nan of_bits
 near-visible = refl
 
@@ -87,7 +86,7 @@ cube-covers = record {
   same_rows = (boxes_on cube_yard, marks_on cube_yard, order_on cube_yard, rows_left cube_yard 1 built, far-named);
   covers = far-covered;
   premise = far-premise;
-  hidden = eye-test cube_yard 1 built overhead far_side Hidden far-hidden;
+  hidden = eye-test cube_yard 1 built overhead far_side (Ok Hidden) far-hidden;
   uncovered = near-uncovered;
-  visible = eye-test cube_yard 1 built overhead near_side Visible near-visible;
+  visible = eye-test cube_yard 1 built overhead near_side (Ok Visible) near-visible;
 }

@@ -23,7 +23,7 @@ use Rattle.check_scene.specs.Checks.{lengths_agree}
 use Rattle.tree_nodes.specs.Nodes.{places_of}
 use Rattle.tree_sight.specs.Sights.{eye_ray, Answered}
 use Rattle.tree_sight.specs.declared.Sight.{Sight}
-use Rattle.tree_sight.specs.declared.Sight.TheVariants.{Visible, Hidden, Refused as NotSeen}
+use Rattle.tree_sight.specs.declared.Sight.TheVariants.{Visible, Hidden}
 use Rattle.query_scene.specs.Queries.{if_built, seen_after, visible_of}
 use Rattle.theorem_solids.specs.Same.{SameSolid}
 use Rattle.theorem_solids.proofs.Same.{same_solid}
@@ -32,8 +32,6 @@ use Rattle.theorem_covering.specs.Scenes.{CoversPoint, BuiltRows}
 use Rattle.theorem_covering.proofs.Rows.{accepted-scene}
 use Rattle.theorem_covering.proofs.Covering.{covered-point-hidden, hidden-point-named}
 use Rattle.paths.specs.Paths.{Paths}
-use Rattle.path_filter.specs.declared.Test.{Test}
-use Rattle.path_filter.specs.declared.Test.TheVariants.{Drop}
 use Rattle.path_rdp.specs.Demand.{Accepted, Simplifies}
 use Rattle.path_simplify.proofs.Calls.{call_ends}
 use Rattle.view.specs.declared.View.{View}
@@ -46,6 +44,8 @@ use Rattle.theorem_draws.proofs.Seeing.{occluder-is-named}
 use Rattle.theorem_draws.proofs.Sheets.{build-answered, step_four, step-four-asks-visible, covered-point-dropped, each_point, simplified_so}
 use Rattle.theorem_demand3.specs.Demand3.{Covers, Premise, Draws, RowsLeft, Answers, alone, in-a-draw, NamedShort, Simplified, Demand3}
 use Rattle.theorem_demand3.proofs.Answers.{yes_or_no}
+use Rattle.std.specs.Prelude.{Err, None, Ok, Option, Result}
+use Rattle.refusals.specs.declared.Refusal.{Refusal}
 
 -- ---- the same solid
 numbers-long : (s : Scene) → lengths_agree s ≡ true → entries_of s * 16 ≡ length s.numbers
@@ -96,13 +96,13 @@ covering : (solid : Shape) (eye point : Vector) → Covers solid eye point → C
 covering solid eye point c =
     record { falls = record { own = c.falls.own; returned = c.falls.returned; short = c.falls.short }; passed = c.passed; no_later = c.no_later }
 
-dropped-so : (w : Vector) (a : Sight) → Answered a → by_sight w a ≡ Drop → a ≡ Hidden
+dropped-so : (w : Vector) (a : Result Sight Refusal) → Answered a → by_sight w a ≡ Ok None → a ≡ Ok Hidden
 unfolding by_sight
-dropped-so w Visible sure e = absurd (let z : ◌≡◌ {A = ℕ} 0 1 = cc in omega arith)
-dropped-so w Hidden sure e = refl
-dropped-so w (NotSeen k) sure e = absurd (sure k refl)
+dropped-so w (Ok Visible) sure e = absurd (let z : ◌≡◌ {A = ℕ} 0 1 = cc in omega arith)
+dropped-so w (Ok Hidden) sure e = refl
+dropped-so w (Err k) sure e = absurd (sure k refl)
 
-pub covered-hidden : (solid : Shape) (eye point : Vector) → Covers solid eye point → Premise eye point → (s : Scene) → Draws s solid → (a : Sight) → Answered a → Answers s eye point a → a ≡ Hidden
+pub covered-hidden : (solid : Shape) (eye point : Vector) → Covers solid eye point → Premise eye point → (s : Scene) → Draws s solid → (a : Result Sight Refusal) → Answered a → Answers s eye point a → a ≡ Ok Hidden
 covered-hidden solid eye point c premise s draws a sure (alone boxes marks order B e) =
     let R = rows_of s boxes marks order B in
     let answered : Answered (visible_of s boxes marks order eye point) = subst Answered (sym e) sure in
@@ -121,7 +121,7 @@ covered-hidden solid eye point c premise s draws a sure (in-a-draw t v w q D is 
     dropped-so (mul_position_w v.matrix point) a sure (sym e ∙ d.0.dropped)
 
 -- ---- hidden, so the one named falls short
-by_name : (s : Scene) (boxes : List Float) (marks order : List ℕ) → BuiltRows s boxes marks order → (eye point : Vector) → visible_of s boxes marks order eye point ≡ Hidden → NamedShort s eye point
+by_name : (s : Scene) (boxes : List Float) (marks order : List ℕ) → BuiltRows s boxes marks order → (eye point : Vector) → visible_of s boxes marks order eye point ≡ Ok Hidden → NamedShort s eye point
 by_name s boxes marks order R eye point hidden =
     let f = fair s boxes marks order R eye point (yes_or_no _ (inr hidden)) in
     let z = hidden-point-named eye point (within-point eye f.0) (within-point point f.1) s boxes marks order R hidden in
@@ -133,21 +133,21 @@ by_name s boxes marks order R eye point hidden =
       falls = record { own = z.3.own; returned = z.3.returned; short = z.3.short };
     }
 
-pub hidden-drop : (w : Vector) → by_sight w Hidden ≡ Drop
+pub hidden-drop : (w : Vector) → by_sight w (Ok Hidden) ≡ Ok None
 unfolding by_sight
 hidden-drop w = refl
 
-named : (s : Scene) (eye point : Vector) → Answers s eye point Hidden → NamedShort s eye point
+named : (s : Scene) (eye point : Vector) → Answers s eye point (Ok Hidden) → NamedShort s eye point
 named s eye point (alone boxes marks order B e) = by_name s boxes marks order (rows_of s boxes marks order B) eye point e
 named s eye point (in-a-draw t v w q D is put left e) =
     let hid : HiddenIn s v point = record { left = left; dropped = e ∙ hidden-drop (mul_position_w v.matrix point) } in
-    let no : seen_in s v.eye point ≡ Hidden = (step_four D point put left).1.0 hid in
+    let no : seen_in s v.eye point ≡ Ok Hidden = (step_four D point put left).1.0 hid in
     let R = drawn-rows D in
     subst (λ (x : Vector). NamedShort s x point) is (by_name s R.0 R.1 R.2 R.3 v.eye point (step-four-asks-visible D point put left R.0 R.1 R.2 R.3 ∙ no))
 
 -- ---- step 4
 module _ {t : Float} {s : Scene} {v : View} {w : Places} {q : Paths} (D : Drawing t s v w q) (point : Vector) (put : Put D point) (left : LeftAfterClipping v.matrix point) where
-  abbrev test : Test
+  abbrev test : Result (Option Vector) Refusal
   test = clip_filter v.matrix (seen_in s v.eye) point
 
   treated : (test ≡ by_sight (mul_position_w v.matrix point) (seen_in s v.eye point)) × Answered (seen_in s v.eye point)

@@ -35,11 +35,11 @@ use Rattle.tree_walk.specs.Walks.{walk_rows, walk_on, scan, tried, nearer, backw
 use Rattle.tree_sight.specs.Sights.{eye_ray, sees, by_distance}
 use Rattle.tree_sight.specs.declared.Sight.TheVariants.{Visible, Hidden}
 use Rattle.query_scene.specs.Queries.{build_of, built_after, planted_of, visible_of, seen_after}
-use Rattle.query_scene.specs.declared.Built.TheVariants.{Nodes}
 use Rattle.draw.specs.Drawing.{solid_in}
 use Rattle.theorem_demand3.specs.Demand3.{Covers, Premise}
 use Rattle.theorem_demand3.specs.Witnesses.{overhead, open_tube, closed_tube, below, LidHides}
 use Rattle.theorem_demand3.proofs.Answers.{boxes_on, marks_on, order_on, seen_on_rows, eye-test}
+use Rattle.std.specs.Prelude.{Ok}
 
 lid-covers : Covers (solid_in closed_tube 0) overhead below
 unfolding closed_of simple_of simple_or entry_of own_entry shape_of read shape_box solid_box cylinder_box shape_hit hit_of cylinder_hit on_tube roots_of first_hit closed_cylinder_hit disc_hit on_disc lidded min_hit is_ok position box_test overlap slab ordered eye_ray sqrt_of distance_of length_of length_squared sub_v add_v mul_scalar div_v div_scalar dot min_v max_v min_component max_component min_of max_of add sub mul div lt le eq neg is_nan of_bits
@@ -49,19 +49,19 @@ lid-premise : Premise overhead below
 unfolding eye_ray sqrt_of distance_of length_of length_squared sub_v div_scalar dot add sub mul div lt le eq neg is_nan of_bits
 lid-premise = record { apart = tt; direction = record { x = tt; y = tt; z = tt } }
 
-built-closed : build_of closed_tube (places_of (boxes_on closed_tube) (marks_on closed_tube)) (length (order_on closed_tube)) ≡ Nodes 1
+built-closed : build_of closed_tube (places_of (boxes_on closed_tube) (marks_on closed_tube)) (length (order_on closed_tube)) ≡ Ok 1
 unfolding build_of built_after planted_of places_of padded flat list_to check_of first_met lengths_agree all_of known is_kind is_stripes few_stripes stripe_count striped names named_before deepest depths_to parts_free entry_ok parts_ok owners_ok good_starts measured simple_measured solid_measured cylinder_measured is_radius exceeds placing_ok within_box within_point within closed_of simple_of simple_or entry_of own_entry shape_of read shape_box solid_box cylinder_box unnamed nodes_for order_for layout root_of below_of leaves below_root tree_of plan_of plan_axis arranged split_by hull_of hull lt le eq neg of_bits
 built-closed = refl
 
-built-open : build_of open_tube (places_of (boxes_on open_tube) (marks_on open_tube)) (length (order_on open_tube)) ≡ Nodes 1
+built-open : build_of open_tube (places_of (boxes_on open_tube) (marks_on open_tube)) (length (order_on open_tube)) ≡ Ok 1
 unfolding build_of built_after planted_of places_of padded flat list_to check_of first_met lengths_agree all_of known is_kind is_stripes few_stripes stripe_count striped names named_before deepest depths_to parts_free entry_ok parts_ok owners_ok good_starts measured simple_measured solid_measured cylinder_measured is_radius exceeds placing_ok within_box within_point within closed_of simple_of simple_or entry_of own_entry shape_of read shape_box solid_box cylinder_box unnamed nodes_for order_for layout root_of below_of leaves below_root tree_of plan_of plan_axis arranged split_by hull_of hull lt le eq neg of_bits
 built-open = refl
 
-seen-closed : seen_on_rows closed_tube overhead below ≡ Hidden
+seen-closed : seen_on_rows closed_tube overhead below ≡ Ok Hidden
 unfolding visible_of seen_after sees by_distance walk_rows walk_on scan tried nearer backward places_of padded flat list_to check_of first_met lengths_agree all_of known is_kind is_stripes few_stripes stripe_count striped names named_before deepest depths_to parts_free entry_ok parts_ok owners_ok good_starts measured simple_measured solid_measured cylinder_measured is_radius exceeds placing_ok within_box within_point within closed_of simple_of simple_or entry_of own_entry shape_of read shape_box solid_box cylinder_box shape_hit hit_of cylinder_hit on_tube roots_of first_hit closed_cylinder_hit disc_hit on_disc lidded min_hit is_ok position unnamed nodes_for order_for layout root_of below_of leaves below_root tree_of plan_of plan_axis arranged split_by hull_of hull extend_box box_test overlap slab ordered eye_ray sqrt_of distance_of length_of length_squared sub_v add_v mul_scalar div_v div_scalar dot min_v max_v min_component max_component min_of max_of add sub mul div lt le eq neg is_nan of_bits
 seen-closed = refl
 
-seen-open : seen_on_rows open_tube overhead below ≡ Visible
+seen-open : seen_on_rows open_tube overhead below ≡ Ok Visible
 unfolding visible_of seen_after sees by_distance walk_rows walk_on scan tried nearer backward places_of padded flat list_to check_of first_met lengths_agree all_of known is_kind is_stripes few_stripes stripe_count striped names named_before deepest depths_to parts_free entry_ok parts_ok owners_ok good_starts measured simple_measured solid_measured cylinder_measured is_radius exceeds placing_ok within_box within_point within closed_of simple_of simple_or entry_of own_entry shape_of read shape_box solid_box cylinder_box shape_hit hit_of cylinder_hit on_tube roots_of first_hit closed_cylinder_hit disc_hit on_disc lidded min_hit is_ok position unnamed nodes_for order_for layout root_of below_of leaves below_root tree_of plan_of plan_axis arranged split_by hull_of hull extend_box box_test overlap slab ordered eye_ray sqrt_of distance_of length_of length_squared sub_v add_v mul_scalar div_v div_scalar dot min_v max_v min_component max_component min_of max_of add sub mul div lt le eq neg is_nan of_bits
 seen-open = refl
 
@@ -69,6 +69,6 @@ pub lid-hides : LidHides
 lid-hides = record {
   covers = lid-covers;
   premise = lid-premise;
-  hidden = eye-test closed_tube 1 built-closed overhead below Hidden seen-closed;
-  unlidded = eye-test open_tube 1 built-open overhead below Visible seen-open;
+  hidden = eye-test closed_tube 1 built-closed overhead below (Ok Hidden) seen-closed;
+  unlidded = eye-test open_tube 1 built-open overhead below (Ok Visible) seen-open;
 }

@@ -36,12 +36,14 @@ use Rattle.tree_walk.specs.Walks.{walk_rows, walk_on, scan, tried, nearer, backw
 use Rattle.tree_sight.specs.Sights.{eye_ray, sees, by_distance}
 use Rattle.tree_sight.specs.declared.Sight.TheVariants.{Visible, Hidden}
 use Rattle.query_scene.specs.Queries.{build_of, built_after, planted_of, visible_of, seen_after}
-use Rattle.query_scene.specs.declared.Built.TheVariants.{Nodes}
 use Rattle.theorem_solids.specs.Same.{SameSolid, used_numbers, uses_detail}
 use Rattle.draw.specs.Drawing.{solid_in}
 use Rattle.theorem_demand3.specs.Demand3.{Covers, Answers}
 use Rattle.theorem_demand3.specs.Witnesses.{at_origin, overhead, flat_alone, flat_beside, minus_eye, MinusZeroNeeded}
 use Rattle.theorem_demand3.proofs.Answers.{boxes_on, marks_on, order_on, seen_on_rows, yes_or_no, eye-test}
+use Rattle.std.specs.Prelude.{Ok, Result}
+use Rattle.refusals.specs.declared.Refusal.{Refusal}
+use Rattle.tree_sight.specs.declared.Sight.{Sight}
 
 -- entry 0 of both scenes is a cube, which has no parts
 same-cube : SameSolid flat_alone.numbers flat_alone.marks flat_beside.numbers flat_beside.marks 0 0
@@ -65,33 +67,33 @@ eye-apart : T (not (eq (distance_of minus_eye at_origin) zero_f))
 unfolding eye_ray sqrt_of distance_of length_of length_squared sub_v div_scalar dot add sub mul div lt le eq neg is_nan of_bits
 eye-apart = tt
 
-built-alone : build_of flat_alone (places_of (boxes_on flat_alone) (marks_on flat_alone)) (length (order_on flat_alone)) ≡ Nodes 1
+built-alone : build_of flat_alone (places_of (boxes_on flat_alone) (marks_on flat_alone)) (length (order_on flat_alone)) ≡ Ok 1
 unfolding build_of built_after planted_of check_of first_met lengths_agree all_of known is_kind is_stripes few_stripes stripe_count striped names named_before deepest depths_to parts_free entry_ok parts_ok owners_ok good_starts measured simple_measured solid_measured cube_measured exceeds placing_ok within_box within_point within simple_of simple_or entry_of own_entry shape_of read shape_box solid_box unnamed nodes_for order_for layout root_of below_of leaves below_root tree_of plan_of plan_axis arranged split_by hull_of hull lt le eq neg of_bits places_of padded flat
 built-alone = refl
 
-built-beside : build_of flat_beside (places_of (boxes_on flat_beside) (marks_on flat_beside)) (length (order_on flat_beside)) ≡ Nodes 1
+built-beside : build_of flat_beside (places_of (boxes_on flat_beside) (marks_on flat_beside)) (length (order_on flat_beside)) ≡ Ok 1
 unfolding build_of built_after planted_of check_of first_met lengths_agree all_of known is_kind is_stripes few_stripes stripe_count striped names named_before deepest depths_to parts_free entry_ok parts_ok owners_ok good_starts measured simple_measured solid_measured cube_measured exceeds placing_ok within_box within_point within simple_of simple_or entry_of own_entry shape_of read shape_box solid_box unnamed nodes_for order_for layout root_of below_of leaves below_root tree_of plan_of plan_axis arranged split_by hull_of hull lt le eq neg of_bits places_of padded flat
 built-beside = refl
 
-seen-alone : seen_on_rows flat_alone minus_eye at_origin ≡ Hidden
+seen-alone : seen_on_rows flat_alone minus_eye at_origin ≡ Ok Hidden
 unfolding visible_of seen_after sees by_distance walk_rows walk_on scan tried nearer backward places_of padded flat list_to check_of first_met lengths_agree all_of known is_kind is_stripes few_stripes stripe_count striped names named_before deepest depths_to parts_free entry_ok parts_ok owners_ok good_starts measured simple_measured solid_measured cube_measured exceeds placing_ok within_box within_point within simple_of simple_or entry_of own_entry shape_of read shape_box solid_box shape_hit hit_of cube_hit unnamed nodes_for order_for layout root_of below_of leaves below_root tree_of plan_of plan_axis arranged split_by hull_of hull extend_box box_test overlap slab ordered eye_ray sqrt_of distance_of length_of length_squared sub_v div_v div_scalar dot min_v max_v min_component max_component min_of max_of add sub mul div lt le eq neg is_nan of_bits
 seen-alone = refl
 
-seen-beside : seen_on_rows flat_beside minus_eye at_origin ≡ Visible
+seen-beside : seen_on_rows flat_beside minus_eye at_origin ≡ Ok Visible
 unfolding visible_of seen_after sees by_distance walk_rows walk_on scan tried nearer backward places_of padded flat list_to check_of first_met lengths_agree all_of known is_kind is_stripes few_stripes stripe_count striped names named_before deepest depths_to parts_free entry_ok parts_ok owners_ok good_starts measured simple_measured solid_measured cube_measured exceeds placing_ok within_box within_point within simple_of simple_or entry_of own_entry shape_of read shape_box solid_box shape_hit hit_of cube_hit unnamed nodes_for order_for layout root_of below_of leaves below_root tree_of plan_of plan_axis arranged split_by hull_of hull extend_box box_test overlap slab ordered eye_ray sqrt_of distance_of length_of length_squared sub_v div_v div_scalar dot min_v max_v min_component max_component min_of max_of add sub mul div lt le eq neg is_nan of_bits
 seen-beside = refl
 
-seen-plus : seen_on_rows flat_beside overhead at_origin ≡ Hidden
+seen-plus : seen_on_rows flat_beside overhead at_origin ≡ Ok Hidden
 unfolding visible_of seen_after sees by_distance walk_rows walk_on scan tried nearer backward places_of padded flat list_to check_of first_met lengths_agree all_of known is_kind is_stripes few_stripes stripe_count striped names named_before deepest depths_to parts_free entry_ok parts_ok owners_ok good_starts measured simple_measured solid_measured cube_measured exceeds placing_ok within_box within_point within simple_of simple_or entry_of own_entry shape_of read shape_box solid_box shape_hit hit_of cube_hit unnamed nodes_for order_for layout root_of below_of leaves below_root tree_of plan_of plan_axis arranged split_by hull_of hull extend_box box_test overlap slab ordered eye_ray sqrt_of distance_of length_of length_squared sub_v div_v div_scalar dot min_v max_v min_component max_component min_of max_of add sub mul div lt le eq neg is_nan of_bits
 seen-plus = refl
 
-hidden-alone : Answers flat_alone minus_eye at_origin Hidden
-hidden-alone = eye-test flat_alone 1 built-alone minus_eye at_origin Hidden seen-alone
+hidden-alone : Answers flat_alone minus_eye at_origin (Ok Hidden)
+hidden-alone = eye-test flat_alone 1 built-alone minus_eye at_origin (Ok Hidden) seen-alone
 
-brought-back : Answers flat_beside minus_eye at_origin Visible
-brought-back = eye-test flat_beside 1 built-beside minus_eye at_origin Visible seen-beside
+brought-back : Answers flat_beside minus_eye at_origin (Ok Visible)
+brought-back = eye-test flat_beside 1 built-beside minus_eye at_origin (Ok Visible) seen-beside
 
-yes-is-not-no : Visible ≡ Hidden → ⊥
+yes-is-not-no : ◌≡◌ {A = Result Sight Refusal} (Ok Visible) (Ok Hidden) → ⊥
 yes-is-not-no e = let z : ◌≡◌ {A = ℕ} 0 1 = cc in omega arith
 
 pub minus-zero-needed : MinusZeroNeeded
@@ -102,7 +104,7 @@ minus-zero-needed = record {
   apart = eye-apart;
   hidden = hidden-alone;
   back = brought-back;
-  plus-zero = eye-test flat_beside 1 built-beside overhead at_origin Hidden seen-plus;
+  plus-zero = eye-test flat_beside 1 built-beside overhead at_origin (Ok Hidden) seen-plus;
   refuted = λ claim.
-      yes-is-not-no (claim (solid_in flat_alone 0) minus_eye at_origin flat-covers eye-apart flat_beside (0, first-drawn, sym one-solid) Visible (yes_or_no Visible (inl refl)) brought-back);
+      yes-is-not-no (claim (solid_in flat_alone 0) minus_eye at_origin flat-covers eye-apart flat_beside (0, first-drawn, sym one-solid) (Ok Visible) (yes_or_no (Ok Visible) (inl refl)) brought-back);
 }

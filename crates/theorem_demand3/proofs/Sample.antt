@@ -33,7 +33,6 @@ use Rattle.tree_split.specs.Build.{nodes_for, order_for, tree_of, plan_of, plan_
 use Rattle.tree_walk.specs.Walks.{visit, scan, tried, nearer, backward}
 use Rattle.tree_sight.specs.Sights.{sees, by_distance, eye_ray}
 use Rattle.query_scene.specs.Queries.{planted_of}
-use Rattle.paths.specs.Answers.{answered}
 use Rattle.paths.specs.Paths.{Paths, no_paths, push, push_all, front, paths_of, opened, closed_starts, closed, one_path, each, stage}
 use Rattle.paths.specs.Judged.{points_ok}
 use Rattle.paths.proofs.Adding.{same_answer}
@@ -57,8 +56,9 @@ use Rattle.theorem_filters.specs.Passing.{LeftAfterClipping}
 use Rattle.theorem_draws.specs.Sheets.{Put}
 use Rattle.theorem_demand3.specs.Demand3.{Covers, Premise}
 use Rattle.theorem_demand3.specs.Witnesses.{at_origin, sample_yard, sample_view, stepping_view, sample_places, sample_drawing, coarse_drawing, sample_behind, wider_places, SampleDraws}
+use Rattle.std.specs.Prelude.{Ok}
 
-drawn-there : draw_with millionth sample_yard sample_view sample_places ≡ answered sample_drawing
+drawn-there : draw_with millionth sample_yard sample_view sample_places ≡ Ok sample_drawing
 unfolding draw_with threshold_ok drawn_after render rendered rendered_part staged seen_lines on_tree nearest_of stepping mapped collected_all collected or_outline read_lined lined_of bare detail_at own_lines solid_paths own_paths
     triangle_paths add_paths clip_filter by_sight filtered_from path_filter stepped push push_all front paths_of opened closed_starts closed one_path each stage view_ok extent_ok step_ok viewport args_of
     planted_of sees by_distance visit scan tried nearer backward padded flat check_of first_met lengths_agree all_of known is_kind is_stripes few_stripes stripe_count striped names named_before deepest depths_to parts_free entry_ok
@@ -68,7 +68,7 @@ unfolding draw_with threshold_ok drawn_after render rendered rendered_part stage
     div_v div_scalar dot min_v max_v min_component max_component min_of max_of add_v mul_scalar cross add sub mul div lt le eq neg is_nan of_bits
 drawn-there = refl
 
-stepped-there : draw_with millionth sample_yard stepping_view sample_places ≡ answered sample_drawing
+stepped-there : draw_with millionth sample_yard stepping_view sample_places ≡ Ok sample_drawing
 unfolding draw_with threshold_ok drawn_after render rendered rendered_part staged seen_lines on_tree nearest_of stepping mapped collected_all collected or_outline read_lined lined_of bare detail_at own_lines solid_paths own_paths
     triangle_paths add_paths clip_filter by_sight filtered_from path_filter stepped push push_all front paths_of opened closed_starts closed one_path each stage view_ok extent_ok step_ok viewport args_of
     planted_of sees by_distance visit scan tried nearer backward padded flat check_of first_met lengths_agree all_of known is_kind is_stripes few_stripes stripe_count striped names named_before deepest depths_to parts_free entry_ok
@@ -79,7 +79,7 @@ unfolding draw_with threshold_ok drawn_after render rendered rendered_part stage
     chopped_lines simplified_lines handed points_ok path_chop chop_from subdivide push_or stops off_sheet both_below both_beyond spot_of screen_of distance_squared simplified rdp thinned halved farthest_of farthest_from farther segment_distance foot_distance
 stepped-there = refl
 
-coarse-there : draw_with one_f sample_yard stepping_view sample_places ≡ answered coarse_drawing
+coarse-there : draw_with one_f sample_yard stepping_view sample_places ≡ Ok coarse_drawing
 unfolding draw_with threshold_ok drawn_after render rendered rendered_part staged seen_lines on_tree nearest_of stepping mapped collected_all collected or_outline read_lined lined_of bare detail_at own_lines solid_paths own_paths
     triangle_paths add_paths clip_filter by_sight filtered_from path_filter stepped push push_all front paths_of opened closed_starts closed one_path each stage view_ok extent_ok step_ok viewport args_of
     planted_of sees by_distance visit scan tried nearer backward padded flat check_of first_met lengths_agree all_of known is_kind is_stripes few_stripes stripe_count striped names named_before deepest depths_to parts_free entry_ok
@@ -90,7 +90,7 @@ unfolding draw_with threshold_ok drawn_after render rendered rendered_part stage
     chopped_lines simplified_lines handed points_ok path_chop chop_from subdivide push_or stops off_sheet both_below both_beyond spot_of screen_of distance_squared simplified rdp thinned halved farthest_of farthest_from farther segment_distance foot_distance
 coarse-there = refl
 
-nothing-there : draw_with millionth sample_behind sample_view wider_places ≡ answered no_paths
+nothing-there : draw_with millionth sample_behind sample_view wider_places ≡ Ok no_paths
 unfolding draw_with threshold_ok drawn_after render rendered rendered_part staged seen_lines on_tree nearest_of stepping mapped collected_all collected or_outline read_lined lined_of bare detail_at own_lines solid_paths own_paths
     triangle_paths add_paths clip_filter by_sight filtered_from path_filter stepped push push_all front paths_of opened closed_starts closed one_path each stage view_ok extent_ok step_ok viewport args_of
     planted_of sees by_distance visit scan tried nearer backward padded flat check_of first_met lengths_agree all_of known is_kind is_stripes few_stripes stripe_count striped names named_before deepest depths_to parts_free entry_ok
@@ -108,7 +108,7 @@ empty-sheet = drawn-so millionth sample_behind sample_view wider_places no_paths
 abbrev round : List Vector
 round = at_origin ∷ vec half_f zero_f zero_f ∷ vec zero_f half_f zero_f ∷ at_origin ∷ []
 
-collected-lines : (p : Paths) × (collected_all (args_of sample_view) wider_places.lines (lined_in sample_behind) (drawn sample_behind.marks) no_paths ≡ answered p) × Member round (paths_of p.vertices p.starts)
+collected-lines : (p : Paths) × (collected_all (args_of sample_view) wider_places.lines (lined_in sample_behind) (drawn sample_behind.marks) no_paths ≡ Ok p) × Member round (paths_of p.vertices p.starts)
 unfolding collected_all collected or_outline read_lined lined_of bare detail_at own_lines solid_paths own_paths triangle_paths add_paths push push_all front paths_of opened closed_starts closed one_path each stage args_of all_of known is_kind is_stripes few_stripes stripe_count striped names named_before deepest depths_to parts_free entry_ok parts_ok owners_ok good_starts measured simple_measured solid_measured cube_measured simple_of simple_or entry_of own_entry shape_of read unnamed padded flat list_to identity_m add_v sub_v mul_scalar paths_striped faces stripe stripes_from stripe_at sides across of_int add sub mul div lt le eq neg is_nan of_bits
 collected-lines = (_, refl, inl refl)
 

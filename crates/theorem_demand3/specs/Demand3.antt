@@ -1,17 +1,17 @@
 -- Demand 3 of the request on one page, in its order of words. `demand-3` (proofs/Demand3.antt) is a value of the last record. Terms.antt has the terms.
-use Rattle.std.specs.Prelude.{ℕ, ◌-◌, ◌<◌, ◌≡◌, true, not, List, ◌∷◌, map, length, take, T}
+use Rattle.std.specs.Prelude.{ℕ, ◌-◌, ◌<◌, ◌≡◌, true, not, List, ◌∷◌, map, length, take, T, Ok, Result, Some}
 use Rattle.theorem_demand3.specs.Terms.{Float, eq, lt, le, zero_f, Vector, Hit, eye_ray, distance_of, NoMinusZero, box_test, passes}
-use Rattle.theorem_demand3.specs.Terms.{Shape, shape_box, shape_hit, At, Scene, drawn, solid_in, lengths_agree, SameSolid}
-use Rattle.theorem_demand3.specs.Terms.{Sight, Hidden, Answered, HiddenBy, TreeBuilt, Nodes, visible_of, occluder_of}
+use Rattle.theorem_demand3.specs.Terms.{Shape, shape_box, shape_hit, Refusal, Scene, drawn, solid_in, lengths_agree, SameSolid}
+use Rattle.theorem_demand3.specs.Terms.{Sight, Hidden, Answered, TreeBuilt, visible_of, occluder_of}
 use Rattle.theorem_demand3.specs.Terms.{View, Places, stepping, Paths, paths_of, with_points, Drawing, seen_in, Put, LeftAfterClipping}
-use Rattle.theorem_demand3.specs.Terms.{clip_filter, by_sight, mul_position_w, simplify_call, Finished, all_points, Both, points}
+use Rattle.theorem_demand3.specs.Terms.{clip_filter, by_sight, mul_position_w, simplify_call, Finished, all_points, points}
 use Rattle.theorem_demand3.specs.Terms.{vertex, Chain, Near, Member, Pairwise}
 
 -- ---- hiding
 -- the solid's own returned distance, the t of its own hit on the ray from point to eye, a miss's t included, falls short of the eye
 pub record FallsShort (solid : Shape) (eye point : Vector) : Type 0 where
   pub own : Hit
-  pub returned : shape_hit solid (eye_ray eye point) ≡ At own
+  pub returned : shape_hit solid (eye_ray eye point) ≡ Ok own
   pub short : T (lt own.t (distance_of eye point))
 
 -- the solid covers the point: its own box passes the test, is entered no later than that distance, and the distance falls short
@@ -32,11 +32,11 @@ Draws s solid = (i : ℕ) × Member i (drawn s.marks) × (solid_in s i ≡ solid
 -- rows that the public build leaves of the scene, where it is answered: its `ensures`
 abbrev pub RowsLeft : Scene → List Float → List ℕ → List ℕ → Type 0
 RowsLeft s boxes marks order =
-    (boxes₀ : List Float) × (marks₀ order₀ : List ℕ) × (nodes : ℕ) × TreeBuilt s boxes₀ marks₀ order₀ (Nodes nodes) boxes marks order
+    (boxes₀ : List Float) × (marks₀ order₀ : List ℕ) × (nodes : ℕ) × TreeBuilt s boxes₀ marks₀ order₀ (Ok nodes) boxes marks order
 
 -- the scene answers a at the point, "for the eye test alone and in a draw alike": the public visible on those rows; or step 4 of an answered draw with
 -- this eye, of a point that it is handed and that is left after clipping, which it keeps or drops as a says
-pub data Answers (s : Scene) (eye point : Vector) (a : Sight) : Type 0 where
+pub data Answers (s : Scene) (eye point : Vector) (a : Result Sight Refusal) : Type 0 where
   alone : (boxes : List Float) (marks order : List ℕ) → RowsLeft s boxes marks order → visible_of s boxes marks order eye point ≡ a → Answers s eye point a
   in-a-draw : (t : Float) (v : View) (w : Places) (q : Paths) (D : Drawing t s v w q) → v.eye ≡ eye
       → Put D point → LeftAfterClipping v.matrix point
@@ -45,7 +45,7 @@ pub data Answers (s : Scene) (eye point : Vector) (a : Sight) : Type 0 where
 -- request (i)'s "solid named", by the public occluder on all such rows: the scene draws it, and its own returned distance falls short
 pub record NamedShort (s : Scene) (eye point : Vector) : Type 0 where
   pub entry : ℕ
-  pub named : (boxes : List Float) (marks order : List ℕ) → RowsLeft s boxes marks order → occluder_of s boxes marks order eye point ≡ HiddenBy entry
+  pub named : (boxes : List Float) (marks order : List ℕ) → RowsLeft s boxes marks order → occluder_of s boxes marks order eye point ≡ Ok (Some entry)
   pub is_drawn : Member entry (drawn s.marks)
   pub falls : FallsShort (solid_in s entry) eye point
 
@@ -65,9 +65,9 @@ pub record Demand3 : Type 0 where
       → (i j : ℕ) → SameSolid s.numbers s.marks s'.numbers s'.marks i j → solid_in s i ≡ solid_in s' j
   -- Nobody who adds, removes or reorders solids can bring back a point that a remaining solid covers: whatever else the scene holds, it is hidden.
   pub covered_stays_hidden : (solid : Shape) (eye point : Vector) → Covers solid eye point → Premise eye point
-      → (s : Scene) → Draws s solid → (a : Sight) → Answered a → Answers s eye point a → a ≡ Hidden
+      → (s : Scene) → Draws s solid → (a : Result Sight Refusal) → Answered a → Answers s eye point a → a ≡ Ok Hidden
   -- No point is hidden, or dropped as hidden, unless some solid's own returned distance falls short; the solid named is one.
-  pub hidden_names : (s : Scene) (eye point : Vector) → Answers s eye point Hidden → NamedShort s eye point
+  pub hidden_names : (s : Scene) (eye point : Vector) → Answers s eye point (Ok Hidden) → NamedShort s eye point
   -- Step 4 puts the question of the public visible for each point left after clipping, is answered, and passes the point exactly if that is yes.
   pub step_four : {t : Float} (s : Scene) (v : View) {w : Places} {q : Paths} (D : Drawing t s v w q) (point : Vector) → Put D point
       → LeftAfterClipping v.matrix point
@@ -76,7 +76,7 @@ pub record Demand3 : Type 0 where
   -- A simplified path, whatever its threshold: of the public call, in the slices that it leaves; and in a draw with step > 0, from what step 4 leaves
   -- to what step 6 maps.
   pub simplified : (xs : List Float) (ss : List ℕ) (t : Float) (room startRoom n m : ℕ) (ys : List Float) (us : List ℕ) (i j : ℕ)
-      → Finished (simplify_call xs ss t room startRoom) n m ys us (Both i j)
+      → Finished (simplify_call xs ss t room startRoom) n m ys us (Ok (i, j))
       → Pairwise (Simplified t) (with_points (paths_of (all_points xs) ss)) (paths_of (points i ys) (take j us))
   pub simplified_in_a_draw : {t : Float} (s : Scene) (v : View) {w : Places} {q : Paths} (D : Drawing t s v w q) → stepping v ≡ true
       → Pairwise (Simplified t) (with_points (paths_of D.passed.vertices D.passed.starts)) (paths_of D.left.vertices D.left.starts)

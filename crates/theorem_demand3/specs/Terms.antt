@@ -12,9 +12,9 @@ pub use Rattle.geometry.specs.Vectors.{distance_of}
 pub use Rattle.theorem_hiding.specs.Covers.{NoMinusZero}
 -- where a ray enters and leaves a box; neither tmax < tmin nor tmax <= 0
 pub use Rattle.geometry.specs.Boxes.{box_test, passes}
--- a solid: an entry with its parts and theirs; its own box; the hit that it gives a ray with no tree and no other solid, At h, or number 11
+-- a solid: an entry with its parts and theirs; its own box; the hit that it gives a ray with no tree and no other solid, Ok h, or number 11
 pub use Rattle.scene_shape.specs.Shapes.{Shape, shape_box, shape_hit}
-pub use Rattle.scene_shape.specs.declared.Struck.TheVariants.{At}
+pub use Rattle.refusals.specs.declared.Refusal.{Refusal}
 -- a scene: its five slices; the entries that nobody names; the solid at entry i; slice lengths agree (number 2)
 -- the same solid: kinds, used marks, part indices aside, and used numbers agree throughout
 pub use Rattle.scene.specs.Scenes.{Scene}
@@ -26,10 +26,8 @@ pub use Rattle.theorem_solids.specs.Same.{SameSolid}
 pub use Rattle.tree_sight.specs.declared.Sight.{Sight}
 pub use Rattle.tree_sight.specs.declared.Sight.TheVariants.{Visible, Hidden}
 pub use Rattle.tree_sight.specs.Sights.{Answered}
-pub use Rattle.query_scene.specs.declared.NamedSight.TheVariants.{Hidden as HiddenBy}
 -- what the public build says by its `ensures`, answered with so many nodes; what the public visible and occluder answer on rows
 pub use Rattle.query_scene.specs.Queries.{TreeBuilt, visible_of, occluder_of}
-pub use Rattle.query_scene.specs.declared.Built.TheVariants.{Nodes}
 -- a view; the places that a draw is lent; paths by points and starts, and as a list; those with points
 pub use Rattle.view.specs.declared.View.{View}
 pub use Rattle.draw_render.specs.Render.{Places, stepping}
@@ -39,13 +37,12 @@ pub use Rattle.paths.specs.Paths.{Paths, paths_of, with_points}
 pub use Rattle.draw.specs.Drawing.{Drawing, seen_in}
 pub use Rattle.theorem_draws.specs.Sheets.{Put}
 pub use Rattle.theorem_filters.specs.Passing.{LeftAfterClipping}
--- step 4's test of a point; what an answer makes of a point that is projected to w: Keep w for yes, Drop for no; a point projected by the view's matrix
+-- step 4's test of a point; what an answer makes of a point that is projected to w: Ok (Some w) for yes, Ok None for no; a point projected by the view's matrix
 pub use Rattle.draw_clip.specs.Clip.{clip_filter, by_sight}
 pub use Rattle.matrix.specs.Matrices.{mul_position_w}
 -- what the public simplify says by its `ensures`, answered with so many points and paths; the points of a slice
 pub use Rattle.path_simplify.specs.Simplify.{simplify_call}
 pub use Rattle.paths.specs.Ends.{Finished, all_points}
-pub use Rattle.paths.specs.declared.Counts.TheVariants.{Both}
 pub use Rattle.rows.specs.Points.{points}
 -- the vertex at a place of a path
 -- Chain step a bs z: step holds from a to the first of bs and from each to the next, and the last is z, or a itself is z if there are none

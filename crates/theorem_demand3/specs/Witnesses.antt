@@ -1,5 +1,5 @@
 -- Scenes that bear Demand3 out: that it speaks of something, and why it says no more than it does. What is said of them is computed (proofs/).
-use Rattle.std.specs.Prelude.{ℕ, ◌-◌, ◌≤◌, ◌≡◌, not, List, [], ◌∷◌, ◌++◌, length, T, Float}
+use Rattle.std.specs.Prelude.{ℕ, ◌-◌, ◌≤◌, ◌≡◌, not, List, [], ◌∷◌, ◌++◌, length, T, Float, Ok, Result, Some}
 use Rattle.std.specs.Float.Ieee.{eq}
 use Rattle.floats.specs.Arith.{bits, zero_f, half_f, one_f, two_f, millionth}
 use Rattle.geometry.specs.Vectors.{vec, distance_of}
@@ -14,7 +14,6 @@ use Rattle.tree_sight.specs.Sights.{Answered}
 use Rattle.tree_sight.specs.declared.Sight.{Sight}
 use Rattle.tree_sight.specs.declared.Sight.TheVariants.{Visible, Hidden}
 use Rattle.query_scene.specs.Queries.{occluder_of}
-use Rattle.query_scene.specs.declared.NamedSight.TheVariants.{Hidden as HiddenBy}
 use Rattle.theorem_solids.specs.Same.{SameSolid}
 use Rattle.paths.specs.Paths.{Paths, paths_with, no_paths}
 use Rattle.path_rdp.specs.Rdp.{vertex}
@@ -24,6 +23,7 @@ use Rattle.draw_render.specs.Render.{Places}
 use Rattle.draw.specs.Drawing.{solid_in, Drawing}
 use Rattle.theorem_draws.specs.Sheets.{Put}
 use Rattle.theorem_demand3.specs.Demand3.{Covers, Premise, Draws, RowsLeft, Answers, Simplified}
+use Rattle.refusals.specs.declared.Refusal.{Refusal}
 
 -- ---- what the scenes are made of
 abbrev five : Float
@@ -59,12 +59,12 @@ near_side = vec zero_f zero_f one_f
 -- The cube covers the middle of its far side, which meets the premise and is hidden, and the cube is named; it does not cover the middle of its near side,
 -- which is visible.
 pub record CubeCovers : Type 0 where
-  pub same_rows : (boxes : List Float) × (marks order : List ℕ) × RowsLeft cube_yard boxes marks order × (occluder_of cube_yard boxes marks order overhead far_side ≡ HiddenBy 0)
+  pub same_rows : (boxes : List Float) × (marks order : List ℕ) × RowsLeft cube_yard boxes marks order × (occluder_of cube_yard boxes marks order overhead far_side ≡ Ok (Some 0))
   pub covers : Covers (solid_in cube_yard 0) overhead far_side
   pub premise : Premise overhead far_side
-  pub hidden : Answers cube_yard overhead far_side Hidden
+  pub hidden : Answers cube_yard overhead far_side (Ok Hidden)
   pub uncovered : Covers (solid_in cube_yard 0) overhead near_side → ⊥
-  pub visible : Answers cube_yard overhead near_side Visible
+  pub visible : Answers cube_yard overhead near_side (Ok Visible)
 
 -- ---- a draw: document 01's yard of one triangle, its view, and the drawing that document 01 prints
 abbrev triangle : List Float
@@ -130,13 +130,13 @@ pub record MinusZeroNeeded : Type 0 where
   pub remains : Member 0 (drawn flat_beside.marks)
   pub covers : Covers (solid_in flat_alone 0) minus_eye at_origin
   pub apart : T (not (eq (distance_of minus_eye at_origin) zero_f))
-  pub hidden : Answers flat_alone minus_eye at_origin Hidden
-  pub back : Answers flat_beside minus_eye at_origin Visible
+  pub hidden : Answers flat_alone minus_eye at_origin (Ok Hidden)
+  pub back : Answers flat_beside minus_eye at_origin (Ok Visible)
   -- seen from (+0, 0, 5) it is hidden in both
-  pub plus-zero : Answers flat_beside overhead at_origin Hidden
+  pub plus-zero : Answers flat_beside overhead at_origin (Ok Hidden)
   -- covered_stays_hidden, with the premise on the computed distance alone
   pub refuted : ((solid : Shape) (eye point : Vector) → Covers solid eye point → T (not (eq (distance_of eye point) zero_f))
-      → (s : Scene) → Draws s solid → (a : Sight) → Answered a → Answers s eye point a → a ≡ Hidden) → ⊥
+      → (s : Scene) → Draws s solid → (a : Result Sight Refusal) → Answered a → Answers s eye point a → a ≡ Ok Hidden) → ⊥
 
 -- ---- hidden and not covered: document 01's cube less a box, and the point (0, 0, 5) seen from (0, 0, 0.5), in the hole
 abbrev minus_half : Float
@@ -161,15 +161,15 @@ bin_eye = vec zero_f zero_f half_f
 -- Why hidden_names asks for a solid whose own returned distance falls short, and not for one that covers: the cut's t on the ray down is near 0.99, so the
 -- point is hidden before the surface, and the one drawn solid does not cover it.
 pub record ShortNotCovering : Type 0 where
-  pub hidden : Answers open_bin bin_eye overhead Hidden
+  pub hidden : Answers open_bin bin_eye overhead (Ok Hidden)
   pub one_drawn : drawn open_bin.marks ≡ 2 ∷ []
   pub uncovered : Covers (solid_in open_bin 2) bin_eye overhead → ⊥
   -- hidden_names, if it asked for a solid that covers
-  pub refuted : ((s : Scene) (eye point : Vector) → Answers s eye point Hidden → (solid : Shape) × Draws s solid × Covers solid eye point) → ⊥
+  pub refuted : ((s : Scene) (eye point : Vector) → Answers s eye point (Ok Hidden) → (solid : Shape) × Draws s solid × Covers solid eye point) → ⊥
 
 -- With operation 3 the same point stands: the cut's distance is that of its surface, beyond the eye.
 abbrev pub TrueBinClear : Type 0
-TrueBinClear = Answers true_bin bin_eye overhead Visible
+TrueBinClear = Answers true_bin bin_eye overhead (Ok Visible)
 
 -- ---- a lid that hides (document 02, iii): a cylinder of radius 1 and z from −1 to 1, and the point (0, 0, −2) below it seen from (0, 0, 5), along its axis
 abbrev cylinder_by : ℕ → Scene
@@ -188,13 +188,13 @@ below = vec zero_f zero_f (bits 0xc000_0000_0000_0000)
 pub record LidHides : Type 0 where
   pub covers : Covers (solid_in closed_tube 0) overhead below
   pub premise : Premise overhead below
-  pub hidden : Answers closed_tube overhead below Hidden
-  pub unlidded : Answers open_tube overhead below Visible
+  pub hidden : Answers closed_tube overhead below (Ok Hidden)
+  pub unlidded : Answers open_tube overhead below (Ok Visible)
 
 -- ---- a sham: every point called hidden, before a solid is tried
 -- By hidden_names alone: where no entry is drawn no point is hidden.
 abbrev pub NoneHidesNone : Type 0
-NoneHidesNone = (s : Scene) (eye point : Vector) → drawn s.marks ≡ [] → Answers s eye point Hidden → ⊥
+NoneHidesNone = (s : Scene) (eye point : Vector) → drawn s.marks ≡ [] → Answers s eye point (Ok Hidden) → ⊥
 
 -- ---- ends: what `Simplified` says of a path that has points, in plain words
 -- The first vertex is the first and the last the last, whatever is dropped between, and no vertex is added.

@@ -19,9 +19,7 @@ use Rattle.limits.specs.Limits.{within_point}
 use Rattle.check_parts.specs.Drawn.{drawn}
 use Rattle.check_scene.specs.Checks.{check_of}
 use Rattle.scene.specs.Scenes.{Scene}
-use Rattle.check_scene.specs.declared.Verdict.TheVariants.{Accepted}
 use Rattle.tree_walk.specs.Walks.{nothing, visit, walk_rows}
-use Rattle.tree_walk.specs.declared.Found.TheVariants.{Best}
 use Rattle.tree_sight.specs.Sights.{eye_ray, sees}
 use Rattle.tree_sight.proofs.Answers.{sees-same}
 use Rattle.theorem_hiding.specs.Covers.{sees_past}
@@ -32,21 +30,22 @@ use Rattle.theorem_covering.proofs.Rows.{accepted-scene, walk-tree, walk-nothing
 use Rattle.draw_render.specs.Render.{nearest_of}
 use Rattle.draw.proofs.Bridge.{planted-alike, own-boxes}
 use Rattle.draw.specs.Drawing.{solid_in, box_in, seen_in}
+use Rattle.std.specs.Prelude.{Ok}
 
 nearest-some : (solid : ℕ → Shape) (box : ℕ → BBox) (ids : List ℕ) (r : Ray) → 0 < length ids → nearest_of solid box ids r ≡ visit (λ (k : ℕ). shape_hit (solid k) r) r (tree_for box ids) 0 nothing
 unfolding nearest_of
 nearest-some solid box [] r h = absurd (omega arith)
 nearest-some solid box (i ∷ ids) r h = refl
 
-nearest-none : (solid : ℕ → Shape) (box : ℕ → BBox) (ids : List ℕ) (r : Ray) → ids ≡ [] → nearest_of solid box ids r ≡ Best nothing
+nearest-none : (solid : ℕ → Shape) (box : ℕ → BBox) (ids : List ℕ) (r : Ray) → ids ≡ [] → nearest_of solid box ids r ≡ Ok nothing
 unfolding nearest_of
 nearest-none solid box ids r h = rw h
 
 -- a scene without drawn entries has no tree, and nothing is hit
-pub seen_nothing : (s : Scene) → drawn s.marks ≡ [] → (eye point : Vector) → seen_in s eye point ≡ sees (λ (r : Ray). Best nothing) eye point
+pub seen_nothing : (s : Scene) → drawn s.marks ≡ [] → (eye point : Vector) → seen_in s eye point ≡ sees (λ (r : Ray). Ok nothing) eye point
 seen_nothing s none eye point = sees-same _ _ eye point (nearest-none (solid_in s) (box_in s) (drawn s.marks) (eye_ray eye point) none)
 
-module _ (s : Scene) (n : ℕ) (is : check_of s ≡ Accepted n) where
+module _ (s : Scene) (n : ℕ) (is : check_of s ≡ Ok n) where
   boxes-agree : Each (λ (i : ℕ). box_in s i ≡ box_at (boxes_left s) i) (drawn s.marks)
   boxes-agree = each_map (λ (i : ℕ). box_at (boxes_left s) i ≡ box_in s i) (λ (i : ℕ). box_in s i ≡ box_at (boxes_left s) i) (λ i e. sym e) (drawn s.marks) (own-boxes s n is 6144 (boxes_left s) refl)
 
@@ -71,7 +70,7 @@ pub visible-is-seen : (s : Scene) (nodeBoxes : List Float) (nodeMarks order : Li
 unfolding visible_of seen_after
 visible-is-seen s nodeBoxes nodeMarks order R eye point ea eb = go (drawn s.marks) refl
   where
-    acc : (n : ℕ) × (check_of s ≡ Accepted n)
+    acc : (n : ℕ) × (check_of s ≡ Ok n)
     acc = accepted-scene s nodeBoxes nodeMarks order R
 
     asked : visible_of s nodeBoxes nodeMarks order eye point ≡ sees (λ (r : Ray). walk_rows (own_hits s r) r nodeBoxes nodeMarks order) eye point
@@ -89,7 +88,7 @@ pub occluder-is-named : (s : Scene) (nodeBoxes : List Float) (nodeMarks order : 
 unfolding occluder_of named_after
 occluder-is-named s nodeBoxes nodeMarks order R eye point ea eb = asked ∙ hides-same _ _ eye point (go (drawn s.marks) refl)
   where
-    acc : (n : ℕ) × (check_of s ≡ Accepted n)
+    acc : (n : ℕ) × (check_of s ≡ Ok n)
     acc = accepted-scene s nodeBoxes nodeMarks order R
 
     asked : occluder_of s nodeBoxes nodeMarks order eye point ≡ hides (λ (r : Ray). walk_rows (own_hits s r) r nodeBoxes nodeMarks order) eye point

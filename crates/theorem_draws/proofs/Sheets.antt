@@ -25,19 +25,15 @@ use Rattle.check_parts.specs.Drawn.{drawn}
 use Rattle.scene.specs.Scenes.{Scene}
 use Rattle.tree_sight.specs.Sights.{eye_ray, Answered}
 use Rattle.tree_sight.specs.declared.Sight.{Sight}
-use Rattle.tree_sight.specs.declared.Sight.TheVariants.{Visible, Hidden, Refused as NotSeen}
+use Rattle.tree_sight.specs.declared.Sight.TheVariants.{Visible, Hidden}
 use Rattle.theorem_hiding.specs.Covers.{NoMinusZero, PremiseWithin}
 use Rattle.theorem_hiding.proofs.Hiding.{covered-is-hidden, hidden-falls-short, nothing-is-hidden}
 use Rattle.query_scene.specs.Queries.{build_of, visible_of}
-use Rattle.query_scene.specs.declared.Built.TheVariants.{Nodes}
 use Rattle.theorem_covering.proofs.Trees.{scene-tree}
 use Rattle.theorem_covering.specs.Scenes.{CoversPoint, Short, DrawsSolid, BuiltRows}
-use Rattle.paths.specs.Answers.{answered, refused}
 use Rattle.paths.specs.Paths.{Paths, paths_of, with_points}
 use Rattle.paths.specs.Ends.{held, Finished}
 use Rattle.paths.specs.Judged.{points_ok}
-use Rattle.paths.specs.declared.Counts.{Counts}
-use Rattle.paths.specs.declared.Counts.TheVariants.{Both}
 use Rattle.paths.proofs.Closing.{finished-held}
 use Rattle.paths.proofs.Adding.{no_answer, same_answer, next-answered}
 use Rattle.path_rdp.specs.Demand.{Accepted, Simplifies}
@@ -45,8 +41,6 @@ use Rattle.path_simplify.specs.Simplify.{simplify_paths}
 use Rattle.path_simplify.proofs.Calls.{paths-kept}
 use Rattle.view.specs.Views.{extent_ok, step_ok, view_ok, viewport}
 use Rattle.view.specs.declared.View.{View}
-use Rattle.path_filter.specs.declared.Test.{Test}
-use Rattle.path_filter.specs.declared.Test.TheVariants.{Keep, Drop, Refused}
 use Rattle.draw_clip.specs.Clip.{by_sight, clip_filter}
 use Rattle.theorem_filters.specs.Kept.{Tested, kept_of}
 use Rattle.theorem_filters.proofs.Kept.{stage-keeps}
@@ -59,18 +53,20 @@ use Rattle.draw.specs.Drawing.{solid_in, seen_in, Drawing}
 use Rattle.draw.proofs.Answered.{drawn-so}
 use Rattle.theorem_draws.specs.Sheets.{Put, ClippedIn, PassedIn, HiddenIn}
 use Rattle.theorem_draws.proofs.Seeing.{build-alike, seen_nothing, seen-tree, visible-is-seen}
+use Rattle.std.specs.Prelude.{Err, None, Ok, Option, Result, Some}
+use Rattle.refusals.specs.declared.Refusal.{Refusal}
 
 -- The public call, where it answers with so many points and paths: they stand in its slices, and are the drawing.
-pub call-drawn : (t : Float) (s : Scene) (v : View) (w : Places) (n m : ℕ) {xs : List Float} {ss : List ℕ} {r : Counts} → Finished (draw_with t s v w) n m xs ss r → (i j : ℕ) → r ≡ Both i j
+pub call-drawn : (t : Float) (s : Scene) (v : View) (w : Places) (n m : ℕ) {xs : List Float} {ss : List ℕ} {r : Result (ℕ × ℕ) Refusal} → Finished (draw_with t s v w) n m xs ss r → (i j : ℕ) → r ≡ Ok (i, j)
     → Drawing t s v w (held i xs j ss)
 call-drawn t s v w n m f i j e = drawn-so t s v w _ (finished-held (draw_with t s v w) n m f e)
 
 -- Where a draw is answered the public build is, with as many places.
-pub build-answered : {t : Float} {s : Scene} {v : View} {w : Places} {q : Paths} (D : Drawing t s v w q) → build_of s w.nodes w.order ≡ Nodes D.nodes
+pub build-answered : {t : Float} {s : Scene} {v : View} {w : Places} {q : Paths} (D : Drawing t s v w q) → build_of s w.nodes w.order ≡ Ok D.nodes
 build-answered {s = s} {w = w} D = build-alike s D.count D.accepted w.nodes w.order ∙ D.builds
 
 -- ---- a point that was put to the eye test has passed number 9, and the eye number 8
-put-to-eye : (w : Vector) (b j : Bool) (t : Sight) → T b → Tested (cond b (cond j (by_sight w t) (Refused Point)) Drop) → (j ≡ true) × Answered t
+put-to-eye : (w : Vector) (b j : Bool) (t : Result Sight Refusal) → T b → Tested (cond b (cond j (by_sight w t) (Err Point)) (Ok None)) → (j ≡ true) × Answered t
 unfolding by_sight
 put-to-eye w false j t l a = absurd l
 put-to-eye w true false t l a = absurd (a Point refl)
@@ -82,17 +78,17 @@ eye-passes v e =
     let a = ((and-eq-true_iff (finite_matrix v.matrix) (within_point v.eye && (extent_ok v.width && (extent_ok v.height && step_ok v.step)))).0 e).1 in
     ((and-eq-true_iff (within_point v.eye) (extent_ok v.width && (extent_ok v.height && step_ok v.step))).0 a).0
 
-kept-not-dropped : {t : Test} {x : Vector} → t ≡ Keep x → t ≡ Drop → ⊥
+kept-not-dropped : {t : Result (Option Vector) Refusal} {x : Vector} → t ≡ Ok (Some x) → t ≡ Ok None → ⊥
 kept-not-dropped a b = let z : ◌≡◌ {A = ℕ} 0 1 = cc in omega arith
 
 clipped-or-left : (b : Bool) → (T b → ⊥) ⊎ T b
 clipped-or-left true = inr tt
 clipped-or-left false = inl (λ h. h)
 
-yes_or_no : (t : Sight) → Answered t → (t ≡ Visible) ⊎ (t ≡ Hidden)
-yes_or_no Visible a = inl refl
-yes_or_no Hidden a = inr refl
-yes_or_no (NotSeen k) a = absurd (a k refl)
+yes_or_no : (t : Result Sight Refusal) → Answered t → (t ≡ Ok Visible) ⊎ (t ≡ Ok Hidden)
+yes_or_no (Ok Visible) a = inl refl
+yes_or_no (Ok Hidden) a = inr refl
+yes_or_no (Err k) a = absurd (a k refl)
 
 some-drawn : (l : List ℕ) (i : ℕ) → Member i l → 0 < length l
 some-drawn [] i m = absurd m
@@ -105,7 +101,7 @@ module _ {t : Float} {s : Scene} {v : View} {w : Places} {q : Paths} (D : Drawin
 
   module _ (point : Vector) (put : Put D point) (left : LeftAfterClipping v.matrix point) where
     -- Step 4 passes a point left after clipping exactly if visible answers yes, and drops it as hidden exactly if it answers no.
-    pub step_four : Exactly (PassedIn s v point) (seen_in s v.eye point ≡ Visible) × Exactly (HiddenIn s v point) (seen_in s v.eye point ≡ Hidden)
+    pub step_four : Exactly (PassedIn s v point) (seen_in s v.eye point ≡ Ok Visible) × Exactly (HiddenIn s v point) (seen_in s v.eye point ≡ Ok Hidden)
     step_four = step-passes v.matrix (seen_in s v.eye) D.lines.vertices D.lines.starts _ _ _ D.filters put.path put.among point put.on left
 
     judged : (within_point point ≡ true) × Answered (seen_in s v.eye point)
@@ -132,17 +128,17 @@ module _ {t : Float} {s : Scene} {v : View} {w : Places} {q : Paths} (D : Drawin
         let some = some-drawn (drawn s.marks) draws.0 draws.1 in
         let premise : PremiseWithin v.eye point = record { eye_within = eye-in; point_within = point-in; apart = apart; direction = direction } in
         let e = seen-tree s D.count D.accepted some v.eye point in
-        let hidden : seen_in s v.eye point ≡ Hidden =
+        let hidden : seen_in s v.eye point ≡ Ok Hidden =
         e ∙ covered-is-hidden Shape shape_box shape_hit solid v.eye point covers premise (solid_in s) (drawn s.marks) _ (scene-tree s D.count D.accepted some) draws (subst Answered e judged.1) in
         let d : HiddenIn s v point = step_four.1.1 hidden in
         (d, λ p. kept-not-dropped p d.dropped)
 
-    short-of-eye : seen_in s v.eye point ≡ Hidden → (solid : Shape) × DrawsSolid s solid × Short solid v.eye point
+    short-of-eye : seen_in s v.eye point ≡ Ok Hidden → (solid : Shape) × DrawsSolid s solid × Short solid v.eye point
     short-of-eye hidden = go (drawn s.marks) refl
       where
         go : (l : List ℕ) → drawn s.marks ≡ l → (solid : Shape) × DrawsSolid s solid × Short solid v.eye point
         go [] none =
-            let e : Visible ≡ Hidden = sym (seen_nothing s none v.eye point ∙ nothing-is-hidden v.eye point eye-in point-in) ∙ hidden in
+            let e : ◌≡◌ {A = Result Sight Refusal} (Ok Visible) (Ok Hidden) = sym (seen_nothing s none v.eye point ∙ nothing-is-hidden v.eye point eye-in point-in) ∙ hidden in
             let z : ◌≡◌ {A = ℕ} 0 1 = cc in absurd (omega arith)
         go (i ∷ l) more =
             let some : 0 < length (drawn s.marks) = rw more (omega arith) in
@@ -157,7 +153,7 @@ module _ {t : Float} {s : Scene} {v : View} {w : Places} {q : Paths} (D : Drawin
   pub each_point : (point : Vector) → Put D point → ClippedIn s v point ⊎ (PassedIn s v point ⊎ HiddenIn s v point)
   each_point point put = go (clipped-or-left (contains clip_box (mul_position_w v.matrix point)))
     where
-      by : LeftAfterClipping v.matrix point → (seen_in s v.eye point ≡ Visible) ⊎ (seen_in s v.eye point ≡ Hidden) → PassedIn s v point ⊎ HiddenIn s v point
+      by : LeftAfterClipping v.matrix point → (seen_in s v.eye point ≡ Ok Visible) ⊎ (seen_in s v.eye point ≡ Ok Hidden) → PassedIn s v point ⊎ HiddenIn s v point
       by left (inl e) = inl ((step_four point put left).0.1 e)
       by left (inr e) = inr ((step_four point put left).1.1 e)
 
@@ -166,11 +162,11 @@ module _ {t : Float} {s : Scene} {v : View} {w : Places} {q : Paths} (D : Drawin
       go (inr left) = inr (by left (yes_or_no (seen_in s v.eye point) (judged point put left).1))
 
 -- ---- simplification
-handed-over : (p : Paths) {o : Paths} → handed p ≡ answered o → (points_ok p.vertices ≡ true) × (p ≡ o)
+handed-over : (p : Paths) {o : Paths} → handed p ≡ Ok o → (points_ok p.vertices ≡ true) × (p ≡ o)
 unfolding handed
 handed-over p {o} e = go (points_ok p.vertices) e
   where
-    go : (b : Bool) → cond b (answered p) (refused Point) ≡ answered o → (b ≡ true) × (p ≡ o)
+    go : (b : Bool) → cond b (Ok p) (Err Point) ≡ Ok o → (b ≡ true) × (p ≡ o)
     go true e = (refl, same_answer e)
     go false e = no_answer Point e
 
@@ -181,7 +177,7 @@ module _ {t : Float} {s : Scene} {v : View} {w : Places} {q : Paths} (D : Drawin
       → Pairwise (λ (p r : List Vector). Accepted t p × Simplifies t p r) (with_points (paths_of D.passed.vertices D.passed.starts)) (paths_of D.left.vertices D.left.starts)
   unfolding simplified_lines
   simplified_so h =
-      let e : simplified_lines t w.points w.starts D.passed ≡ answered D.left = sym (ap (λ (b : Bool). cond b (simplified_lines t w.points w.starts D.passed) (answered D.passed)) h) ∙ D.simplifies in
+      let e : simplified_lines t w.points w.starts D.passed ≡ Ok D.left = sym (ap (λ (b : Bool). cond b (simplified_lines t w.points w.starts D.passed) (Ok D.passed)) h) ∙ D.simplifies in
       let a = next-answered (handed D.passed) (λ (p : Paths). simplify_paths t p.vertices p.starts w.points w.starts) D.left e in
       let b = handed-over D.passed a.1 in
       paths-kept t (subst T (sym D.threshold) tt) D.passed.vertices b.0 D.passed.starts w.points w.starts D.left
@@ -190,7 +186,7 @@ module _ {t : Float} {s : Scene} {v : View} {w : Places} {q : Paths} (D : Drawin
   -- At step 0 nothing is simplified.
   pub unsimplified-so : stepping v ≡ false → D.left ≡ D.passed
   unsimplified-so h =
-      sym (same_answer (sym (ap (λ (b : Bool). cond b (simplified_lines t w.points w.starts D.passed) (answered D.passed)) h) ∙ D.simplifies))
+      sym (same_answer (sym (ap (λ (b : Bool). cond b (simplified_lines t w.points w.starts D.passed) (Ok D.passed)) h) ∙ D.simplifies))
 
 -- ---- the sheet
 module _ {A B : Type 0} (f : A → B) where

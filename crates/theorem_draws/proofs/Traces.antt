@@ -21,8 +21,6 @@ use Rattle.path_rdp.specs.Rdp.{vertex}
 use Rattle.path_rdp.specs.Demand.{Chain, Accepted, Simplifies}
 use Rattle.view.specs.Views.{viewport}
 use Rattle.view.specs.declared.View.{View}
-use Rattle.path_filter.specs.declared.Test.{Test}
-use Rattle.path_filter.specs.declared.Test.TheVariants.{Keep, Drop, Refused}
 use Rattle.draw_clip.specs.Clip.{clip_filter}
 use Rattle.theorem_filters.specs.Kept.{before, kept_in, kept_of}
 use Rattle.theorem_filters.specs.Passing.{LeftAfterClipping}
@@ -32,6 +30,8 @@ use Rattle.draw.specs.Drawing.{seen_in, Drawing}
 use Rattle.theorem_draws.specs.Sheets.{Put, ClippedIn, PassedIn, HiddenIn}
 use Rattle.theorem_draws.specs.Draws.{Seen}
 use Rattle.theorem_draws.proofs.Sheets.{each_point, step_four, step-four-leaves, simplified_so, unsimplified-so, sheet-paths}
+use Rattle.std.specs.Prelude.{Err, None, Ok, Option, Result, Some}
+use Rattle.refusals.specs.declared.Refusal.{Refusal}
 
 -- ---- members
 module _ {A B : Type 0} (f : A → B) where
@@ -87,24 +87,24 @@ partner {A} {B} r (x ∷ xs) (z ∷ ys) e y (inl h) = (x, inl refl, subst (λ (b
 partner r (x ∷ xs) (z ∷ ys) e y (inr m) = let k = partner r xs ys e.1 y m in (k.0, inr k.1, k.2)
 
 -- ---- what a test keeps comes from a point that it keeps
-module _ (test : Vector → Test) where
+module _ (test : Vector → Result (Option Vector) Refusal) where
   record Source (ps : List (List Vector)) (x : Vector) : Type 0 where
     path : List Vector
     among : Member path ps
     point : Vector
     on : Member point path
-    kept : test point ≡ Keep x
+    kept : test point ≡ Ok (Some x)
 
-  kept-source : (vs : List Vector) (x : Vector) → Member x (kept_in test vs) → (v : Vector) × Member v vs × (test v ≡ Keep x)
+  kept-source : (vs : List Vector) (x : Vector) → Member x (kept_in test vs) → (v : Vector) × Member v vs × (test v ≡ Ok (Some x))
   unfolding kept_in before
   kept-source [] x m = absurd m
   kept-source (v ∷ vs) x m = go (test v) refl m (λ h. kept-source vs x h)
     where
-      go : (t : Test) → test v ≡ t → Member x (before t (kept_in test vs)) → (Member x (kept_in test vs) → (u : Vector) × Member u vs × (test u ≡ Keep x)) → (u : Vector) × Member u (v ∷ vs) × (test u ≡ Keep x)
-      go (Keep w) e (inl h) rest = (v, inl refl, e ∙ ap Keep h)
-      go (Keep w) e (inr h) rest = let r = rest h in (r.0, inr r.1, r.2)
-      go Drop e h rest = let r = rest h in (r.0, inr r.1, r.2)
-      go (Refused k) e h rest = let r = rest h in (r.0, inr r.1, r.2)
+      go : (t : Result (Option Vector) Refusal) → test v ≡ t → Member x (before t (kept_in test vs)) → (Member x (kept_in test vs) → (u : Vector) × Member u vs × (test u ≡ Ok (Some x))) → (u : Vector) × Member u (v ∷ vs) × (test u ≡ Ok (Some x))
+      go (Ok (Some w)) e (inl h) rest = (v, inl refl, e ∙ ap (λ (u : Vector). Ok (Some u)) h)
+      go (Ok (Some w)) e (inr h) rest = let r = rest h in (r.0, inr r.1, r.2)
+      go (Ok None) e h rest = let r = rest h in (r.0, inr r.1, r.2)
+      go (Err k) e h rest = let r = rest h in (r.0, inr r.1, r.2)
 
   kept_from : (ps : List (List Vector)) (x : Vector) → Member x (kept_of test ps) → Source ps x
   unfolding kept_of
@@ -132,17 +132,17 @@ either : (b : Bool) → (T b → ⊥) ⊎ T b
 either true = inr tt
 either false = inl (λ h. h)
 
-keep_same : {x y : Vector} → Keep x ≡ Keep y → x ≡ y
+keep_same : {x y : Vector} → ◌≡◌ {A = Result (Option Vector) Refusal} (Ok (Some x)) (Ok (Some y)) → x ≡ y
 keep_same e = cc
 
-keep-drop : {x : Vector} → Keep x ≡ Drop → ⊥
+keep-drop : {x : Vector} → ◌≡◌ {A = Result (Option Vector) Refusal} (Ok (Some x)) (Ok None) → ⊥
 keep-drop e = let z : ◌≡◌ {A = ℕ} 0 1 = cc in omega arith
 
 module _ {t : Float} {s : Scene} {v : View} {w : Places} {q : Paths} (D : Drawing t s v w q) where
-  abbrev test : Vector → Test
+  abbrev test : Vector → Result (Option Vector) Refusal
   test = clip_filter v.matrix (seen_in s v.eye)
 
-  left-of : (y u : Vector) → test u ≡ Keep y → LeftAfterClipping v.matrix u
+  left-of : (y u : Vector) → test u ≡ Ok (Some y) → LeftAfterClipping v.matrix u
   left-of y u k = elim (either (contains clip_box (mul_position_w v.matrix u))) [
     | inl out ↦ absurd (keep-drop (sym k ∙ clipped-is-dropped v.matrix (seen_in s v.eye) u out))
     | inr l ↦ l
@@ -155,7 +155,7 @@ module _ {t : Float} {s : Scene} {v : View} {w : Places} {q : Paths} (D : Drawin
       let put : Put D src.point = record { path = src.path; among = src.among; on = src.on } in
       go y src.point put src.kept (each_point D src.point put)
     where
-      go : (y u : Vector) (put : Put D u) → test u ≡ Keep y
+      go : (y u : Vector) (put : Put D u) → test u ≡ Ok (Some y)
           → ClippedIn s v u ⊎ (PassedIn s v u ⊎ HiddenIn s v u) → Seen D (mul_position (viewport v.width v.height) y)
       go y u put k (inl out) = absurd (keep-drop (sym k ∙ out.1))
       go y u put k (inr (inr hid)) = absurd (keep-drop (sym k ∙ hid.dropped))

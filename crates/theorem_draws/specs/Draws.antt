@@ -7,19 +7,17 @@
 --   clip_filter, kept_of  draw_clip/specs/Clip.antt, theorem_filters/specs/Kept.antt: step 4's test of a point; what a test keeps of all points, in order
 --   runs_of, Unbroken    theorem_filters/specs/Cutting.antt: lines cut at each point that a test does not keep; neighbours that stem from neighbours
 use Rattle.std.specs.Prelude.{ℕ, ◌≡◌, ◌⊎◌, false, List, map, Float}
+use Rattle.std.specs.Prelude.{Ok, Option, Result}
 use Rattle.geometry.specs.declared.vector.Vector.{Vector}
 use Rattle.matrix.specs.Matrices.{mul_position, mul_position_w}
 use Rattle.lists.specs.Lists.{Member}
 use Rattle.scene.specs.Scenes.{Scene}
 use Rattle.tree_sight.specs.declared.Sight.TheVariants.{Visible}
-use Rattle.query_scene.specs.declared.Built.TheVariants.{Nodes}
 use Rattle.query_scene.specs.Queries.{build_of}
 use Rattle.paths.specs.Paths.{Paths, paths_of, with_points}
 use Rattle.paths.specs.Ends.{held, Finished}
-use Rattle.paths.specs.declared.Counts.TheVariants.{Both}
 use Rattle.view.specs.Views.{viewport}
 use Rattle.view.specs.declared.View.{View}
-use Rattle.path_filter.specs.declared.Test.{Test}
 use Rattle.draw_clip.specs.Clip.{clip_filter}
 use Rattle.theorem_filters.specs.Kept.{kept_of}
 use Rattle.theorem_filters.specs.Cutting.{runs_of, After, Unbroken}
@@ -28,9 +26,10 @@ use Rattle.draw_render.specs.Render.{Places, stepping}
 use Rattle.draw.specs.Draw.{draw_with}
 use Rattle.draw.specs.Drawing.{seen_in, Drawing}
 use Rattle.theorem_draws.specs.Sheets.{Put, ClippedIn, PassedIn, HiddenIn}
+use Rattle.refusals.specs.declared.Refusal.{Refusal}
 
 -- step 4's test of a point, and the paths that it is handed, that it leaves, and that step 5 leaves
-abbrev pub test_in : Scene → View → Vector → Test
+abbrev pub test_in : Scene → View → Vector → Result (Option Vector) Refusal
 test_in s v = clip_filter v.matrix (seen_in s v.eye)
 
 abbrev pub paths_in : Paths → List (List Vector)
@@ -41,12 +40,12 @@ pub record Seen {t : Float} {s : Scene} {v : View} {w : Places} {q : Paths} (D :
   pub point : Vector
   pub put : Put D point
   pub left : LeftAfterClipping v.matrix point
-  pub seen : seen_in s v.eye point ≡ Visible
+  pub seen : seen_in s v.eye point ≡ Ok Visible
   pub lands : x ≡ mul_position (viewport v.width v.height) (mul_position_w v.matrix point)
 
 pub record OfADraw {t : Float} {s : Scene} {v : View} {w : Places} {q : Paths} (D : Drawing t s v w q) : Type 0 where
   -- The public build is answered too, with as many places.
-  pub builds : build_of s w.nodes w.order ≡ Nodes D.nodes
+  pub builds : build_of s w.nodes w.order ≡ Ok D.nodes
   -- Each point put to step 4 is clipped away, or passed, or dropped as hidden: there is no fourth way. Step 4 leaves the points that it passes, as they
   -- are projected, in order.
   pub each_point : (point : Vector) → Put D point → ClippedIn s v point ⊎ (PassedIn s v point ⊎ HiddenIn s v point)
@@ -65,5 +64,5 @@ pub record OfADraw {t : Float} {s : Scene} {v : View} {w : Places} {q : Paths} (
 pub record WhatADrawDoes : Type 0 where
   -- Where the answer is so many points and paths, the draw has been through the six steps, and the slices hold its sheet.
   pub six_steps : (t : Float) (s : Scene) (v : View) (w : Places) (n m : ℕ) (xs : List Float) (ss : List ℕ) (i j : ℕ)
-      → Finished (draw_with t s v w) n m xs ss (Both i j) → Drawing t s v w (held i xs j ss)
+      → Finished (draw_with t s v w) n m xs ss (Ok (i, j)) → Drawing t s v w (held i xs j ss)
   pub of_a_draw : {t : Float} {s : Scene} {v : View} {w : Places} {q : Paths} (D : Drawing t s v w q) → OfADraw D

@@ -12,24 +12,25 @@ use Rattle.refusals.specs.declared.Refusal.TheVariants.{Point}
 use Rattle.limits.specs.Limits.{within_point}
 use Rattle.scene_shape.specs.Shapes.{shape_contains}
 use Rattle.tree_sight.specs.declared.Sight.{Sight}
-use Rattle.tree_sight.specs.declared.Sight.TheVariants.{Visible, Hidden, Refused as NotSeen}
-use Rattle.path_filter.specs.declared.Test.TheVariants.{Keep, Drop, Refused}
+use Rattle.tree_sight.specs.declared.Sight.TheVariants.{Visible, Hidden}
 use Rattle.draw_clip.specs.Clip.{by_sight, clip_filter}
 use Rattle.draw_cuts.specs.Cuts.{cut_filter}
 use Rattle.theorem_filters.specs.Kept.{Tested}
 use Rattle.theorem_filters.specs.Passing.{Exactly, PassedExactlyIfVisible, DroppedExactlyIfHidden, ClippedIsDropped, StepPasses, CutKeepsInside}
 use Rattle.theorem_filters.proofs.Kept.{stage-keeps}
+use Rattle.std.specs.Prelude.{Err, None, Ok, Option, Result, Some}
+use Rattle.refusals.specs.declared.Refusal.{Refusal}
 
 -- ---- one point, where the filter is answered
 module _ (w : Vector) where
-  put-to : (b j : Bool) (s : Sight) → T b → Tested (cond b (cond j (by_sight w s) (Refused Point)) Drop)
-      → Exactly (cond b (cond j (by_sight w s) (Refused Point)) Drop ≡ Keep w) (s ≡ Visible) × Exactly (cond b (cond j (by_sight w s) (Refused Point)) Drop ≡ Drop) (s ≡ Hidden)
+  put-to : (b j : Bool) (s : Result Sight Refusal) → T b → Tested (cond b (cond j (by_sight w s) (Err Point)) (Ok None))
+      → Exactly (cond b (cond j (by_sight w s) (Err Point)) (Ok None) ≡ Ok (Some w)) (s ≡ Ok Visible) × Exactly (cond b (cond j (by_sight w s) (Err Point)) (Ok None) ≡ Ok None) (s ≡ Ok Hidden)
   unfolding by_sight
   put-to false j s l a = absurd l
   put-to true false s l a = absurd (a Point refl)
-  put-to true true Visible l a = ((λ _. refl, λ _. refl), (λ e. let z : ◌≡◌ {A = ℕ} 0 1 = cc in absurd (omega arith), λ e. let z : ◌≡◌ {A = ℕ} 0 1 = cc in absurd (omega arith)))
-  put-to true true Hidden l a = ((λ e. let z : ◌≡◌ {A = ℕ} 0 1 = cc in absurd (omega arith), λ e. let z : ◌≡◌ {A = ℕ} 0 1 = cc in absurd (omega arith)), (λ _. refl, λ _. refl))
-  put-to true true (NotSeen k) l a = absurd (a k refl)
+  put-to true true (Ok Visible) l a = ((λ _. refl, λ _. refl), (λ e. let z : ◌≡◌ {A = ℕ} 0 1 = cc in absurd (omega arith), λ e. let z : ◌≡◌ {A = ℕ} 0 1 = cc in absurd (omega arith)))
+  put-to true true (Ok Hidden) l a = ((λ e. let z : ◌≡◌ {A = ℕ} 0 1 = cc in absurd (omega arith), λ e. let z : ◌≡◌ {A = ℕ} 0 1 = cc in absurd (omega arith)), (λ _. refl, λ _. refl))
+  put-to true true (Err k) l a = absurd (a k refl)
 
 pub passed-exactly-if-visible : PassedExactlyIfVisible
 unfolding clip_filter
@@ -45,7 +46,7 @@ pub clipped-is-dropped : ClippedIsDropped
 unfolding clip_filter
 clipped-is-dropped matrix seen v h = go (contains clip_box (mul_position_w matrix v)) h
   where
-    go : (b : Bool) → (T b → ⊥) → cond b (cond (within_point v) (by_sight (mul_position_w matrix v) (seen v)) (Refused Point)) Drop ≡ Drop
+    go : (b : Bool) → (T b → ⊥) → cond b (cond (within_point v) (by_sight (mul_position_w matrix v) (seen v)) (Err Point)) (Ok None) ≡ Ok None
     go true h = absurd (h tt)
     go false h = refl
 
@@ -58,6 +59,6 @@ pub cut-keeps-inside : CutKeepsInside
 unfolding cut_filter
 cut-keeps-inside s v = go (shape_contains s v zero_f)
   where
-    go : (b : Bool) → Exactly (cond b (Keep v) Drop ≡ Keep v) (b ≡ true)
+    go : (b : Bool) → Exactly (◌≡◌ {A = Result (Option Vector) Refusal} (cond b (Ok (Some v)) (Ok None)) (Ok (Some v))) (b ≡ true)
     go true = (λ _. refl, λ _. refl)
     go false = (λ e. let z : ◌≡◌ {A = ℕ} 0 1 = cc in absurd (omega arith), λ e. let z : ◌≡◌ {A = ℕ} 0 1 = cc in absurd (omega arith))

@@ -15,12 +15,10 @@ use Rattle.rows.specs.Starts.{next_start, good_starts}
 use Rattle.refusals.specs.declared.Refusal.TheVariants.{Lengths, Parts, View as BadView, Point}
 use Rattle.limits.specs.Limits.{within_point}
 use Rattle.limits.proofs.Limits.{within-point}
-use Rattle.paths.specs.Answers.{Answer, answered, refused, next}
+use Rattle.paths.specs.Answers.{next}
 use Rattle.paths.specs.Paths.{Paths, paths_with, push, opened, closed, one_path, paths_of, each, no_paths, stage}
 use Rattle.paths.specs.Ends.{places, all_points}
 use Rattle.paths.specs.Judged.{points_ok, handed_over, paths_judged, unless}
-use Rattle.paths.specs.declared.Judgement.{Judgement}
-use Rattle.paths.specs.declared.Judgement.TheVariants.{Fine, Refused as NotFine}
 use Rattle.view.specs.Views.{view_ok, args_of}
 use Rattle.view.specs.declared.RenderArgs.{RenderArgs}
 use Rattle.path_chop.specs.declared.Screen.{Screen}
@@ -29,11 +27,13 @@ use Rattle.path_chop.specs.Chop.{screen_of, spot_of, middle_of, stops, push_or, 
 use Rattle.theorem_halvings.specs.Halvings.{needs_at_most}
 use Rattle.theorem_halvings.specs.Unlimited.{ChopUnlimited, CallUnlimited}
 use Rattle.theorem_halvings.proofs.Nearness.{at-most-37}
+use Rattle.std.specs.Prelude.{Err, Ok, Result, ⊤}
+use Rattle.refusals.specs.declared.Refusal.{Refusal}
 
 -- ---- a segment that needs at most n halvings is chopped alike with any most_halvings from n on
-pub next-same : {A B : Type 0} (r : Answer A) (f g : A → Answer B) → ((x : A) → f x ≡ g x) → next r f ≡ next r g
-next-same (answered x) f g h = h x
-next-same (refused k) f g h = refl
+pub next-same : {A B : Type 0} (r : Result A Refusal) (f g : A → Result B Refusal) → ((x : A) → f x ≡ g x) → next r f ≡ next r g
+next-same (Ok x) f g h = h x
+next-same (Err k) f g h = refl
 
 segment-same : (s : Screen) (room n k : ℕ) (a b : Spot) (vs : List Vector) → T (needs_at_most n s a b) → subdivide s room (k + n) a b vs ≡ subdivide s room n a b vs
 unfolding subdivide push_or needs_at_most
@@ -100,8 +100,8 @@ module _ (k : ℕ) (s : Screen) (room : ℕ) where
       next-same (opened startRoom out) (λ (o : Paths). then o (path_chop (k + most_halvings) s room p o.vertices)) (λ (o : Paths). then o (path_chop most_halvings s room p o.vertices))
       (λ (o : Paths). ap (then o) (path-same p o.vertices e))
     where
-      then : Paths → Answer (List Vector) → Answer Paths
-      then o r = next r (λ (vs : List Vector). answered (closed (paths_with vs o.starts)))
+      then : Paths → Result (List Vector) Refusal → Result Paths Refusal
+      then o r = next r (λ (vs : List Vector). Ok (closed (paths_with vs o.starts)))
 
   each_same : (startRoom : ℕ) (vs : List Vector) (ss : List ℕ) (out : Paths) → points_ok vs ≡ true
       → each (one_path (path_chop (k + most_halvings) s) room startRoom) (paths_of vs ss) out ≡ each (one_path (path_chop most_halvings s) room startRoom) (paths_of vs ss) out
@@ -111,7 +111,7 @@ module _ (k : ℕ) (s : Screen) (room : ℕ) where
       let p = slice i (next_start (length vs) ss) vs in
       let f = one_path (path_chop (k + most_halvings) s) room startRoom in
       let g = one_path (path_chop most_halvings s) room startRoom in
-      ap (λ (r : Answer Paths). next r (each f (paths_of vs ss))) (one_same startRoom p out (ok-drop i (take (next_start (length vs) ss) vs) (ok-take (next_start (length vs) ss) vs e)))
+      ap (λ (r : Result Paths Refusal). next r (each f (paths_of vs ss))) (one_same startRoom p out (ok-drop i (take (next_start (length vs) ss) vs) (ok-take (next_start (length vs) ss) vs e)))
       ∙ next-same (g p out) (each f (paths_of vs ss)) (each g (paths_of vs ss)) (λ (o : Paths). each_same startRoom vs ss o e)
 
 -- the chop of a draw and of a cut, whose points have passed number 9
@@ -128,8 +128,8 @@ pub call-unlimited : CallUnlimited
 unfolding call_upto paths_judged handed_over unless
 call-unlimited k v xs ss room startRoom = go ss (eqb (length xs % 3) 0) (good_starts (places xs) ss) (view_ok v) (points_ok (handed_over xs ss)) refl
   where
-    judge : Bool → Bool → Bool → Bool → Judgement
-    judge l g f o = cond l (cond g (cond f (cond o Fine (NotFine Point)) (NotFine BadView)) (NotFine Parts)) (NotFine Lengths)
+    judge : Bool → Bool → Bool → Bool → Result ⊤ Refusal
+    judge l g f o = cond l (cond g (cond f (cond o (Ok tt) (Err Point)) (Err BadView)) (Err Parts)) (Err Lengths)
 
     go : (ss : List ℕ) (l g f o : Bool) → points_ok (handed_over xs ss) ≡ o
         → unless (judge l g f o) (chop_upto (k + most_halvings) (args_of v) (all_points xs) ss room startRoom) ≡ unless (judge l g f o) (chop_paths (args_of v) (all_points xs) ss room startRoom)

@@ -1,5 +1,5 @@
 -- The limit on halvings is not to be seen: with any larger one a chop, the public call and a draw answer the same.
-use Rattle.std.specs.Prelude.{◌≡◌, true, cond, ◌&&◌, List, [], ◌∷◌, ℕ, ◌+◌, length, Float}
+use Rattle.std.specs.Prelude.{◌≡◌, true, cond, ◌&&◌, List, [], ◌∷◌, ℕ, ◌+◌, length, Float, Err, Ok, Result}
 use Rattle.geometry.specs.declared.vector.Vector.{Vector}
 use Rattle.geometry.specs.declared.bounding_box.BBox.{BBox}
 use Rattle.refusals.specs.declared.Refusal.TheVariants.{View as BadView}
@@ -7,7 +7,7 @@ use Rattle.scene.specs.Scenes.{Scene}
 use Rattle.scene_shape.specs.Shapes.{Shape, shape_box}
 use Rattle.check_parts.specs.Drawn.{drawn}
 use Rattle.check_scene.specs.Checks.{check_of}
-use Rattle.paths.specs.Answers.{Answer, answered, refused, next}
+use Rattle.paths.specs.Answers.{next}
 use Rattle.paths.specs.Paths.{Paths, no_paths}
 use Rattle.paths.specs.Judged.{points_ok}
 use Rattle.view.specs.Views.{view_ok, viewport, args_of}
@@ -22,6 +22,7 @@ use Rattle.draw_collect.specs.Lined.{Lined, no_lines, lined, placed_lines, cut_l
 use Rattle.draw_collect.specs.Collect.{LineRoom, moved_from, handed, collected}
 use Rattle.draw_render.specs.Render.{Places, stepping, seen_lines, simplified_lines, mapped}
 use Rattle.draw.specs.Draw.{lined_in, drawn_after, draw_with}
+use Rattle.refusals.specs.declared.Refusal.{Refusal}
 
 -- of points that pass number 9
 abbrev pub ChopUnlimited : Type 0
@@ -35,22 +36,22 @@ CallUnlimited = (k : ℕ) (v : View) (xs : List Float) (ss : List ℕ) (room sta
 
 -- ---- a draw with another chop in place of its own: of the lines of cuts, and of all lines
 abbrev pub Chopper : Type 0
-Chopper = RenderArgs → ℕ → ℕ → Paths → Answer Paths
+Chopper = RenderArgs → ℕ → ℕ → Paths → Result Paths Refusal
 
-unfoldable pub collected_by : Chopper → Placement → LineRoom → Lined → Paths → Answer Paths
+unfoldable pub collected_by : Chopper → Placement → LineRoom → Lined → Paths → Result Paths Refusal
 collected_by chop t w no_lines p = collected t w no_lines p
 collected_by chop t w (lined s ps) p = collected t w (lined s ps) p
-collected_by chop t w (placed_lines m v x) p = next (collected_by chop (placed_part m v t) w x p) (λ (q : Paths). answered (moved_from m (length p.vertices) q))
+collected_by chop t w (placed_lines m v x) p = next (collected_by chop (placed_part m v t) w x p) (λ (q : Paths). Ok (moved_from m (length p.vertices) q))
 collected_by chop t w (cut_lines o x y) p =
     next (next (collected_by chop t w x no_paths) (collected_by chop t w y))
     (λ (q : Paths). next (next (chop t.args w.chopped w.begins q)
     (λ (c : Paths). cut_paths (bare (cut_lines o x y)) c.vertices c.starts w.points w.starts)) (appended w.points w.starts p))
 
-unfoldable pub collected_all_by : Chopper → RenderArgs → LineRoom → (ℕ → Lined) → List ℕ → Paths → Answer Paths
-collected_all_by chop a w at [] p = answered p
+unfoldable pub collected_all_by : Chopper → RenderArgs → LineRoom → (ℕ → Lined) → List ℕ → Paths → Result Paths Refusal
+collected_all_by chop a w at [] p = Ok p
 collected_all_by chop a w at (i ∷ is) p = next (collected_by chop (unplaced a) w (at i) p) (collected_all_by chop a w at is)
 
-unfoldable pub rendered_by : Chopper → Float → View → Places → (ℕ → Lined) → (ℕ → BBox) → List ℕ → Answer Paths
+unfoldable pub rendered_by : Chopper → Float → View → Places → (ℕ → Lined) → (ℕ → BBox) → List ℕ → Result Paths Refusal
 rendered_by chop t v w at box ids =
     let solid : ℕ → Shape = λ (i : ℕ). bare (at i) in
     next (collected_all_by chop (args_of v) w.lines at ids no_paths)
@@ -59,12 +60,12 @@ rendered_by chop t v w at box ids =
     (next (chop (args_of v) w.lines.chopped w.lines.begins p)
     (λ (q : Paths). next (seen_lines v w.nodes w.order solid box ids w.lines.points w.lines.starts q) (simplified_lines t w.points w.starts)))
     (seen_lines v w.nodes w.order solid box ids w.points w.starts p))
-    (λ (s : Paths). answered (mapped (viewport v.width v.height) s)))
+    (λ (s : Paths). Ok (mapped (viewport v.width v.height) s)))
 
-unfoldable pub draw_by : Chopper → Float → Scene → View → Places → Answer Paths
+unfoldable pub draw_by : Chopper → Float → Scene → View → Places → Result Paths Refusal
 draw_by chop t s v w =
     drawn_after (check_of s)
-    (cond (view_ok v && threshold_ok t) (rendered_by chop t v w (lined_in s) (λ (i : ℕ). shape_box (bare (lined_in s i))) (drawn s.marks)) (refused BadView))
+    (cond (view_ok v && threshold_ok t) (rendered_by chop t v w (lined_in s) (λ (i : ℕ). shape_box (bare (lined_in s i))) (drawn s.marks)) (Err BadView))
 
 -- the chop of a draw with at most n halvings one inside another: of lines that are judged by number 9
 unfoldable pub chopped_upto : ℕ → Chopper

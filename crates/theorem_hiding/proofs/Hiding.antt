@@ -14,16 +14,16 @@ use Rattle.geometry.specs.declared.ray.Ray.{Ray}
 use Rattle.geometry.specs.declared.bounding_box.BBox.{BBox}
 use Rattle.geometry.proofs.Lengths.{distance-number, distance-le}
 use Rattle.tree_nodes.proofs.Members.{built-below, below-built, built-well}
-use Rattle.scene_shape.specs.declared.Struck.{Struck}
 use Rattle.tree_walk.specs.Walks.{nothing, visit}
 use Rattle.tree_walk.specs.declared.Nearest.{Nearest}
-use Rattle.tree_walk.specs.declared.Found.{Found}
-use Rattle.tree_walk.specs.declared.Found.TheVariants.{Best}
 use Rattle.tree_walk.proofs.Visits.{visit-le, visit-from, visit-hits}
 use Rattle.tree_sight.specs.Sights.{eye_ray}
 use Rattle.tree_sight.proofs.Answers.{answered-best, short-hidden, hidden-best, reaching-visible}
 use Rattle.theorem_hiding.specs.Covers.{CoversBy, NoMinusZero}
 use Rattle.theorem_hiding.specs.Hiding.{CoveredIsHidden, NamedFallsShort, HiddenFallsShort, NothingIsHidden}
+use Rattle.geometry.specs.declared.hit.Hit.{Hit}
+use Rattle.std.specs.Prelude.{Ok, Result}
+use Rattle.refusals.specs.declared.Refusal.{Refusal}
 
 inf-number : T (number INF)
 unfolding of_bits
@@ -36,7 +36,7 @@ eye-ray-usable eye point w d = record { origin = w; x = d.x; y = d.y; z = d.z }
 
 pub covered-is-hidden : CoveredIsHidden
 covered-is-hidden S box hit s eye point covers p solid entries tree of holds answered =
-    let nearest : Ray → Found = λ (q : Ray). visit (λ (j : ℕ). hit (solid j) q) q tree 0 nothing in
+    let nearest : Ray → Result Nearest Refusal = λ (q : Ray). visit (λ (j : ℕ). hit (solid j) q) q tree 0 nothing in
     let found = answered-best nearest eye point p.apart answered in
     let b : Nearest = found.0 in
     let i : ℕ = holds.0 in
@@ -52,7 +52,7 @@ named-falls-short S box hit eye point eye-in point-in solid entries tree of hidd
     let found = hidden-best (λ (q : Ray). visit (λ (j : ℕ). hit (solid j) q) q tree 0 nothing) eye point hidden in
     let b : Nearest = found.0 in
     let r : Ray = eye_ray eye point in
-    let own : ℕ → Struck = λ (j : ℕ). hit (solid j) r in
+    let own : ℕ → Result Hit Refusal = λ (j : ℕ). hit (solid j) r in
     let n = le-number-l b.hit.t INF (visit-le own r tree 0 nothing b inf-number found.1) in
     let l = not-ge→lt b.hit.t (distance_of eye point) n (distance-number eye point eye-in point-in) found.2 in
     elim (visit-from own r tree 0 nothing b found.1) [
@@ -66,4 +66,4 @@ hidden-falls-short S box hit eye point eye-in point-in solid entries tree of hid
     (solid z.0.entry, (z.0.entry, z.2, refl), z.3)
 
 pub nothing-is-hidden : NothingIsHidden
-nothing-is-hidden eye point eye-in point-in = reaching-visible (λ (r : Ray). Best nothing) eye point nothing refl (distance-le eye point eye-in point-in)
+nothing-is-hidden eye point eye-in point-in = reaching-visible (λ (r : Ray). Ok nothing) eye point nothing refl (distance-le eye point eye-in point-in)

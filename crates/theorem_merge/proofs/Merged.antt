@@ -28,7 +28,6 @@ use Rattle.check_parts.specs.Drawn.{unnamed, drawn}
 use Rattle.check_scene.specs.Placings.{placing_ok}
 use Rattle.check_scene.specs.Extents.{own_box}
 use Rattle.check_scene.specs.Checks.{lengths_agree, values_ok, stripes_ok, names_ok, lines_owned, starts_ok, measures_ok, placings_ok, extents_ok, check_of}
-use Rattle.check_scene.specs.declared.Verdict.TheVariants.{Accepted}
 use Rattle.check_scene.proofs.Verdicts.{is-accepted, accepted-same}
 use Rattle.check_scene.proofs.Accepted.{accepted-numbers}
 use Rattle.check_sound.specs.Passing.{Passing}
@@ -45,9 +44,10 @@ use Rattle.theorem_merge.proofs.Names.{Appended, merged-ok, merged-drawn}
 use Rattle.theorem_merge.proofs.Solids.{merged-first, merged-second}
 use Rattle.theorem_merge.proofs.Lists.{row_first, row-second, all_both, appended}
 use Rattle.theorem_merge.proofs.Lines.{merged-owners, merged-starts}
+use Rattle.std.specs.Prelude.{Ok}
 
 -- ---- a scene that passes each test is accepted, with its drawn entries
-passing-accepted : (s : Scene) → Passing s → check_of s ≡ Accepted (length (drawn s.marks))
+passing-accepted : (s : Scene) → Passing s → check_of s ≡ Ok (length (drawn s.marks))
 passing-accepted s P =
     sym (is-accepted s refl P.lengths refl P.values refl P.stripes refl P.names refl P.owners refl P.starts refl P.measures refl P.placings refl P.extents refl)
 
@@ -245,9 +245,9 @@ module _ (s u : Scene) (B : BothAccepted s u) where
       ∙ length-append (drawn s.marks) _
       ∙ ap₂ ◌+◌ (sym first-drawn) (length-map (drawn u.marks) _ ∙ sym second-drawn)
 
-  both-accepted : check_of (merged_scene s u) ≡ Accepted (B.first + B.second)
+  both-accepted : check_of (merged_scene s u) ≡ Ok (B.first + B.second)
   unfolding merged_scene
-  both-accepted = passing-accepted (merged_scene s u) merged-passes ∙ ap Accepted drawn-many
+  both-accepted = passing-accepted (merged_scene s u) merged-passes ∙ ap Ok drawn-many
 
   -- ---- a solid that either draws is drawn, and covers there what it covers
   drawn-s : (i : ℕ) → Member i (drawn s.marks) → Member i (drawn marks')

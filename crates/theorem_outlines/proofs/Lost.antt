@@ -15,8 +15,6 @@ use Rattle.floats.proofs.Bounds.{within-finite}
 use Rattle.geometry.specs.Vectors.{add_v, mul_scalar, div_scalar, normalize_of}
 use Rattle.geometry.specs.Boxes.{minus_one, clip_box, in_range, contains}
 use Rattle.geometry.specs.declared.vector.Vector.{Vector}
-use Rattle.geometry.specs.declared.vector.Normalized.{Normalized}
-use Rattle.geometry.specs.declared.vector.Normalized.TheVariants.{Unit, Zero}
 use Rattle.draw_rings.specs.Pieces.{times_radius, ring_middle, halved_at, pieces, east, north, west, south, ring_pairs}
 use Rattle.draw_rings.proofs.Spheres.{div-left, mul_right}
 use Rattle.draw_arcs.specs.declared.Frame.{Frame}
@@ -25,6 +23,7 @@ use Rattle.matrix.specs.Matrices.{mul_position, mul_position_w}
 use Rattle.matrix.specs.declared.Matrix.{Matrix}
 use Rattle.limits.specs.Limits.{within_point}
 use Rattle.theorem_outlines.specs.Rings.{Nowhere, OnNoSheet, NowhereOnSheets}
+use Rattle.std.specs.Prelude.{None, Option, Some}
 
 -- ---- a finite result has finite operands
 add_left : (x y : Float) → T (finite (x ⊕ y)) → T (finite x)
@@ -84,11 +83,11 @@ module _ (r : Float) (n : T (finite r) → ⊥) (stop : Vector → Vector → Bo
   both-lost a b h k v i = elim (Memᴰ.append_cases a i) [ inl j ↦ h v j | inr j ↦ k v j ]
 
   halved-lost : (again : Vector → Vector → List Vector) → ((p q : Vector) → Lost q → AllLost (again p q))
-      → (p q : Vector) (s : Bool) (m : Normalized) → Lost q → AllLost (halved_at again p q s (times_radius r m))
+      → (p q : Vector) (s : Bool) (m : Option Vector) → Lost q → AllLost (halved_at again p q s (times_radius r m))
   unfolding halved_at times_radius mul_scalar
   halved-lost again all p q true m l = one-lost q l
-  halved-lost again all p q false Zero l = one-lost q l
-  halved-lost again all p q false (Unit u) l = both-lost (again p _) (again _ q) (all p _ (inl (λ h. n (mul_right u.x r h)))) (all _ q l)
+  halved-lost again all p q false None l = one-lost q l
+  halved-lost again all p q false (Some u) l = both-lost (again p _) (again _ q) (all p _ (inl (λ h. n (mul_right u.x r h)))) (all _ q l)
 
   pieces-lost : (d : ℕ) (p q : Vector) → Lost q → AllLost (pieces stop r d p q)
   unfolding pieces ring_middle

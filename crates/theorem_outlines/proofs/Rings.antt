@@ -13,8 +13,6 @@ use Rattle.floats.specs.Arith.{zero_f, thousandth}
 use Rattle.floats.specs.Numbers.{within}
 use Rattle.floats.proofs.Bounds.{small-le, within-small, small-wider}
 use Rattle.geometry.specs.declared.vector.Vector.{Vector}
-use Rattle.geometry.specs.declared.vector.Normalized.{Normalized}
-use Rattle.geometry.specs.declared.vector.Normalized.TheVariants.{Unit, Zero}
 use Rattle.draw_rings.specs.Pieces.{ring_middle, halved_at, pieces, east, north, west, south, ring_pairs}
 use Rattle.draw_rings.specs.Promise.{widest}
 use Rattle.draw_rings.proofs.Round.{rings-round}
@@ -23,6 +21,7 @@ use Rattle.draw_arcs.specs.Stances.{Placement}
 use Rattle.draw_arcs.specs.Rings.{ring_point, ends_halving, ring_depth, ring_in, ring_of}
 use Rattle.theorem_outlines.specs.Rings.{Circle, Around, Nowhere, RingPath}
 use Rattle.theorem_outlines.proofs.Lost.{lost-nowhere, ring-lost}
+use Rattle.std.specs.Prelude.{None, Option, Some}
 
 -- ---- a quarter's pieces end where it ends
 module _ (stop : Vector → Vector → Bool) (r : Float) where
@@ -30,11 +29,11 @@ module _ (stop : Vector → Vector → Bool) (r : Float) where
   EndsIn q l = (a : List Vector) × (l ≡ a ++ (q ∷ []))
 
   halved-ends : (again : Vector → Vector → List Vector) → ((p q : Vector) → EndsIn q (again p q))
-      → (p q : Vector) (s : Bool) (m : Normalized) → EndsIn q (halved_at again p q s m)
+      → (p q : Vector) (s : Bool) (m : Option Vector) → EndsIn q (halved_at again p q s m)
   unfolding halved_at EndsIn
   halved-ends again ends p q true m = ([], refl)
-  halved-ends again ends p q false Zero = ([], refl)
-  halved-ends again ends p q false (Unit m) = let e = ends m q in (again p m ++ e.0, ap (λ (l : List Vector). again p m ++ l) e.1 ∙ sym (append_assoc (again p m) e.0 (q ∷ [])))
+  halved-ends again ends p q false None = ([], refl)
+  halved-ends again ends p q false (Some m) = let e = ends m q in (again p m ++ e.0, ap (λ (l : List Vector). again p m ++ l) e.1 ∙ sym (append_assoc (again p m) e.0 (q ∷ [])))
 
   pieces_end : (d : ℕ) (p q : Vector) → EndsIn q (pieces stop r d p q)
   unfolding pieces EndsIn

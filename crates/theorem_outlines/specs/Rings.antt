@@ -1,7 +1,7 @@
 -- Document 02's promise on rings (request (vii)), of the paths that an outline has and that step 1 of a draw adds: "For a ring radius of at least 0.001,
 -- each ring point's exact squared distance from the centre, worked out in the ring's own plane, is within radius² × 2^-48 of radius²".
 -- Proved: proofs/Lost.antt, proofs/Rings.antt, proofs/Scenes.antt.
-use Rattle.std.specs.Prelude.{◌≡◌, false, cond, ℕ, ◌<◌, T, Float}
+use Rattle.std.specs.Prelude.{◌≡◌, false, cond, ℕ, ◌<◌, T, Float, Ok, Some}
 use mathlib.Core.List.{List, [], ◌∷◌, ◌++◌, map, Memᴰ}
 use Rattle.std.specs.Float.Ieee.{lt, le}
 use Rattle.std.specs.Float.Ieee.Scale.{finite}
@@ -20,7 +20,6 @@ use Rattle.scene.specs.Entries.{own_entry}
 use Rattle.scene.specs.Scenes.{Scene, entries_of}
 use Rattle.scene.specs.declared.entry.Entry.TheVariants.{Simple}
 use Rattle.check_scene.specs.Checks.{check_of}
-use Rattle.check_scene.specs.declared.Verdict.TheVariants.{Accepted}
 use Rattle.draw_rings.specs.Pieces.{east, north, west, south, AllOn}
 use Rattle.draw_arcs.specs.declared.Frame.{Frame}
 use Rattle.draw_arcs.specs.Stances.{Placement}
@@ -133,5 +132,5 @@ pub record RoundOutline (t : Placement) (s : Solid) : Type 0 where
 -- Of a scene that the check accepts, each solid's outline, wherever it stands: number 5 bounds the radius.
 abbrev pub AcceptedRound : Type 0
 AcceptedRound =
-    (s : Scene) (d : ℕ) → check_of s ≡ Accepted d → (i : ℕ) → i < entries_of s → (x : Solid) → own_entry s.numbers s.marks i ≡ Simple x
+    (s : Scene) (d : ℕ) → check_of s ≡ Ok d → (i : ℕ) → i < entries_of s → (x : Solid) → own_entry s.numbers s.marks i ≡ Some (Simple x)
     → (t : Placement) → RoundOutline t x

@@ -16,7 +16,7 @@ use Rattle.scene_shape.specs.Shapes.{Shape, shape_box}
 use Rattle.check_parts.specs.Drawn.{drawn}
 use Rattle.scene.specs.Scenes.{Scene}
 use Rattle.query_scene.specs.Queries.{planted_of}
-use Rattle.paths.specs.Answers.{Answer, answered, next}
+use Rattle.paths.specs.Answers.{next}
 use Rattle.paths.specs.Paths.{Paths, paths_with, no_paths, push, one_path, each}
 use Rattle.paths.specs.Judged.{points_ok}
 use Rattle.paths.proofs.Adding.{same_answer, next-answered, push-answered}
@@ -39,14 +39,16 @@ use Rattle.theorem_parts.proofs.Filters.{adds-filtered}
 use Rattle.theorem_parts.proofs.Following.{follow-none, moved, length_moved}
 use Rattle.theorem_parts.proofs.Collecting.{Roomier, lines-all, collect-append}
 use Rattle.theorem_parts.proofs.Parts.{laid, laid-append, each_append, staging, on-laid, Flow, chop-flow, seen-lines, both_true, laid-ok, handed-ok, handed-was, on-built, simplify-one, mapped-laid, part-was, part_is, part-splits, parts_join, whole-is-range, nobody, none-follow, places-alike}
+use Rattle.std.specs.Prelude.{Ok, Result}
+use Rattle.refusals.specs.declared.Refusal.{Refusal}
 
 -- The last stage, on laid paths: what it makes of two lists one after the other is what it makes of the first, and of the second in the places behind that.
-pub record Last (G : Places → Paths → Answer Paths) : Type 0 where
-  pub behind : (w : Places) (ps qs : List (List Vector)) (o : Paths) → G w (laid (ps ++ qs)) ≡ answered o
-      → (xs ys : List (List Vector)) × (G w (laid ps) ≡ answered (laid xs)) × (G (places_behind w (laid xs)) (laid qs) ≡ answered (laid ys)) × (o ≡ laid (xs ++ ys))
+pub record Last (G : Places → Paths → Result Paths Refusal) : Type 0 where
+  pub behind : (w : Places) (ps qs : List (List Vector)) (o : Paths) → G w (laid (ps ++ qs)) ≡ Ok o
+      → (xs ys : List (List Vector)) × (G w (laid ps) ≡ Ok (laid xs)) × (G (places_behind w (laid xs)) (laid qs) ≡ Ok (laid ys)) × (o ≡ laid (xs ++ ys))
 
 -- one that takes the paths in turn
-last-turns : (f : ℕ → ℕ → List Vector → Paths → Answer Paths) → ((p : List Vector) → Adder (λ (r s : ℕ). f r s p)) → Last (λ (w : Places). staging f w.points w.starts)
+last-turns : (f : ℕ → ℕ → List Vector → Paths → Result Paths Refusal) → ((p : List Vector) → Adder (λ (r s : ℕ). f r s p)) → Last (λ (w : Places). staging f w.points w.starts)
 unfolding places_behind
 last-turns f F = record {
   behind = λ w ps qs o e.
@@ -68,21 +70,21 @@ last-turns f F = record {
 }
 
 -- after a stage whose result has places of its own
-last_then : (F G : Places → Paths → Answer Paths) → Flow F → ((w : Places) (p q : Paths) → F (places_behind w p) q ≡ F w q) → Last G → Last (λ (w : Places) (p : Paths). next (F w p) (G w))
+last_then : (F G : Places → Paths → Result Paths Refusal) → Flow F → ((w : Places) (p q : Paths) → F (places_behind w p) q ≡ F w q) → Last G → Last (λ (w : Places) (p : Paths). next (F w p) (G w))
 last_then F G A same B = record {
   behind = λ w ps qs o e.
       let i = next-answered (F w (laid (ps ++ qs))) (G w) o e in
       let a = A.splits w ps qs i.0 i.1 in
       let b = B.behind w a.0 a.1 o (ap (G w) (sym a.4) ∙ i.2) in
       let u = places_behind w (laid b.0) in
-      (b.0, b.1, ap (λ (z : Answer Paths). next z (G w)) a.2 ∙ b.2, ap (λ (z : Answer Paths). next z (G u)) (same w (laid b.0) (laid qs) ∙ a.3) ∙ b.3, b.4);
+      (b.0, b.1, ap (λ (z : Result Paths Refusal). next z (G w)) a.2 ∙ b.2, ap (λ (z : Result Paths Refusal). next z (G u)) (same w (laid b.0) (laid qs) ∙ a.3) ∙ b.3, b.4);
 }
 
-last-cond : (F G : Places → Paths → Answer Paths) → Last F → Last G → (b : Bool) → Last (λ (w : Places) (p : Paths). cond b (F w p) (G w p))
+last-cond : (F G : Places → Paths → Result Paths Refusal) → Last F → Last G → (b : Bool) → Last (λ (w : Places) (p : Paths). cond b (F w p) (G w p))
 last-cond F G A B true = A
 last-cond F G A B false = B
 
-last-handed : (G : Places → Paths → Answer Paths) → Last G → Last (λ (w : Places) (p : Paths). next (handed p) (G w))
+last-handed : (G : Places → Paths → Result Paths Refusal) → Last G → Last (λ (w : Places) (p : Paths). next (handed p) (G w))
 last-handed G B = record {
   behind = λ w ps qs o e.
       let i = next-answered (handed (laid (ps ++ qs))) (G w) o e in
@@ -90,12 +92,12 @@ last-handed G B = record {
       let k = both_true (points_ok (laid ps).vertices) (points_ok (laid qs).vertices) (sym (laid-ok ps qs) ∙ h.0) in
       let b = B.behind w ps qs o (ap (G w) (sym h.1) ∙ i.2) in
       let u = places_behind w (laid b.0) in
-      (b.0, b.1, ap (λ (z : Answer Paths). next z (G w)) (handed-ok (laid ps) k.0) ∙ b.2, ap (λ (z : Answer Paths). next z (G u)) (handed-ok (laid qs) k.1) ∙ b.3, b.4);
+      (b.0, b.1, ap (λ (z : Result Paths Refusal). next z (G w)) (handed-ok (laid ps) k.0) ∙ b.2, ap (λ (z : Result Paths Refusal). next z (G u)) (handed-ok (laid qs) k.1) ∙ b.3, b.4);
 }
 
 -- ---- steps 2 to 6
 module _ (t : Float) (v : View) (solid : ℕ → Shape) (box : ℕ → BBox) (ids : List ℕ) where
-  last-tree : (G : Places → Paths → Answer Paths) → Last G → Last (λ (w : Places) (p : Paths). on_tree (planted_of box ids w.nodes w.order) (G w p))
+  last-tree : (G : Places → Paths → Result Paths Refusal) → Last G → Last (λ (w : Places) (p : Paths). on_tree (planted_of box ids w.nodes w.order) (G w p))
   unfolding places_behind
   last-tree G B = record {
     behind = λ w ps qs o e.
@@ -138,27 +140,27 @@ behind_moved m w ps =
     let l = length_moved m no_paths ps in
     ap₂ (λ (a b : ℕ). record { lines = w.lines; nodes = w.nodes; order = w.order; points = w.points - a; starts = w.starts - b }) l.0 l.1
 
-last-mapped : (G : Places → Paths → Answer Paths) → Last G → (m : Matrix) → Last (λ (w : Places) (p : Paths). next (G w p) (λ (s : Paths). answered (mapped m s)))
+last-mapped : (G : Places → Paths → Result Paths Refusal) → Last G → (m : Matrix) → Last (λ (w : Places) (p : Paths). next (G w p) (λ (s : Paths). Ok (mapped m s)))
 last-mapped G B m = record {
   behind = λ w ps qs o e.
-      let i = next-answered (G w (laid (ps ++ qs))) (λ (s : Paths). answered (mapped m s)) o e in
+      let i = next-answered (G w (laid (ps ++ qs))) (λ (s : Paths). Ok (mapped m s)) o e in
       let b = B.behind w ps qs i.0 i.1 in
-      let f : Answer Paths → Answer Paths = λ (z : Answer Paths). next z (λ (s : Paths). answered (mapped m s)) in (
+      let f : Result Paths Refusal → Result Paths Refusal = λ (z : Result Paths Refusal). next z (λ (s : Paths). Ok (mapped m s)) in (
         moved m b.0,
         moved m b.1,
-        ap f b.2 ∙ ap answered (mapped-laid m b.0),
-        ap (λ (u : Places). f (G u (laid qs))) (behind_moved m w b.0) ∙ ap f b.3 ∙ ap answered (mapped-laid m b.1),
+        ap f b.2 ∙ ap Ok (mapped-laid m b.0),
+        ap (λ (u : Places). f (G u (laid qs))) (behind_moved m w b.0) ∙ ap f b.3 ∙ ap Ok (mapped-laid m b.1),
         sym (same_answer i.2) ∙ ap (mapped m) b.4 ∙ mapped-laid m (b.0 ++ b.1) ∙ ap laid (map-append (map (mul_position m)) b.0 b.1),
       );
 }
 
 -- ---- all six, on two parts
 module _ (t : Float) (v : View) (at : ℕ → Lined) (box : ℕ → BBox) (ids : List ℕ) where
-  abbrev onward : Places → Paths → Answer Paths
-  onward w p = next (staged t v w (λ (i : ℕ). bare (at i)) box ids p) (λ (s : Paths). answered (mapped (viewport v.width v.height) s))
+  abbrev onward : Places → Paths → Result Paths Refusal
+  onward w p = next (staged t v w (λ (i : ℕ). bare (at i)) box ids p) (λ (s : Paths). Ok (mapped (viewport v.width v.height) s))
 
-  render-behind : (w : Places) (xs ys : List ℕ) (q : Paths) → rendered_part t v w at box ids (xs ++ ys) ≡ answered q
-      → (a b : Paths) × (rendered_part t v w at box ids xs ≡ answered a) × (rendered_part t v (places_behind w a) at box ids ys ≡ answered b) × (q ≡ followed a b)
+  render-behind : (w : Places) (xs ys : List ℕ) (q : Paths) → rendered_part t v w at box ids (xs ++ ys) ≡ Ok q
+      → (a b : Paths) × (rendered_part t v w at box ids xs ≡ Ok a) × (rendered_part t v (places_behind w a) at box ids ys ≡ Ok b) × (q ≡ followed a b)
   unfolding rendered_part places_behind
   render-behind w xs ys q e =
       let c = next-answered (collected_all (args_of v) w.lines at (xs ++ ys) no_paths) (onward w) q e in
@@ -170,8 +172,8 @@ module _ (t : Float) (v : View) (at : ℕ → Lined) (box : ℕ → BBox) (ids :
       let h : Roomier w.lines d.0 w.lines no_paths = record { left = (omega arith, omega arith); points = omega arith; starts = omega arith; chopped = omega arith; begins = omega arith } in (
         laid g.0,
         laid g.1,
-        ap (λ (p : Answer Paths). next p (onward w)) (d.1 ∙ ap answered x.is) ∙ g.2,
-        ap (λ (p : Answer Paths). next p (onward (places_behind w (laid g.0)))) (y.again w.lines no_paths h) ∙ g.3,
+        ap (λ (p : Result Paths Refusal). next p (onward w)) (d.1 ∙ ap Ok x.is) ∙ g.2,
+        ap (λ (p : Result Paths Refusal). next p (onward (places_behind w (laid g.0)))) (y.again w.lines no_paths h) ∙ g.3,
         g.4 ∙ laid-append g.0 g.1,
       )
 
@@ -205,13 +207,13 @@ behind-behind w p q =
     ap₂ (λ (a b : ℕ). record { lines = w.lines; nodes = w.nodes; order = w.order; points = a; starts = b }) n m
 
 -- ---- entry by entry
-pushed : {A : Type 0} (room : ℕ) (xs : List A) (x : A) → length xs + 1 ≤ room → push room xs x ≡ answered (xs ++ (x ∷ []))
+pushed : {A : Type 0} (room : ℕ) (xs : List A) (x : A) → length xs + 1 ≤ room → push room xs x ≡ Ok (xs ++ (x ∷ []))
 unfolding push
 pushed room xs x h = rw (lt-ltb (length xs) room (omega arith))
 
 module _ (t : Float) (s : Scene) (v : View) (w : Places) (room : ℕ) where
-  go_on : (is : List ℕ) (p : Sheet) (b : Paths) → draw_part t s v (places_behind w p.paths) is ≡ answered b → length p.ends + length is ≤ room
-      → (r : Sheet) × (entries_drawn t s v w room is p ≡ answered r) × (r.paths ≡ followed p.paths b)
+  go_on : (is : List ℕ) (p : Sheet) (b : Paths) → draw_part t s v (places_behind w p.paths) is ≡ Ok b → length p.ends + length is ≤ room
+      → (r : Sheet) × (entries_drawn t s v w room is p ≡ Ok r) × (r.paths ≡ followed p.paths b)
   unfolding entries_drawn
   go_on [] p b e h = (p, refl, sym (ap (followed p.paths) (nobody t s v (places_behind w p.paths) b e) ∙ follow-none p.paths))
   go_on (i ∷ is) p b e h =
@@ -221,8 +223,8 @@ module _ (t : Float) (s : Scene) (v : View) (w : Places) (room : ℕ) where
       let next-sheet : Sheet = record { paths = followed p.paths a.0; ends = p.ends ++ (n ∷ []) } in
       let g = go_on is next-sheet a.1 (ap (λ (u : Places). draw_part t s v u is) (sym (behind-behind w p.paths a.0)) ∙ a.3) (omega (arith, h, length-append p.ends (n ∷ []))) in (
         g.0,
-        ap (λ (z : Answer Paths). next z (λ (q : Paths). next (push room p.ends (length (followed p.paths q).starts)) (λ (ends : List ℕ). entries_drawn t s v w room is (record { paths = followed p.paths q; ends = ends })))) a.2
-            ∙ ap (λ (z : Answer (List ℕ)). next z (λ (ends : List ℕ). entries_drawn t s v w room is (record { paths = followed p.paths a.0; ends = ends }))) f
+        ap (λ (z : Result Paths Refusal). next z (λ (q : Paths). next (push room p.ends (length (followed p.paths q).starts)) (λ (ends : List ℕ). entries_drawn t s v w room is (record { paths = followed p.paths q; ends = ends })))) a.2
+            ∙ ap (λ (z : Result (List ℕ) Refusal). next z (λ (ends : List ℕ). entries_drawn t s v w room is (record { paths = followed p.paths a.0; ends = ends }))) f
             ∙ g.1,
         g.2 ∙ follow-assoc p.paths a.0 a.1 ∙ ap (followed p.paths) (sym a.4),
       )
@@ -236,12 +238,12 @@ unfolding draw_in_parts
 draw-in-parts t s v w q room e h =
     let a = part-behind t s v w [] (drawn s.marks) q (whole_part t s v w ∙ e) in
     let g = go_on t s v w room (drawn s.marks) (record { paths = a.0; ends = [] }) a.1 a.3 (omega (arith, h)) in
-    (g.0, ap (λ (z : Answer Paths). next z (λ (p : Paths). entries_drawn t s v w room (drawn s.marks) (record { paths = p; ends = [] }))) a.2 ∙ g.1, g.2 ∙ sym a.4)
+    (g.0, ap (λ (z : Result Paths Refusal). next z (λ (p : Paths). entries_drawn t s v w room (drawn s.marks) (record { paths = p; ends = [] }))) a.2 ∙ g.1, g.2 ∙ sym a.4)
 
 -- ---- the other way
 module _ (t : Float) (s : Scene) (v : View) (w : Places) (room : ℕ) where
-  come-back : (none : Paths) → draw_part t s v w [] ≡ answered none → (is : List ℕ) (p r : Sheet) → entries_drawn t s v w room is p ≡ answered r
-      → (u : Places) × (b : Paths) × (draw_part t s v u is ≡ answered b) × (r.paths ≡ followed p.paths b)
+  come-back : (none : Paths) → draw_part t s v w [] ≡ Ok none → (is : List ℕ) (p r : Sheet) → entries_drawn t s v w room is p ≡ Ok r
+      → (u : Places) × (b : Paths) × (draw_part t s v u is ≡ Ok b) × (r.paths ≡ followed p.paths b)
   unfolding entries_drawn
   come-back none f [] p r e =
       (w, none, f, ap (λ (x : Sheet). x.paths) (sym (same_answer e)) ∙ sym (ap (followed p.paths) (nobody t s v w none f) ∙ follow-none p.paths))
@@ -255,12 +257,12 @@ module _ (t : Float) (s : Scene) (v : View) (w : Places) (room : ℕ) where
         g.3 ∙ follow-assoc p.paths a.0 g.1,
       )
 
-places-enough : (t : Float) (s : Scene) (v : View) (w : Places) (room : ℕ) (p : Sheet) → draw_in_parts t s v w room ≡ answered p → (u : Places) × (draw_part t s v u (drawn s.marks) ≡ answered p.paths)
+places-enough : (t : Float) (s : Scene) (v : View) (w : Places) (room : ℕ) (p : Sheet) → draw_in_parts t s v w room ≡ Ok p → (u : Places) × (draw_part t s v u (drawn s.marks) ≡ Ok p.paths)
 unfolding draw_in_parts
 places-enough t s v w room p e =
     let a = next-answered (draw_part t s v w []) _ p e in
     let g = come-back t s v w room a.0 a.1 (drawn s.marks) (record { paths = a.0; ends = [] }) p a.2 in
-    (g.0, g.2 ∙ ap answered (sym (g.3 ∙ ap (λ (x : Paths). followed x g.1) (nobody t s v w a.0 a.1) ∙ none-follow g.1)))
+    (g.0, g.2 ∙ ap Ok (sym (g.3 ∙ ap (λ (x : Paths). followed x g.1) (nobody t s v w a.0 a.1) ∙ none-follow g.1)))
 
 pub in-parts-alike : InPartsAlike
 in-parts-alike = record {
@@ -270,9 +272,9 @@ in-parts-alike = record {
 
 -- ---- the ends
 module _ (t : Float) (s : Scene) (v : View) (w : Places) (room : ℕ) where
-  ends-are : (is : List ℕ) (p r : Sheet) → entries_drawn t s v w room is p ≡ answered r
+  ends-are : (is : List ℕ) (p r : Sheet) → entries_drawn t s v w room is p ≡ Ok r
       → (es : List ℕ) × (r.ends ≡ p.ends ++ es) × (length es ≡ length is)
-      × ((k : ℕ) (u : Places) (a : Paths) → k < length is → draw_part t s v u (take (suc k) is) ≡ answered a → get_or es k 0 ≡ length (followed p.paths a).starts)
+      × ((k : ℕ) (u : Places) (a : Paths) → k < length is → draw_part t s v u (take (suc k) is) ≡ Ok a → get_or es k 0 ≡ length (followed p.paths a).starts)
   unfolding entries_drawn
   ends-are [] p r e = ([], ap (λ (x : Sheet). x.ends) (sym (same_answer e)) ∙ sym (append-nil p.ends), refl, λ k u a h f. absurd (omega (arith, h)))
   ends-are (i ∷ is) p r e =
@@ -286,9 +288,9 @@ module _ (t : Float) (s : Scene) (v : View) (w : Places) (room : ℕ) where
         by a.0 (places_behind w p.paths) a.1 g.0 g.3,
       )
     where
-      by : (b : Paths) (w' : Places) → draw_part t s v w' (i ∷ []) ≡ answered b → (es : List ℕ)
-          → ((k : ℕ) (u : Places) (a : Paths) → k < length is → draw_part t s v u (take (suc k) is) ≡ answered a → get_or es k 0 ≡ length (followed (followed p.paths b) a).starts)
-          → (k : ℕ) (u : Places) (a : Paths) → k < length (i ∷ is) → draw_part t s v u (take (suc k) (i ∷ is)) ≡ answered a → get_or (length (followed p.paths b).starts ∷ es) k 0 ≡ length (followed p.paths a).starts
+      by : (b : Paths) (w' : Places) → draw_part t s v w' (i ∷ []) ≡ Ok b → (es : List ℕ)
+          → ((k : ℕ) (u : Places) (a : Paths) → k < length is → draw_part t s v u (take (suc k) is) ≡ Ok a → get_or es k 0 ≡ length (followed (followed p.paths b) a).starts)
+          → (k : ℕ) (u : Places) (a : Paths) → k < length (i ∷ is) → draw_part t s v u (take (suc k) (i ∷ is)) ≡ Ok a → get_or (length (followed p.paths b).starts ∷ es) k 0 ≡ length (followed p.paths a).starts
       by b w' d es ih zero u a h f = ap (λ (x : Paths). length (followed p.paths x).starts) (places-alike t s v w' u (i ∷ []) b a d f)
       by b w' d es ih (suc k) u a h f =
           let x = part-splits t s v u (i ∷ []) (take (suc k) is) a f in

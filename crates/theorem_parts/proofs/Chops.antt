@@ -3,14 +3,16 @@ use mathlib.Core.Bool.{Bool, true, false}
 use mathlib.Core.List.{List, [], ◌∷◌}
 use Prim.Native.Nat.{ℕ, zero, suc}
 use Rattle.geometry.specs.declared.vector.Vector.{Vector}
-use Rattle.paths.specs.Answers.{Answer, next}
+use Rattle.paths.specs.Answers.{next}
 use Rattle.paths.specs.Paths.{push}
 use Rattle.path_chop.specs.Chop.{spot_of, middle_of, stops, push_or, subdivide, chop_from, path_chop}
 use Rattle.path_chop.specs.declared.Screen.{Screen}
 use Rattle.path_chop.specs.declared.Spot.{Spot}
 use Rattle.theorem_parts.proofs.Adders.{Pusher, pushes-none, pushes-one, pushes-then}
+use Rattle.refusals.specs.declared.Refusal.{Refusal}
+use Rattle.std.specs.Prelude.{Result}
 
-or-pushes : (halve : ℕ → List Vector → Answer (List Vector)) → Pusher halve → (v : Vector) (b : Bool) → Pusher (λ (room : ℕ) (vs : List Vector). push_or (halve room) room v vs b)
+or-pushes : (halve : ℕ → List Vector → Result (List Vector) Refusal) → Pusher halve → (v : Vector) (b : Bool) → Pusher (λ (room : ℕ) (vs : List Vector). push_or (halve room) room v vs b)
 unfolding push_or
 or-pushes halve H v true = pushes-one v
 or-pushes halve H v false = H

@@ -6,7 +6,7 @@ use native.Mathlib.Omega.{arith}
 use lib.ListN.{length, length-append, length-map}
 use Rattle.geometry.specs.declared.vector.Vector.{Vector}
 use Rattle.scene_shape.specs.Shapes.{Shape}
-use Rattle.paths.specs.Answers.{Answer, answered, refused, next}
+use Rattle.paths.specs.Answers.{next}
 use Rattle.paths.specs.Paths.{Paths, paths_with, no_paths, push, push_all, one_path, paths_of, each, stage}
 use Rattle.paths.proofs.Adding.{same_answer, next-answered, push-answered, push-fits, extend-adds}
 use Rattle.view.specs.declared.RenderArgs.{RenderArgs}
@@ -24,6 +24,8 @@ use Rattle.theorem_parts.proofs.Adders.{pushes_all, push-again, after, after-app
 use Rattle.theorem_parts.proofs.Filters.{adds-filtered}
 use Rattle.theorem_parts.proofs.Chops.{chop-pushes}
 use Rattle.theorem_parts.proofs.Following.{follow-laid, moved, move-after, length_moved}
+use Rattle.std.specs.Prelude.{Err, Ok, Result}
+use Rattle.refusals.specs.declared.Refusal.{Refusal}
 
 -- ---- vectors of lines: as much is left in the second as in the first, and the other vectors are as large
 pub record Roomier (w : LineRoom) (o : Paths) (w' : LineRoom) (o' : Paths) : Type 0 where
@@ -33,14 +35,14 @@ pub record Roomier (w : LineRoom) (o : Paths) (w' : LineRoom) (o' : Paths) : Typ
   pub chopped : w.chopped ≤ w'.chopped
   pub begins : w.begins ≤ w'.begins
 
-pub record Lining (f : LineRoom → Paths → Answer Paths) (w : LineRoom) (o q : Paths) : Type 0 where
+pub record Lining (f : LineRoom → Paths → Result Paths Refusal) (w : LineRoom) (o q : Paths) : Type 0 where
   pub what : List (List Vector)
   pub is : q ≡ after o what
-  pub again : (w' : LineRoom) (o' : Paths) → Roomier w o w' o' → f w' o' ≡ answered (after o' what)
+  pub again : (w' : LineRoom) (o' : Paths) → Roomier w o w' o' → f w' o' ≡ Ok (after o' what)
   pub fits : Within w.points w.starts o → Within w.points w.starts q
 
-abbrev pub Liner : (LineRoom → Paths → Answer Paths) → Type 0
-Liner f = (w : LineRoom) (o q : Paths) → f w o ≡ answered q → Lining f w o q
+abbrev pub Liner : (LineRoom → Paths → Result Paths Refusal) → Type 0
+Liner f = (w : LineRoom) (o q : Paths) → f w o ≡ Ok q → Lining f w o q
 
 roomier-none : {w w' : LineRoom} {o o' : Paths} → Roomier w o w' o' → Roomier w no_paths w' no_paths
 roomier-none h = record { left = (omega (arith, h.points), omega (arith, h.starts)); points = h.points; starts = h.starts; chopped = h.chopped; begins = h.begins }
@@ -48,10 +50,10 @@ roomier-none h = record { left = (omega (arith, h.points), omega (arith, h.start
 roomier-after : (w : LineRoom) (o : Paths) (w' : LineRoom) (o' : Paths) (ps : List (List Vector)) → Roomier w o w' o' → Roomier w (after o ps) w' (after o' ps)
 roomier-after w o w' o' ps h = record { left = roomy_after w.points w.starts o w'.points w'.starts o' ps h.left; points = h.points; starts = h.starts; chopped = h.chopped; begins = h.begins }
 
-lines_none : Liner (λ (w : LineRoom) (o : Paths). answered o)
+lines_none : Liner (λ (w : LineRoom) (o : Paths). Ok o)
 lines_none w o q e = record { what = []; is = sym (same_answer e); again = λ w' o' h. refl; fits = λ h. subst (Within w.points w.starts) (same_answer e) h }
 
-lines_then : (f g : LineRoom → Paths → Answer Paths) → Liner f → Liner g → Liner (λ (w : LineRoom) (o : Paths). next (f w o) (g w))
+lines_then : (f g : LineRoom → Paths → Result Paths Refusal) → Liner f → Liner g → Liner (λ (w : LineRoom) (o : Paths). next (f w o) (g w))
 lines_then f g F G w o q e =
     let a = next-answered (f w o) (g w) q e in
     let b = F w o a.0 a.1 in
@@ -60,27 +62,27 @@ lines_then f g F G w o q e =
       what = b.what ++ c.what;
       is = c.is ∙ ap (λ (x : Paths). after x c.what) b.is ∙ sym (after-append o b.what c.what);
       again = λ w' o' h.
-          ap (λ (x : Answer Paths). next x (g w')) (b.again w' o' h)
+          ap (λ (x : Result Paths Refusal). next x (g w')) (b.again w' o' h)
           ∙ c.again w' (after o' b.what) (subst (λ (x : Paths). Roomier w x w' (after o' b.what)) (sym b.is) (roomier-after w o w' o' b.what h))
-          ∙ ap answered (sym (after-append o' b.what c.what));
+          ∙ ap Ok (sym (after-append o' b.what c.what));
       fits = λ h. c.fits (b.fits h);
     }
 
 -- ---- appended
-extend-again : {A : Type 0} (ws ws' : List A) (room : ℕ) (xs : List A) {ys : List A} → push_all room xs ws ≡ answered ys → length ws' ≡ length ws
-    → (room' : ℕ) (xs' : List A) → room + length xs' ≤ room' + length xs → push_all room' xs' ws' ≡ answered (xs' ++ ws')
+extend-again : {A : Type 0} (ws ws' : List A) (room : ℕ) (xs : List A) {ys : List A} → push_all room xs ws ≡ Ok ys → length ws' ≡ length ws
+    → (room' : ℕ) (xs' : List A) → room + length xs' ≤ room' + length xs → push_all room' xs' ws' ≡ Ok (xs' ++ ws')
 unfolding push_all
-extend-again [] [] room xs e k room' xs' h = ap answered (sym (append-nil xs'))
+extend-again [] [] room xs e k room' xs' h = ap Ok (sym (append-nil xs'))
 extend-again [] (w' ∷ ws') room xs e k room' xs' h = absurd (omega (arith, k))
 extend-again (w ∷ ws) [] room xs e k room' xs' h = absurd (omega (arith, k))
 extend-again {A} (w ∷ ws) (w' ∷ ws') room xs {ys} e k room' xs' h =
     let a = next-answered (push room xs w) (λ (zs : List A). push_all room zs ws) ys e in
     let z : length a.0 ≡ length (xs ++ (w ∷ [])) = ap length (push-answered room xs w a.0 a.1) in
-    ap (λ (x : Answer (List A)). next x (λ (zs : List A). push_all room' zs ws')) (push-again room xs w a.1 room' xs' w' h)
+    ap (λ (x : Result (List A) Refusal). next x (λ (zs : List A). push_all room' zs ws')) (push-again room xs w a.1 room' xs' w' h)
     ∙ extend-again ws ws' room a.0 a.2 (omega (arith, k)) room' (xs' ++ (w' ∷ [])) (omega (arith, h, z, length-append xs (w ∷ []), length-append xs' (w' ∷ [])))
-    ∙ ap answered (append_assoc xs' (w' ∷ []) ws')
+    ∙ ap Ok (append_assoc xs' (w' ∷ []) ws')
 
-extend-within : {A : Type 0} (ws : List A) (room : ℕ) (xs ys : List A) → push_all room xs ws ≡ answered ys → length xs ≤ room → length ys ≤ room
+extend-within : {A : Type 0} (ws : List A) (room : ℕ) (xs ys : List A) → push_all room xs ws ≡ Ok ys → length xs ≤ room → length ys ≤ room
 unfolding push_all
 extend-within [] room xs ys e h = subst (λ (l : List _). length l ≤ room) (same_answer e) h
 extend-within {A} (w ∷ ws) room xs ys e h =
@@ -91,20 +93,20 @@ adds-appended : (ds : List (List Vector)) → Adder (λ (r s : ℕ) (o : Paths).
 unfolding appended followed
 adds-appended ds r s o q e =
     let d = after no_paths ds in
-    let a = next-answered (push_all s o.starts (shifted (length o.vertices) d.starts)) (λ (ss : List ℕ). next (push_all r o.vertices d.vertices) (λ (vs : List Vector). answered (paths_with vs ss))) q e in
-    let b = next-answered (push_all r o.vertices d.vertices) (λ (vs : List Vector). answered (paths_with vs a.0)) q a.2 in
+    let a = next-answered (push_all s o.starts (shifted (length o.vertices) d.starts)) (λ (ss : List ℕ). next (push_all r o.vertices d.vertices) (λ (vs : List Vector). Ok (paths_with vs ss))) q e in
+    let b = next-answered (push_all r o.vertices d.vertices) (λ (vs : List Vector). Ok (paths_with vs a.0)) q a.2 in
     let n = extend-adds s (shifted (length o.vertices) d.starts) o.starts a.0 a.1 in
     let m = extend-adds r d.vertices o.vertices b.0 b.1 in
     record {
       what = ds;
       is = sym (same_answer b.2) ∙ ap₂ paths_with m n ∙ follow-laid o ds;
       again = λ r' s' o' h.
-          ap (λ (x : Answer (List ℕ)). next x (λ (ss : List ℕ). next (push_all r' o'.vertices d.vertices) (λ (vs : List Vector). answered (paths_with vs ss))))
+          ap (λ (x : Result (List ℕ) Refusal). next x (λ (ss : List ℕ). next (push_all r' o'.vertices d.vertices) (λ (vs : List Vector). Ok (paths_with vs ss))))
           (extend-again (shifted (length o.vertices) d.starts) (shifted (length o'.vertices) d.starts) s o.starts a.1
           (length-map d.starts (λ (i : ℕ). i + length o'.vertices) ∙ sym (length-map d.starts (λ (i : ℕ). i + length o.vertices))) s' o'.starts h.1)
-          ∙ ap (λ (x : Answer (List Vector)). next x (λ (vs : List Vector). answered (paths_with vs (o'.starts ++ shifted (length o'.vertices) d.starts))))
+          ∙ ap (λ (x : Result (List Vector) Refusal). next x (λ (vs : List Vector). Ok (paths_with vs (o'.starts ++ shifted (length o'.vertices) d.starts))))
           (extend-again d.vertices d.vertices r o.vertices b.1 refl r' o'.vertices h.0)
-          ∙ ap answered (follow-laid o' ds);
+          ∙ ap Ok (follow-laid o' ds);
       fits = λ h.
           let x = extend-within d.vertices r o.vertices b.0 b.1 h.0 in
           let y = extend-within (shifted (length o.vertices) d.starts) s o.starts a.0 a.1 h.1 in
@@ -123,8 +125,8 @@ cut-adds : (x : Shape) (ps : List (List Vector)) → Adder (λ (r s : ℕ). each
 cut-adds x ps = adds-each (λ (r s : ℕ). path_filter (cut_filter x) r s) (adds-filtered (cut_filter x)) ps
 
 -- chopped and sifted: the same in more room
-sift-again : (a : RenderArgs) (w : LineRoom) (x : Shape) (p q : Paths) → sifted a w x p ≡ answered q
-    → (ds : List (List Vector)) × (q ≡ after no_paths ds) × ((w' : LineRoom) (o o' : Paths) → Roomier w o w' o' → sifted a w' x p ≡ answered (after no_paths ds))
+sift-again : (a : RenderArgs) (w : LineRoom) (x : Shape) (p q : Paths) → sifted a w x p ≡ Ok q
+    → (ds : List (List Vector)) × (q ≡ after no_paths ds) × ((w' : LineRoom) (o o' : Paths) → Roomier w o w' o' → sifted a w' x p ≡ Ok (after no_paths ds))
 unfolding sifted chopped_lines stage
 sift-again a w x p q e =
     let i = next-answered (chopped_lines a w.chopped w.begins p) (λ (c : Paths). cut_paths x c.vertices c.starts w.points w.starts) q e in
@@ -134,8 +136,8 @@ sift-again a w x p q e =
       d.what,
       d.is,
       λ w' o o' h.
-          ap (λ (y : Answer Paths). next (next y (λ (u : Paths). chop_paths a u.vertices u.starts w'.chopped w'.begins)) (λ (c : Paths). cut_paths x c.vertices c.starts w'.points w'.starts)) j.1
-          ∙ ap (λ (y : Answer Paths). next y (λ (c : Paths). cut_paths x c.vertices c.starts w'.points w'.starts)) (c.again w'.chopped w'.begins no_paths (omega (arith, h.chopped), omega (arith, h.begins)) ∙ ap answered (sym c.is))
+          ap (λ (y : Result Paths Refusal). next (next y (λ (u : Paths). chop_paths a u.vertices u.starts w'.chopped w'.begins)) (λ (c : Paths). cut_paths x c.vertices c.starts w'.points w'.starts)) j.1
+          ∙ ap (λ (y : Result Paths Refusal). next y (λ (c : Paths). cut_paths x c.vertices c.starts w'.points w'.starts)) (c.again w'.chopped w'.begins no_paths (omega (arith, h.chopped), omega (arith, h.begins)) ∙ ap Ok (sym c.is))
           ∙ d.again w'.points w'.starts no_paths (omega (arith, h.points), omega (arith, h.starts)),
     )
 
@@ -147,13 +149,13 @@ lines-collected t (lined x ps) w o q e =
     let a = copy-adds (or_outline t x ps) w.points w.starts o q e in
     record { what = a.what; is = a.is; again = λ w' o' h. a.again w'.points w'.starts o' h.left; fits = a.fits }
 lines-collected t (placed_lines m v l) w o q e =
-    let a = next-answered (collected (placed_part m v t) w l o) (λ (u : Paths). answered (moved_from m (length o.vertices) u)) q e in
+    let a = next-answered (collected (placed_part m v t) w l o) (λ (u : Paths). Ok (moved_from m (length o.vertices) u)) q e in
     let b = lines-collected (placed_part m v t) l w o a.0 a.1 in
     let z : q ≡ after o (moved m b.what) = sym (same_answer a.2) ∙ ap (moved_from m (length o.vertices)) b.is ∙ move-after m o b.what in
     record {
       what = moved m b.what;
       is = z;
-      again = λ w' o' h. ap (λ (x : Answer Paths). next x (λ (u : Paths). answered (moved_from m (length o'.vertices) u))) (b.again w' o' h) ∙ ap answered (move-after m o' b.what);
+      again = λ w' o' h. ap (λ (x : Result Paths Refusal). next x (λ (u : Paths). Ok (moved_from m (length o'.vertices) u))) (b.again w' o' h) ∙ ap Ok (move-after m o' b.what);
       fits = λ h. let i = subst (Within w.points w.starts) b.is (b.fits h) in let k = length_moved m o b.what in subst (Within w.points w.starts) (sym z) (omega (arith, i.0, k.0), omega (arith, i.1, k.1));
     }
 lines-collected t (cut_lines c x y) w o q e =
@@ -166,8 +168,8 @@ lines-collected t (cut_lines c x y) w o q e =
       what = d.what;
       is = d.is;
       again = λ w' o' h.
-          ap (λ (z : Answer Paths). next z (λ (u : Paths). next (sifted t.args w' (bare (cut_lines c x y)) u) (appended w'.points w'.starts o'))) (i.again w' no_paths (roomier-none h) ∙ ap answered (sym i.is))
-          ∙ ap (λ (z : Answer Paths). next z (appended w'.points w'.starts o')) (s.2 w' o o' h)
+          ap (λ (z : Result Paths Refusal). next z (λ (u : Paths). next (sifted t.args w' (bare (cut_lines c x y)) u) (appended w'.points w'.starts o'))) (i.again w' no_paths (roomier-none h) ∙ ap Ok (sym i.is))
+          ∙ ap (λ (z : Result Paths Refusal). next z (appended w'.points w'.starts o')) (s.2 w' o o' h)
           ∙ d.again w'.points w'.starts o' h.left;
       fits = d.fits;
     }
@@ -183,7 +185,7 @@ unfolding collected_all
 collect-append a w at [] js o = refl
 collect-append a w at (i ∷ is) js o = go (λ (x : Paths). collect-append a w at is js x) (collected (unplaced a) w (at i) o)
   where
-    go : ((x : Paths) → collected_all a w at (is ++ js) x ≡ next (collected_all a w at is x) (collected_all a w at js)) → (z : Answer Paths)
+    go : ((x : Paths) → collected_all a w at (is ++ js) x ≡ next (collected_all a w at is x) (collected_all a w at js)) → (z : Result Paths Refusal)
         → next z (collected_all a w at (is ++ js)) ≡ next (next z (collected_all a w at is)) (collected_all a w at js)
-    go ih (answered x) = ih x
-    go ih (refused k) = refl
+    go ih (Ok x) = ih x
+    go ih (Err k) = refl

@@ -18,23 +18,17 @@ use Rattle.refusals.specs.declared.Refusal.TheVariants.{View as BadView, Point}
 use Rattle.scene.specs.Scenes.{Scene}
 use Rattle.check_parts.specs.Drawn.{drawn}
 use Rattle.check_scene.specs.Checks.{check_of}
-use Rattle.check_scene.specs.declared.Verdict.{Verdict}
-use Rattle.check_scene.specs.declared.Verdict.TheVariants.{Accepted}
 use Rattle.tree_walk.specs.Walks.{walk_rows}
 use Rattle.tree_sight.specs.declared.Sight.{Sight}
-use Rattle.tree_sight.specs.declared.Sight.TheVariants.{Visible as InSight, Hidden as OutOfSight, Refused as NotSeen}
+use Rattle.tree_sight.specs.declared.Sight.TheVariants.{Visible as InSight, Hidden as OutOfSight}
 use Rattle.query_scene.specs.Queries.{own_hits, hides, named_after, occluder_of, sight_of, visible_of}
-use Rattle.query_scene.specs.declared.NamedSight.{NamedSight}
-use Rattle.query_scene.specs.declared.NamedSight.TheVariants.{Clear, Hidden as HiddenBy, Refused as NotNamed}
 use Rattle.query_scene.proofs.Names.{named-as-seen}
 use Rattle.paths.specs.Paths.{Paths}
-use Rattle.path_filter.specs.declared.Test.{Test}
-use Rattle.path_filter.specs.declared.Test.TheVariants.{Keep, Drop, Refused as NotTested}
 use Rattle.view.specs.declared.View.{View}
 use Rattle.draw_clip.specs.Clip.{by_sight, clip_filter}
 use Rattle.draw_fates.specs.Fates.{by_name, fate_by, fate_of}
 use Rattle.draw_fates.specs.declared.Fate.{Fate}
-use Rattle.draw_fates.specs.declared.Fate.TheVariants.{Clipped, Visible, Hidden, Refused}
+use Rattle.draw_fates.specs.declared.Fate.TheVariants.{Clipped, Visible, Hidden}
 use Rattle.draw_render.specs.Render.{Places}
 use Rattle.draw.specs.Drawing.{seen_in, Drawing}
 use Rattle.theorem_filters.specs.Passing.{LeftAfterClipping}
@@ -45,6 +39,7 @@ use Rattle.theorem_demand3.proofs.Demand3.{hidden-drop, demand-3}
 use Rattle.theorem_parts.specs.Accounts.{PathOf}
 use Rattle.theorem_parts.specs.Fates.{EntryAccount, SaidOf, FatesAccount}
 use Rattle.theorem_parts.proofs.Accounts.{lines-accounted}
+use Rattle.std.specs.Prelude.{Err, None, Ok, Option, Result, Some}
 
 pub entry-account : EntryAccount
 entry-account t s v w q D u i m path p point on =
@@ -67,51 +62,51 @@ is-so true t = refl
 is-so false t = elim t [ ]
 
 module _ (s : Scene) (boxes : List Float) (marks order : List ℕ) (v : View) (point : Vector) where
-  abbrev fate : Fate
+  abbrev fate : Result Fate Refusal
   fate = fate_of s boxes marks order v point
 
-  abbrev named : NamedSight
+  abbrev named : Result (Option ℕ) Refusal
   named = hides (λ (r : Ray). walk_rows (own_hits s r) r boxes marks order) v.eye point
 
-  fate-clipped : contains clip_box (mul_position_w v.matrix point) ≡ false → fate ≡ Clipped
+  fate-clipped : contains clip_box (mul_position_w v.matrix point) ≡ false → fate ≡ Ok Clipped
   unfolding fate_of fate_by
   fate-clipped f = rw f
 
   -- a point left after clipping, by what the public occluder answers
-  fate-named : {n : ℕ} → check_of s ≡ Accepted n → contains clip_box (mul_position_w v.matrix point) ≡ true → (x : NamedSight) → ((k : Refusal) → x ≡ NotNamed k → ⊥)
+  fate-named : {n : ℕ} → check_of s ≡ Ok n → contains clip_box (mul_position_w v.matrix point) ≡ true → (x : Result (Option ℕ) Refusal) → ((k : Refusal) → x ≡ Err k → ⊥)
       → occluder_of s boxes marks order v.eye point ≡ x → fate ≡ by_name x
   unfolding fate_of fate_by occluder_of named_after
   fate-named {n} is t x f e =
       rw t
       (go (within_point v.eye) (within_point point)
-      (subst (λ (d : Verdict). named_after d (cond (within_point v.eye) (cond (within_point point) named (NotNamed Point)) (NotNamed BadView)) ≡ x) is e))
+      (subst (λ (d : Result ℕ Refusal). named_after d (cond (within_point v.eye) (cond (within_point point) named (Err Point)) (Err BadView)) ≡ x) is e))
     where
-      go : (a b : Bool) → named_after (Accepted n) (cond a (cond b named (NotNamed Point)) (NotNamed BadView)) ≡ x → cond b (by_name named) (Refused Point) ≡ by_name x
+      go : (a b : Bool) → named_after (Ok n) (cond a (cond b named (Err Point)) (Err BadView)) ≡ x → cond b (by_name named) (Err Point) ≡ by_name x
       go true true g = ap by_name g
       go true false g = absurd (f Point (sym g))
       go false b g = absurd (f BadView (sym g))
 
-no-clear : (k : Refusal) → Clear ≡ NotNamed k → ⊥
+no-clear : (k : Refusal) → ◌≡◌ {A = Result (Option ℕ) Refusal} (Ok None) (Err k) → ⊥
 no-clear k e = let z : ◌≡◌ {A = ℕ} 0 1 = cc in omega arith
 
-no-hidden : (i : ℕ) (k : Refusal) → HiddenBy i ≡ NotNamed k → ⊥
+no-hidden : (i : ℕ) (k : Refusal) → ◌≡◌ {A = Result (Option ℕ) Refusal} (Ok (Some i)) (Err k) → ⊥
 no-hidden i k e = let z : ◌≡◌ {A = ℕ} 0 1 = cc in omega arith
 
-kept-left : (b : Bool) (x : Test) (w : Vector) → cond b x Drop ≡ Keep w → T b
+kept-left : (b : Bool) (x : Result (Option Vector) Refusal) (w : Vector) → cond b x (Ok None) ≡ Ok (Some w) → T b
 kept-left true x w e = tt
 kept-left false x w e = let z : ◌≡◌ {A = ℕ} 0 1 = cc in absurd (omega arith)
 
-kept_seen : (a : Sight) (w : Vector) → by_sight w a ≡ Keep w → a ≡ InSight
+kept_seen : (a : Result Sight Refusal) (w : Vector) → by_sight w a ≡ Ok (Some w) → a ≡ Ok InSight
 unfolding by_sight
-kept_seen InSight w e = refl
-kept_seen OutOfSight w e = let z : ◌≡◌ {A = ℕ} 0 1 = cc in absurd (omega arith)
-kept_seen (NotSeen k) w e = let z : ◌≡◌ {A = ℕ} 0 1 = cc in absurd (omega arith)
+kept_seen (Ok InSight) w e = refl
+kept_seen (Ok OutOfSight) w e = let z : ◌≡◌ {A = ℕ} 0 1 = cc in absurd (omega arith)
+kept_seen (Err k) w e = let z : ◌≡◌ {A = ℕ} 0 1 = cc in absurd (omega arith)
 
-seen-clear : (o : NamedSight) → sight_of o ≡ InSight → o ≡ Clear
+seen-clear : (o : Result (Option ℕ) Refusal) → sight_of o ≡ Ok InSight → o ≡ Ok None
 unfolding sight_of
-seen-clear Clear e = refl
-seen-clear (HiddenBy i) e = let z : ◌≡◌ {A = ℕ} 0 1 = cc in absurd (omega arith)
-seen-clear (NotNamed k) e = let z : ◌≡◌ {A = ℕ} 0 1 = cc in absurd (omega arith)
+seen-clear (Ok None) e = refl
+seen-clear (Ok (Some i)) e = let z : ◌≡◌ {A = ℕ} 0 1 = cc in absurd (omega arith)
+seen-clear (Err k) e = let z : ◌≡◌ {A = ℕ} 0 1 = cc in absurd (omega arith)
 
 module _ (t : Float) (s : Scene) (v : View) (w : Places) (q : Paths) (D : Drawing t s v w q) (u : Places) (i : ℕ) (m : Member i (drawn s.marks)) (path : List Vector) (p : PathOf s v u i path) (point : Vector) (on : Member point path)
     (boxes : List Float) (marks order : List ℕ) (rows : RowsLeft s boxes marks order) where
@@ -122,13 +117,13 @@ module _ (t : Float) (s : Scene) (v : View) (w : Places) (q : Paths) (D : Drawin
   unfolding clip_filter
   passed-left e = kept-left (contains clip_box (mul_position_w v.matrix point)) _ _ e
 
-  passed-visible : PassedIn s v point → fate_of s boxes marks order v point ≡ Visible
+  passed-visible : PassedIn s v point → fate_of s boxes marks order v point ≡ Ok Visible
   unfolding by_name
   passed-visible e =
       let left = passed-left e in
       let four = demand-3.step_four s v D point put left boxes marks order rows in
-      let seen : visible_of s boxes marks order v.eye point ≡ InSight = kept_seen (visible_of s boxes marks order v.eye point) (mul_position_w v.matrix point) (sym four.1 ∙ e) in
-      fate-named s boxes marks order v point D.accepted (is-so (contains clip_box (mul_position_w v.matrix point)) left) Clear no-clear
+      let seen : visible_of s boxes marks order v.eye point ≡ Ok InSight = kept_seen (visible_of s boxes marks order v.eye point) (mul_position_w v.matrix point) (sym four.1 ∙ e) in
+      fate-named s boxes marks order v point D.accepted (is-so (contains clip_box (mul_position_w v.matrix point)) left) (Ok None) no-clear
       (seen-clear (occluder_of s boxes marks order v.eye point) (named-as-seen s boxes marks order v.eye point ∙ seen))
 
   said_of : SaidOf s v point (fate_of s boxes marks order v point)
@@ -140,7 +135,7 @@ module _ (t : Float) (s : Scene) (v : View) (w : Places) (q : Paths) (D : Drawin
       by (inr (inl e)) = subst (SaidOf s v point) (sym (passed-visible e)) e
       by (inr (inr (h, n))) =
           subst (SaidOf s v point)
-          (sym (fate-named s boxes marks order v point D.accepted (is-so (contains clip_box (mul_position_w v.matrix point)) h.left) (HiddenBy n.entry) (no-hidden n.entry) (n.named boxes marks order rows)))
+          (sym (fate-named s boxes marks order v point D.accepted (is-so (contains clip_box (mul_position_w v.matrix point)) h.left) (Ok (Some n.entry)) (no-hidden n.entry) (n.named boxes marks order rows)))
           (h, (n, refl))
 
 pub fates-account : FatesAccount

@@ -18,13 +18,9 @@ use Rattle.limits.specs.Limits.{within_point}
 use Rattle.scene_shape.specs.Shapes.{Shape, shape_box}
 use Rattle.check_parts.specs.Drawn.{drawn}
 use Rattle.check_scene.specs.Checks.{check_of}
-use Rattle.check_scene.specs.declared.Verdict.{Verdict}
-use Rattle.check_scene.specs.declared.Verdict.TheVariants.{Accepted, Refused}
 use Rattle.scene.specs.Scenes.{Scene}
 use Rattle.query_scene.specs.Queries.{planted_of}
-use Rattle.query_scene.specs.declared.Built.{Built}
-use Rattle.query_scene.specs.declared.Built.TheVariants.{Nodes, Refused as NotBuilt}
-use Rattle.paths.specs.Answers.{Answer, answered, refused, next}
+use Rattle.paths.specs.Answers.{next}
 use Rattle.paths.specs.Paths.{Paths, paths_with, no_paths, one_path, each, stage}
 use Rattle.paths.specs.Judged.{points_ok}
 use Rattle.paths.proofs.Adding.{no_answer, same_answer, next-answered}
@@ -48,32 +44,34 @@ use Rattle.theorem_parts.proofs.Filters.{adds-filtered}
 use Rattle.theorem_parts.proofs.Chops.{chop-pushes}
 use Rattle.theorem_parts.proofs.Following.{read_back, follow-none, follow-laid, moved, move-after}
 use Rattle.theorem_parts.proofs.Collecting.{Roomier, lines-all, collect-append}
+use Rattle.std.specs.Prelude.{Err, Ok, Result}
+use Rattle.refusals.specs.declared.Refusal.{Refusal}
 
 -- ---- what is laid from nothing
 abbrev pub laid : List (List Vector) → Paths
 laid ps = after no_paths ps
 
 -- A stage on laid paths: what it makes of two lists one after the other is what it makes of each.
-pub record Stage (F : ℕ → ℕ → Paths → Answer Paths) : Type 0 where
-  pub splits : (r s : ℕ) (ps qs : List (List Vector)) (o : Paths) → F r s (laid (ps ++ qs)) ≡ answered o
-      → (xs ys : List (List Vector)) × (F r s (laid ps) ≡ answered (laid xs)) × (F r s (laid qs) ≡ answered (laid ys)) × (o ≡ laid (xs ++ ys))
-  pub joins : (r s r' s' : ℕ) (ps qs : List (List Vector)) (a b : Paths) → F r s (laid ps) ≡ answered a → F r' s' (laid qs) ≡ answered b
-      → (xs ys : List (List Vector)) × (a ≡ laid xs) × (b ≡ laid ys) × (F (r + r') (s + s') (laid (ps ++ qs)) ≡ answered (laid (xs ++ ys)))
+pub record Stage (F : ℕ → ℕ → Paths → Result Paths Refusal) : Type 0 where
+  pub splits : (r s : ℕ) (ps qs : List (List Vector)) (o : Paths) → F r s (laid (ps ++ qs)) ≡ Ok o
+      → (xs ys : List (List Vector)) × (F r s (laid ps) ≡ Ok (laid xs)) × (F r s (laid qs) ≡ Ok (laid ys)) × (o ≡ laid (xs ++ ys))
+  pub joins : (r s r' s' : ℕ) (ps qs : List (List Vector)) (a b : Paths) → F r s (laid ps) ≡ Ok a → F r' s' (laid qs) ≡ Ok b
+      → (xs ys : List (List Vector)) × (a ≡ laid xs) × (b ≡ laid ys) × (F (r + r') (s + s') (laid (ps ++ qs)) ≡ Ok (laid (xs ++ ys)))
 
 -- one that takes the paths in turn
-pub each_append : (f : List Vector → Paths → Answer Paths) (ps qs : List (List Vector)) (o : Paths) → each f (ps ++ qs) o ≡ next (each f ps o) (each f qs)
+pub each_append : (f : List Vector → Paths → Result Paths Refusal) (ps qs : List (List Vector)) (o : Paths) → each f (ps ++ qs) o ≡ next (each f ps o) (each f qs)
 unfolding each
 each_append f [] qs o = refl
 each_append f (p ∷ ps) qs o = go (λ (x : Paths). each_append f ps qs x) (f p o)
   where
-    go : ((x : Paths) → each f (ps ++ qs) x ≡ next (each f ps x) (each f qs)) → (z : Answer Paths) → next z (each f (ps ++ qs)) ≡ next (next z (each f ps)) (each f qs)
-    go ih (answered x) = ih x
-    go ih (refused k) = refl
+    go : ((x : Paths) → each f (ps ++ qs) x ≡ next (each f ps x) (each f qs)) → (z : Result Paths Refusal) → next z (each f (ps ++ qs)) ≡ next (next z (each f ps)) (each f qs)
+    go ih (Ok x) = ih x
+    go ih (Err k) = refl
 
-abbrev pub staging : (ℕ → ℕ → List Vector → Paths → Answer Paths) → ℕ → ℕ → Paths → Answer Paths
+abbrev pub staging : (ℕ → ℕ → List Vector → Paths → Result Paths Refusal) → ℕ → ℕ → Paths → Result Paths Refusal
 staging f r s p = stage f p.vertices p.starts r s
 
-module _ (f : ℕ → ℕ → List Vector → Paths → Answer Paths) (F : (p : List Vector) → Adder (λ (r s : ℕ). f r s p)) where
+module _ (f : ℕ → ℕ → List Vector → Paths → Result Paths Refusal) (F : (p : List Vector) → Adder (λ (r s : ℕ). f r s p)) where
   pub on-laid : (r s : ℕ) (ps : List (List Vector)) → staging f r s (laid ps) ≡ each (f r s) ps no_paths
   unfolding stage
   on-laid r s ps = ap (λ (l : List (List Vector)). each (f r s) l no_paths) (read_back ps)
@@ -102,20 +100,20 @@ module _ (f : ℕ → ℕ → List Vector → Paths → Answer Paths) (F : (p : 
           b.is,
           c.is,
           on-laid (r + r') (s + s') (ps ++ qs) ∙ each_append (f (r + r') (s + s')) ps qs no_paths
-              ∙ ap (λ (z : Answer Paths). next z (each (f (r + r') (s + s')) qs)) (b.again (r + r') (s + s') no_paths (omega arith, omega arith))
+              ∙ ap (λ (z : Result Paths Refusal). next z (each (f (r + r') (s + s')) qs)) (b.again (r + r') (s + s') no_paths (omega arith, omega arith))
               ∙ c.again (r + r') (s + s') (laid b.what) (omega (arith, i.0), omega (arith, i.1))
-              ∙ ap answered (sym (after-append no_paths b.what c.what)),
+              ∙ ap Ok (sym (after-append no_paths b.what c.what)),
         );
   }
 
 -- ---- the same in the places of a draw
-pub record Flow (F : Places → Paths → Answer Paths) : Type 0 where
-  pub splits : (w : Places) (ps qs : List (List Vector)) (o : Paths) → F w (laid (ps ++ qs)) ≡ answered o
-      → (xs ys : List (List Vector)) × (F w (laid ps) ≡ answered (laid xs)) × (F w (laid qs) ≡ answered (laid ys)) × (o ≡ laid (xs ++ ys))
-  pub joins : (w u : Places) (ps qs : List (List Vector)) (a b : Paths) → F w (laid ps) ≡ answered a → F u (laid qs) ≡ answered b
-      → (xs ys : List (List Vector)) × (a ≡ laid xs) × (b ≡ laid ys) × (F (more_places w u) (laid (ps ++ qs)) ≡ answered (laid (xs ++ ys)))
+pub record Flow (F : Places → Paths → Result Paths Refusal) : Type 0 where
+  pub splits : (w : Places) (ps qs : List (List Vector)) (o : Paths) → F w (laid (ps ++ qs)) ≡ Ok o
+      → (xs ys : List (List Vector)) × (F w (laid ps) ≡ Ok (laid xs)) × (F w (laid qs) ≡ Ok (laid ys)) × (o ≡ laid (xs ++ ys))
+  pub joins : (w u : Places) (ps qs : List (List Vector)) (a b : Paths) → F w (laid ps) ≡ Ok a → F u (laid qs) ≡ Ok b
+      → (xs ys : List (List Vector)) × (a ≡ laid xs) × (b ≡ laid ys) × (F (more_places w u) (laid (ps ++ qs)) ≡ Ok (laid (xs ++ ys)))
 
-module _ (F : ℕ → ℕ → Paths → Answer Paths) (S : Stage F) where
+module _ (F : ℕ → ℕ → Paths → Result Paths Refusal) (S : Stage F) where
   flow-chopped : Flow (λ (w : Places). F w.lines.chopped w.lines.begins)
   unfolding more_places more_lines
   flow-chopped = record { splits = λ w. S.splits w.lines.chopped w.lines.begins; joins = λ w u. S.joins w.lines.chopped w.lines.begins u.lines.chopped u.lines.begins }
@@ -128,22 +126,22 @@ module _ (F : ℕ → ℕ → Paths → Answer Paths) (S : Stage F) where
   unfolding more_places
   flow-result = record { splits = λ w. S.splits w.points w.starts; joins = λ w u. S.joins w.points w.starts u.points u.starts }
 
-flow-then : (F G : Places → Paths → Answer Paths) → Flow F → Flow G → Flow (λ (w : Places) (p : Paths). next (F w p) (G w))
+flow-then : (F G : Places → Paths → Result Paths Refusal) → Flow F → Flow G → Flow (λ (w : Places) (p : Paths). next (F w p) (G w))
 flow-then F G A B = record {
   splits = λ w ps qs o e.
       let i = next-answered (F w (laid (ps ++ qs))) (G w) o e in
       let a = A.splits w ps qs i.0 i.1 in
       let b = B.splits w a.0 a.1 o (ap (G w) (sym a.4) ∙ i.2) in
-      (b.0, b.1, ap (λ (z : Answer Paths). next z (G w)) a.2 ∙ b.2, ap (λ (z : Answer Paths). next z (G w)) a.3 ∙ b.3, b.4);
+      (b.0, b.1, ap (λ (z : Result Paths Refusal). next z (G w)) a.2 ∙ b.2, ap (λ (z : Result Paths Refusal). next z (G w)) a.3 ∙ b.3, b.4);
   joins = λ w u ps qs x y d e.
       let i = next-answered (F w (laid ps)) (G w) x d in
       let j = next-answered (F u (laid qs)) (G u) y e in
       let a = A.joins w u ps qs i.0 j.0 i.1 j.1 in
       let b = B.joins w u a.0 a.1 x y (ap (G w) (sym a.2) ∙ i.2) (ap (G u) (sym a.3) ∙ j.2) in
-      (b.0, b.1, b.2, b.3, ap (λ (z : Answer Paths). next z (G (more_places w u))) a.4 ∙ b.4);
+      (b.0, b.1, b.2, b.3, ap (λ (z : Result Paths Refusal). next z (G (more_places w u))) a.4 ∙ b.4);
 }
 
-pub flow-cond : (F G : Places → Paths → Answer Paths) → Flow F → Flow G → (b : Bool) → Flow (λ (w : Places) (p : Paths). cond b (F w p) (G w p))
+pub flow-cond : (F G : Places → Paths → Result Paths Refusal) → Flow F → Flow G → (b : Bool) → Flow (λ (w : Places) (p : Paths). cond b (F w p) (G w p))
 flow-cond F G A B true = A
 flow-cond F G A B false = B
 
@@ -169,26 +167,26 @@ both_true true true e = (refl, refl)
 both_true true false e = let z : ◌≡◌ {A = ℕ} 0 1 = cc in absurd (omega arith)
 both_true false b e = let z : ◌≡◌ {A = ℕ} 0 1 = cc in absurd (omega arith)
 
-pub handed-ok : (p : Paths) → points_ok p.vertices ≡ true → handed p ≡ answered p
+pub handed-ok : (p : Paths) → points_ok p.vertices ≡ true → handed p ≡ Ok p
 unfolding handed
 handed-ok p h = rw h
 
-pub handed-was : (p x : Paths) → handed p ≡ answered x → (points_ok p.vertices ≡ true) × (x ≡ p)
+pub handed-was : (p x : Paths) → handed p ≡ Ok x → (points_ok p.vertices ≡ true) × (x ≡ p)
 unfolding handed
 handed-was p x e = go (points_ok p.vertices) e
   where
-    go : (b : Bool) → cond b (answered p) (refused Point) ≡ answered x → (b ≡ true) × (x ≡ p)
+    go : (b : Bool) → cond b (Ok p) (Err Point) ≡ Ok x → (b ≡ true) × (x ≡ p)
     go true e = (refl, sym (same_answer e))
     go false e = no_answer Point e
 
-flow-handed : (G : Places → Paths → Answer Paths) → Flow G → Flow (λ (w : Places) (p : Paths). next (handed p) (G w))
+flow-handed : (G : Places → Paths → Result Paths Refusal) → Flow G → Flow (λ (w : Places) (p : Paths). next (handed p) (G w))
 flow-handed G B = record {
   splits = λ w ps qs o e.
       let i = next-answered (handed (laid (ps ++ qs))) (G w) o e in
       let h = handed-was (laid (ps ++ qs)) i.0 i.1 in
       let k = both_true (points_ok (laid ps).vertices) (points_ok (laid qs).vertices) (sym (laid-ok ps qs) ∙ h.0) in
       let b = B.splits w ps qs o (ap (G w) (sym h.1) ∙ i.2) in
-      (b.0, b.1, ap (λ (z : Answer Paths). next z (G w)) (handed-ok (laid ps) k.0) ∙ b.2, ap (λ (z : Answer Paths). next z (G w)) (handed-ok (laid qs) k.1) ∙ b.3, b.4);
+      (b.0, b.1, ap (λ (z : Result Paths Refusal). next z (G w)) (handed-ok (laid ps) k.0) ∙ b.2, ap (λ (z : Result Paths Refusal). next z (G w)) (handed-ok (laid qs) k.1) ∙ b.3, b.4);
   joins = λ w u ps qs x y d e.
       let i = next-answered (handed (laid ps)) (G w) x d in
       let j = next-answered (handed (laid qs)) (G u) y e in
@@ -196,7 +194,7 @@ flow-handed G B = record {
       let k = handed-was (laid qs) j.0 j.1 in
       let b = B.joins w u ps qs x y (ap (G w) (sym h.1) ∙ i.2) (ap (G u) (sym k.1) ∙ j.2) in
       let m : points_ok (laid (ps ++ qs)).vertices ≡ true = laid-ok ps qs ∙ ap₂ (λ (a b : Bool). a && b) h.0 k.0 in
-      (b.0, b.1, b.2, b.3, ap (λ (z : Answer Paths). next z (G (more_places w u))) (handed-ok (laid (ps ++ qs)) m) ∙ b.4);
+      (b.0, b.1, b.2, b.3, ap (λ (z : Result Paths Refusal). next z (G (more_places w u))) (handed-ok (laid (ps ++ qs)) m) ∙ b.4);
 }
 
 chop-one : (a : RenderArgs) (p : List Vector) → Adder (λ (r s : ℕ). one_path (path_chop most_halvings (screen_of a)) r s p)
@@ -210,19 +208,19 @@ unfolding chopped_lines
 chop-flow v = flow-handed (λ (w : Places) (q : Paths). chop_paths (args_of v) q.vertices q.starts w.lines.chopped w.lines.begins) (flow-chopped _ (stage-turns _ (chop-one (args_of v))))
 
 -- nothing is done
-pub plain-flow : Flow (λ (w : Places) (p : Paths). answered p)
+pub plain-flow : Flow (λ (w : Places) (p : Paths). Ok p)
 plain-flow = record {
   splits = λ w ps qs o e. (ps, qs, refl, refl, sym (same_answer e));
   joins = λ w u ps qs x y d e. (ps, qs, sym (same_answer d), sym (same_answer e), refl);
 }
 
 -- ---- steps 2 to 6
-pub on-built : {b : Built} {n : ℕ} (a : Answer Paths) → b ≡ Nodes n → on_tree b a ≡ a
+pub on-built : {b : Result ℕ Refusal} {n : ℕ} (a : Result Paths Refusal) → b ≡ Ok n → on_tree b a ≡ a
 unfolding on_tree
 on-built a e = rw e
 
 module _ (t : Float) (v : View) (solid : ℕ → Shape) (box : ℕ → BBox) (ids : List ℕ) where
-  flow-tree : (G : Places → Paths → Answer Paths) → Flow G → Flow (λ (w : Places) (p : Paths). on_tree (planted_of box ids w.nodes w.order) (G w p))
+  flow-tree : (G : Places → Paths → Result Paths Refusal) → Flow G → Flow (λ (w : Places) (p : Paths). on_tree (planted_of box ids w.nodes w.order) (G w p))
   unfolding more_places
   flow-tree G B = record {
     splits = λ w ps qs o e.
@@ -265,13 +263,13 @@ pub mapped-laid : (m : Matrix) (ps : List (List Vector)) → mapped m (laid ps) 
 unfolding mapped moved_from
 mapped-laid m ps = move-after m no_paths ps
 
-map-flow : (m : Matrix) → Flow (λ (w : Places) (p : Paths). answered (mapped m p))
+map-flow : (m : Matrix) → Flow (λ (w : Places) (p : Paths). Ok (mapped m p))
 map-flow m = record {
   splits = λ w ps qs o e. (
     moved m ps,
     moved m qs,
-    ap answered (mapped-laid m ps),
-    ap answered (mapped-laid m qs),
+    ap Ok (mapped-laid m ps),
+    ap Ok (mapped-laid m qs),
     sym (same_answer e) ∙ mapped-laid m (ps ++ qs) ∙ ap laid (map-append (map (mul_position m)) ps qs),
   );
   joins = λ w u ps qs x y d e. (
@@ -279,20 +277,20 @@ map-flow m = record {
     moved m qs,
     sym (same_answer d) ∙ mapped-laid m ps,
     sym (same_answer e) ∙ mapped-laid m qs,
-    ap answered (mapped-laid m (ps ++ qs) ∙ ap laid (map-append (map (mul_position m)) ps qs)),
+    ap Ok (mapped-laid m (ps ++ qs) ∙ ap laid (map-append (map (mul_position m)) ps qs)),
   );
 }
 
 -- ---- all six, on two parts
 module _ (t : Float) (v : View) (at : ℕ → Lined) (box : ℕ → BBox) (ids : List ℕ) where
-  abbrev rest : Places → Paths → Answer Paths
-  rest w p = next (staged t v w (λ (i : ℕ). bare (at i)) box ids p) (λ (s : Paths). answered (mapped (viewport v.width v.height) s))
+  abbrev rest : Places → Paths → Result Paths Refusal
+  rest w p = next (staged t v w (λ (i : ℕ). bare (at i)) box ids p) (λ (s : Paths). Ok (mapped (viewport v.width v.height) s))
 
   rest-flow : Flow rest
   rest-flow = flow-then _ _ (staged-flow t v (λ (i : ℕ). bare (at i)) box ids) (map-flow (viewport v.width v.height))
 
-  render-splits : (w : Places) (xs ys : List ℕ) (q : Paths) → rendered_part t v w at box ids (xs ++ ys) ≡ answered q
-      → (a b : Paths) × (rendered_part t v w at box ids xs ≡ answered a) × (rendered_part t v w at box ids ys ≡ answered b) × (q ≡ followed a b)
+  render-splits : (w : Places) (xs ys : List ℕ) (q : Paths) → rendered_part t v w at box ids (xs ++ ys) ≡ Ok q
+      → (a b : Paths) × (rendered_part t v w at box ids xs ≡ Ok a) × (rendered_part t v w at box ids ys ≡ Ok b) × (q ≡ followed a b)
   unfolding rendered_part
   render-splits w xs ys q e =
       let c = next-answered (collected_all (args_of v) w.lines at (xs ++ ys) no_paths) (rest w) q e in
@@ -304,13 +302,13 @@ module _ (t : Float) (v : View) (at : ℕ → Lined) (box : ℕ → BBox) (ids :
       let h : Roomier w.lines d.0 w.lines no_paths = record { left = (omega arith, omega arith); points = omega arith; starts = omega arith; chopped = omega arith; begins = omega arith } in (
         laid g.0,
         laid g.1,
-        ap (λ (p : Answer Paths). next p (rest w)) (d.1 ∙ ap answered x.is) ∙ g.2,
-        ap (λ (p : Answer Paths). next p (rest w)) (y.again w.lines no_paths h) ∙ g.3,
+        ap (λ (p : Result Paths Refusal). next p (rest w)) (d.1 ∙ ap Ok x.is) ∙ g.2,
+        ap (λ (p : Result Paths Refusal). next p (rest w)) (y.again w.lines no_paths h) ∙ g.3,
         g.4 ∙ laid-append g.0 g.1,
       )
 
-  render-joins : (w u : Places) (xs ys : List ℕ) (a b : Paths) → rendered_part t v w at box ids xs ≡ answered a → rendered_part t v u at box ids ys ≡ answered b
-      → rendered_part t v (more_places w u) at box ids (xs ++ ys) ≡ answered (followed a b)
+  render-joins : (w u : Places) (xs ys : List ℕ) (a b : Paths) → rendered_part t v w at box ids xs ≡ Ok a → rendered_part t v u at box ids ys ≡ Ok b
+      → rendered_part t v (more_places w u) at box ids (xs ++ ys) ≡ Ok (followed a b)
   unfolding rendered_part more_places more_lines
   render-joins w u xs ys a b d e =
       let i = next-answered (collected_all (args_of v) w.lines at xs no_paths) (rest w) a d in
@@ -323,31 +321,31 @@ module _ (t : Float) (v : View) (at : ℕ → Lined) (box : ℕ → BBox) (ids :
       = record { left = (omega (arith, f.0), omega (arith, f.1)); points = omega arith; starts = omega arith; chopped = omega arith; begins = omega arith } in
       let g = rest-flow.joins w u x.what y.what a b (ap (rest w) (sym x.is) ∙ i.2) (ap (rest u) (sym y.is) ∙ j.2) in
       let l = more_lines w.lines u.lines in
-      ap (λ (p : Answer Paths). next p (rest (more_places w u)))
+      ap (λ (p : Result Paths Refusal). next p (rest (more_places w u)))
       (collect-append (args_of v) l at xs ys no_paths
-      ∙ ap (λ (p : Answer Paths). next p (collected_all (args_of v) l at ys)) (x.again l no_paths h)
+      ∙ ap (λ (p : Result Paths Refusal). next p (collected_all (args_of v) l at ys)) (x.again l no_paths h)
       ∙ y.again l (laid x.what) k
-      ∙ ap answered (sym (after-append no_paths x.what y.what)))
+      ∙ ap Ok (sym (after-append no_paths x.what y.what)))
       ∙ g.4
-      ∙ ap answered (laid-append g.0 g.1 ∙ sym (ap₂ followed g.2 g.3))
+      ∙ ap Ok (laid-append g.0 g.1 ∙ sym (ap₂ followed g.2 g.3))
 
 -- ---- numbers 2 to 8 and 14
-pub view-passes : (b : Bool) (a : Answer Paths) {q : Paths} → cond b a (refused BadView) ≡ answered q → (b ≡ true) × (a ≡ answered q)
+pub view-passes : (b : Bool) (a : Result Paths Refusal) {q : Paths} → cond b a (Err BadView) ≡ Ok q → (b ≡ true) × (a ≡ Ok q)
 view-passes true a e = (refl, e)
 view-passes false a e = no_answer BadView e
 
 module _ (t : Float) (s : Scene) (v : View) where
-  abbrev pub drawing : Places → List ℕ → Answer Paths
+  abbrev pub drawing : Places → List ℕ → Result Paths Refusal
   drawing w part = rendered_part t v w (lined_in s) (λ (i : ℕ). shape_box (bare (lined_in s i))) (drawn s.marks) part
 
-  pub part-was : (w : Places) (part : List ℕ) (q : Paths) → draw_part t s v w part ≡ answered q → (n : ℕ) × (check_of s ≡ Accepted n) × (view_ok v && threshold_ok t ≡ true) × (drawing w part ≡ answered q)
+  pub part-was : (w : Places) (part : List ℕ) (q : Paths) → draw_part t s v w part ≡ Ok q → (n : ℕ) × (check_of s ≡ Ok n) × (view_ok v && threshold_ok t ≡ true) × (drawing w part ≡ Ok q)
   unfolding draw_part
   part-was w part q e =
       let a = drawn-accepted (check_of s) _ e in
       let b = view-passes (view_ok v && threshold_ok t) _ a.2 in
       (a.0, a.1, b.0, b.1)
 
-  pub part_is : {n : ℕ} (w : Places) (part : List ℕ) → check_of s ≡ Accepted n → view_ok v && threshold_ok t ≡ true → draw_part t s v w part ≡ drawing w part
+  pub part_is : {n : ℕ} (w : Places) (part : List ℕ) → check_of s ≡ Ok n → view_ok v && threshold_ok t ≡ true → draw_part t s v w part ≡ drawing w part
   unfolding draw_part drawn_after
   part_is w part a b = rw (a, b)
 
@@ -381,7 +379,7 @@ twice-none q e =
     none [] h = refl
     none (x ∷ l) h = absurd (omega (arith, h))
 
-pub nobody : (t : Float) (s : Scene) (v : View) (w : Places) (q : Paths) → draw_part t s v w [] ≡ answered q → q ≡ no_paths
+pub nobody : (t : Float) (s : Scene) (v : View) (w : Places) (q : Paths) → draw_part t s v w [] ≡ Ok q → q ≡ no_paths
 nobody t s v w q e =
     let a = part-splits t s v w [] [] q e in
     let x : a.0 ≡ q = same_answer (sym a.2 ∙ e) in
@@ -412,7 +410,7 @@ module _ (t : Float) (s : Scene) (v : View) (w : Places) where
   abbrev ids : List ℕ
   ids = drawn s.marks
 
-  from_first : (ms : List ℕ) (first : ℕ) (q : Paths) → draw_part t s v w (drop first ids) ≡ answered q → length ids ≤ first + range_sum ms → (qs : List Paths) × RangesDrawn t s v w first ms qs × (q ≡ followed_all qs)
+  from_first : (ms : List ℕ) (first : ℕ) (q : Paths) → draw_part t s v w (drop first ids) ≡ Ok q → length ids ≤ first + range_sum ms → (qs : List Paths) × RangesDrawn t s v w first ms qs × (q ≡ followed_all qs)
   unfolding range_sum followed_all
   from_first [] first q e h = ([], omega arith, nobody t s v w q (ap (draw_part t s v w) (sym (drop_of_length-le ids {i = first} (omega (arith, h)))) ∙ e))
   from_first (m ∷ ms) first q e h =
@@ -427,12 +425,12 @@ sheet-is-parts t s v w q e ms h =
 -- ---- the other way
 module _ (t : Float) (s : Scene) (v : View) (w : Places) where
   to_last : (m : ℕ) (ms : List ℕ) (first : ℕ) (qs : List Paths) → RangesDrawn t s v w first (m ∷ ms) qs → length (drawn s.marks) ≤ first + range_sum (m ∷ ms)
-      → draw_part t s v (places_together w ms) (drop first (drawn s.marks)) ≡ answered (followed_all qs)
+      → draw_part t s v (places_together w ms) (drop first (drawn s.marks)) ≡ Ok (followed_all qs)
   unfolding range_sum followed_all places_together
   to_last m ms first [] h k = absurd h
   to_last m [] first (q ∷ []) h k =
       let l : take m (drop first (drawn s.marks)) ≡ drop first (drawn s.marks) = take_all m (drop first (drawn s.marks)) (omega (arith, k, length-drop first (drawn s.marks))) in
-      ap (draw_part t s v w) (sym l) ∙ h.0 ∙ ap answered (sym (follow-none q))
+      ap (draw_part t s v w) (sym l) ∙ h.0 ∙ ap Ok (sym (follow-none q))
   to_last m [] first (q ∷ r ∷ qs) h k = absurd h.1
   to_last m (n ∷ ms) first (q ∷ qs) h k =
       let a = to_last n ms (first + m) qs h.1 (omega (arith, k)) in

@@ -12,19 +12,15 @@ use Rattle.geometry.specs.declared.vector.Vector.{Vector}
 use Rattle.geometry.specs.declared.ray.Ray.{Ray}
 use Rattle.geometry.specs.declared.bounding_box.BBox.{BBox}
 use Rattle.scene_shape.specs.Shapes.{Shape, shape_hit, shape_box}
-use Rattle.scene_shape.specs.declared.Struck.{Struck}
-use Rattle.scene_shape.specs.declared.Struck.TheVariants.{At, Refused as Without}
 use Rattle.tree_nodes.specs.Trees.{Tree, layout}
 use Rattle.tree_split.specs.Build.{tree_for, tree_of, nodes_for}
 use Rattle.tree_walk.specs.Walks.{nothing, visit}
-use Rattle.tree_walk.specs.declared.Found.{Found}
-use Rattle.tree_walk.specs.declared.Found.TheVariants.{Best, Refused}
 use Rattle.tree_sight.specs.Sights.{sees, by_distance, eye_ray}
 use Rattle.tree_sight.specs.declared.Sight.{Sight}
-use Rattle.tree_sight.specs.declared.Sight.TheVariants.{Visible, Hidden, Refused as NotSeen}
+use Rattle.tree_sight.specs.declared.Sight.TheVariants.{Visible, Hidden}
 use Rattle.draw_clip.specs.Clip.{clip_paths}
 use Rattle.query_scene.specs.Queries.{planted_of}
-use Rattle.paths.specs.Answers.{Answer, answered, refused, next}
+use Rattle.paths.specs.Answers.{next}
 use Rattle.paths.specs.Paths.{Paths, no_paths}
 use Rattle.view.specs.Views.{viewport, args_of}
 use Rattle.view.specs.declared.View.{View}
@@ -36,22 +32,26 @@ use Rattle.draw_render.specs.Render.{Places, stepping, nearest_of, seen_by, on_t
 use Rattle.draw.specs.Draw.{render}
 use Rattle.theorem_renaming.specs.Renaming.{SameDrawing}
 use Rattle.theorem_renaming.proofs.Trees.{struck_by, renamed, tree_map, layout-map, visit-same, best-same}
+use Rattle.std.specs.Prelude.{Err, Ok, Result}
+use Rattle.geometry.specs.declared.hit.Hit.{Hit}
+use Rattle.tree_walk.specs.declared.Nearest.{Nearest}
+use Rattle.refusals.specs.declared.Refusal.{Refusal}
 
-abbrev judged_by : Struck → Float → Sight
-judged_by (At h) d = cond (le d h.t) Visible Hidden
-judged_by (Without k) d = NotSeen k
+abbrev judged_by : Result Hit Refusal → Float → Result Sight Refusal
+judged_by (Ok h) d = cond (le d h.t) (Ok Visible) (Ok Hidden)
+judged_by (Err k) d = Err k
 
-judged-by : (x : Found) (d : Float) → by_distance x d ≡ judged_by (struck_by x) d
+judged-by : (x : Result Nearest Refusal) (d : Float) → by_distance x d ≡ judged_by (struck_by x) d
 unfolding by_distance struck_by
-judged-by (Best a) d = refl
-judged-by (Refused n) d = refl
+judged-by (Ok a) d = refl
+judged-by (Err n) d = refl
 
-judged-same : (x y : Found) (d : Float) → struck_by x ≡ struck_by y → by_distance x d ≡ by_distance y d
-judged-same x y d e = judged-by x d ∙ ap (λ (s : Struck). judged_by s d) e ∙ sym (judged-by y d)
+judged-same : (x y : Result Nearest Refusal) (d : Float) → struck_by x ≡ struck_by y → by_distance x d ≡ by_distance y d
+judged-same x y d e = judged-by x d ∙ ap (λ (s : Result Hit Refusal). judged_by s d) e ∙ sym (judged-by y d)
 
-sees-same : (g h : Ray → Found) → ((r : Ray) → struck_by (g r) ≡ struck_by (h r)) → (eye point : Vector) → sees g eye point ≡ sees h eye point
+sees-same : (g h : Ray → Result Nearest Refusal) → ((r : Ray) → struck_by (g r) ≡ struck_by (h r)) → (eye point : Vector) → sees g eye point ≡ sees h eye point
 unfolding sees
-sees-same g h e eye point = ap (cond (eq (distance_of eye point) zero_f) Visible) (judged-same (g (eye_ray eye point)) (h (eye_ray eye point)) (distance_of eye point) (e (eye_ray eye point)))
+sees-same g h e eye point = ap (cond (eq (distance_of eye point) zero_f) (Ok Visible)) (judged-same (g (eye_ray eye point)) (h (eye_ray eye point)) (distance_of eye point) (e (eye_ray eye point)))
 
 module _ (f : ℕ → ℕ) where
   collect-map : (a : RenderArgs) (w : LineRoom) (at : ℕ → Lined) (ids : List ℕ) (p : Paths) → collected_all a w at (map f ids) p ≡ collected_all a w (λ (i : ℕ). at (f i)) ids p
@@ -85,21 +85,21 @@ module _ (f : ℕ → ℕ) where
   lines-map : (v : View) (n m : ℕ) (solid : ℕ → Shape) (box : ℕ → BBox) (ids : List ℕ) (r u : ℕ) (p : Paths) → seen_lines v n m solid box (map f ids) r u p ≡ seen_lines v n m (λ (i : ℕ). solid (f i)) (λ (i : ℕ). box (f i)) ids r u p
   unfolding seen_lines
   lines-map v n m solid box ids r u p =
-      ap₂ on_tree (planted-map box ids n m) (ap (λ (see : Vector → Sight). clip_paths v.matrix see p.vertices p.starts r u) (fun_ext (λ (x : Vector). seen-map solid box ids v.eye x)))
+      ap₂ on_tree (planted-map box ids n m) (ap (λ (see : Vector → Result Sight Refusal). clip_paths v.matrix see p.vertices p.starts r u) (fun_ext (λ (x : Vector). seen-map solid box ids v.eye x)))
 
   staged-map : (t : Float) (v : View) (w : Places) (solid : ℕ → Shape) (box : ℕ → BBox) (ids : List ℕ) (p : Paths) → staged t v w solid box (map f ids) p ≡ staged t v w (λ (i : ℕ). solid (f i)) (λ (i : ℕ). box (f i)) ids p
   unfolding staged
   staged-map t v w solid box ids p =
-      ap₂ (λ (x y : Answer Paths). cond (stepping v) x y)
-      (ap (next (chopped_lines (args_of v) w.lines.chopped w.lines.begins p)) (fun_ext (λ (q : Paths). ap (λ (a : Answer Paths). next a (simplified_lines t w.points w.starts)) (lines-map v w.nodes w.order solid box ids w.lines.points w.lines.starts q))))
+      ap₂ (λ (x y : Result Paths Refusal). cond (stepping v) x y)
+      (ap (next (chopped_lines (args_of v) w.lines.chopped w.lines.begins p)) (fun_ext (λ (q : Paths). ap (λ (a : Result Paths Refusal). next a (simplified_lines t w.points w.starts)) (lines-map v w.nodes w.order solid box ids w.lines.points w.lines.starts q))))
       (lines-map v w.nodes w.order solid box ids w.points w.starts p)
 
   -- the same drawn values, under other numbers
   pub rendered-map : (t : Float) (v : View) (w : Places) (lined : ℕ → Lined) (box : ℕ → BBox) (ids : List ℕ) → rendered t v w lined box (map f ids) ≡ rendered t v w (λ (i : ℕ). lined (f i)) (λ (i : ℕ). box (f i)) ids
   unfolding rendered rendered_part
   rendered-map t v w lined box ids =
-      ap₂ (λ (a : Answer Paths) (g : Paths → Answer Paths). next a g) (collect-map (args_of v) w.lines lined ids no_paths)
-      (fun_ext (λ (p : Paths). ap (λ (a : Answer Paths). next a (λ (s : Paths). answered (mapped (viewport v.width v.height) s))) (staged-map t v w (λ (i : ℕ). bare (lined i)) box ids p)))
+      ap₂ (λ (a : Result Paths Refusal) (g : Paths → Result Paths Refusal). next a g) (collect-map (args_of v) w.lines lined ids no_paths)
+      (fun_ext (λ (p : Paths). ap (λ (a : Result Paths Refusal). next a (λ (s : Paths). Ok (mapped (viewport v.width v.height) s))) (staged-map t v w (λ (i : ℕ). bare (lined i)) box ids p)))
 
 -- ---- the drawn values alone
 -- the numbers from 0 on, as many as a list has

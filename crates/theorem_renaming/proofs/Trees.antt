@@ -20,17 +20,14 @@ use Rattle.tree_sort.specs.Sort.{inserted, sorted}
 use Rattle.tree_split.specs.Build.{hull_of, hull_back, middle_box, axis_of, by_middle, cost_by, area_of, cost_of, better_of, best_upto, plan_axis, arranged, leaf_wins, split_by, plan_of, tree_of, tree_for, nodes_for}
 use Rattle.tree_split.specs.declared.BestSplit.{BestSplit}
 use Rattle.tree_split.specs.declared.Plan.{Plan}
-use Rattle.scene_shape.specs.declared.Struck.{Struck}
-use Rattle.scene_shape.specs.declared.Struck.TheVariants.{At, Refused as Without}
 use Rattle.tree_walk.specs.Walks.{nearer, tried, onward, scan, backward, visit}
 use Rattle.tree_walk.specs.declared.Nearest.{Nearest}
-use Rattle.tree_walk.specs.declared.Found.{Found}
-use Rattle.tree_walk.specs.declared.Found.TheVariants.{Best as Best', Refused}
+use Rattle.std.specs.Prelude.{Err, Ok, Result}
 
 -- the hit that was found
-unfoldable pub struck_by : Found → Struck
-struck_by (Best' a) = At a.hit
-struck_by (Refused k) = Without k
+unfoldable pub struck_by : Result Nearest Refusal → Result Hit Refusal
+struck_by (Ok a) = Ok a.hit
+struck_by (Err k) = Err k
 
 unfoldable pub renamed : (ℕ → ℕ) → Tree ℕ → Tree ℕ
 renamed f (leaf b a is) = leaf b a (map f is)
@@ -50,7 +47,7 @@ tree_shape k box ids = refl
 differ : true ≡ false → ⊥
 differ e = let z : ◌≡◌ {A = ℕ} 1 0 = ap (λ (b : Bool). cond b 1 0) e in omega (arith, z)
 
-apart : {h : Hit} {k : Refusal} → At h ≡ Without k → ⊥
+apart : {h : Hit} {k : Refusal} → Ok h ≡ Err k → ⊥
 apart e = let z : ◌≡◌ {A = ℕ} 0 1 = cc in omega arith
 
 module _ (f : ℕ → ℕ) where
@@ -183,7 +180,7 @@ module _ (f : ℕ → ℕ) where
   layout-map t = rw (root-map 1 0 t, below-map 1 0 t)
 
   -- ---- the walk: the same hit, whatever the names
-  abbrev SameHit : Found → Found → Type 0
+  abbrev SameHit : Result Nearest Refusal → Result Nearest Refusal → Type 0
   SameHit x y = struck_by x ≡ struck_by y
 
   nearer-same : (i j : ℕ) (h : Hit) (a b : Nearest) → a.hit ≡ b.hit → (nearer i h a).hit ≡ (nearer j h b).hit
@@ -196,39 +193,39 @@ module _ (f : ℕ → ℕ) where
       by false true g = absurd (differ (sym g))
       by false false g = e
 
-  pub best-same : (a b : Nearest) → a.hit ≡ b.hit → SameHit (Best' a) (Best' b)
+  pub best-same : (a b : Nearest) → a.hit ≡ b.hit → SameHit (Ok a) (Ok b)
   unfolding struck_by
-  best-same a b e = ap At e
+  best-same a b e = ap Ok e
 
-  same-best : (a b : Nearest) → SameHit (Best' a) (Best' b) → a.hit ≡ b.hit
+  same-best : (a b : Nearest) → SameHit (Ok a) (Ok b) → a.hit ≡ b.hit
   unfolding struck_by
   same-best a b e = cc
 
-  tried_same : (i j : ℕ) (s : Struck) (a b : Nearest) → a.hit ≡ b.hit → SameHit (tried i s a) (tried j s b)
+  tried_same : (i j : ℕ) (s : Result Hit Refusal) (a b : Nearest) → a.hit ≡ b.hit → SameHit (tried i s a) (tried j s b)
   unfolding tried
-  tried_same i j (At h) a b e = best-same (nearer i h a) (nearer j h b) (nearer-same i j h a b e)
-  tried_same i j (Without k) a b e = refl
+  tried_same i j (Ok h) a b e = best-same (nearer i h a) (nearer j h b) (nearer-same i j h a b e)
+  tried_same i j (Err k) a b e = refl
 
-  onward-same : (x y : Found) (g h : Nearest → Found) → SameHit x y → ((a b : Nearest) → a.hit ≡ b.hit → SameHit (g a) (h b)) → SameHit (onward x g) (onward y h)
+  onward-same : (x y : Result Nearest Refusal) (g h : Nearest → Result Nearest Refusal) → SameHit x y → ((a b : Nearest) → a.hit ≡ b.hit → SameHit (g a) (h b)) → SameHit (onward x g) (onward y h)
   unfolding struck_by
-  onward-same (Best' a) (Best' b) g h e k = k a b (same-best a b e)
-  onward-same (Best' a) (Refused n) g h e k = absurd (apart e)
-  onward-same (Refused n) (Best' b) g h e k = absurd (apart (sym e))
-  onward-same (Refused n) (Refused m) g h e k = e
+  onward-same (Ok a) (Ok b) g h e k = k a b (same-best a b e)
+  onward-same (Ok a) (Err n) g h e k = absurd (apart e)
+  onward-same (Err n) (Ok b) g h e k = absurd (apart (sym e))
+  onward-same (Err n) (Err m) g h e k = e
 
-  scan-same : (hit : ℕ → Struck) (is : List ℕ) (a b : Nearest) → a.hit ≡ b.hit → SameHit (scan hit (map f is) a) (scan (λ i. hit (f i)) is b)
+  scan-same : (hit : ℕ → Result Hit Refusal) (is : List ℕ) (a b : Nearest) → a.hit ≡ b.hit → SameHit (scan hit (map f is) a) (scan (λ i. hit (f i)) is b)
   unfolding scan
   scan-same hit [] a b e = best-same a b e
   scan-same hit (i ∷ is) a b e = onward-same (tried (f i) (hit (f i)) a) (tried i (hit (f i)) b) (scan hit (map f is)) (scan (λ j. hit (f j)) is) (tried_same (f i) i (hit (f i)) a b e) (λ c d g. scan-same hit is c d g)
 
-  cond_same : (t : Bool) (x y x' y' : Found) → SameHit x x' → SameHit y y' → SameHit (cond t x y) (cond t x' y')
+  cond_same : (t : Bool) (x y x' y' : Result Nearest Refusal) → SameHit x x' → SameHit y y' → SameHit (cond t x y) (cond t x' y')
   cond_same true x y x' y' g h = g
   cond_same false x y x' y' g h = h
 
-  skip-same : (t u : Bool) (x y x' y' : Found) → t ≡ u → SameHit x x' → SameHit y y' → SameHit (cond t x y) (cond u x' y')
+  skip-same : (t u : Bool) (x y x' y' : Result Nearest Refusal) → t ≡ u → SameHit x x' → SameHit y y' → SameHit (cond t x y) (cond u x' y')
   skip-same t u x y x' y' e g h = subst (λ (v : Bool). SameHit (cond t x y) (cond v x' y')) e (cond_same t x y x' y' g h)
 
-  pub visit-same : (hit : ℕ → Struck) (r : Ray) (t : Tree ℕ) (w : ℕ) (a b : Nearest) → a.hit ≡ b.hit → SameHit (visit hit r (renamed f t) w a) (visit (λ i. hit (f i)) r t w b)
+  pub visit-same : (hit : ℕ → Result Hit Refusal) (r : Ray) (t : Tree ℕ) (w : ℕ) (a b : Nearest) → a.hit ≡ b.hit → SameHit (visit hit r (renamed f t) w a) (visit (λ i. hit (f i)) r t w b)
   unfolding visit renamed
   visit-same hit r (leaf x n is) w a b e = skip-same _ _ _ _ _ _ (ap (λ (h : Hit). skips (box_test x r) h.t) e) (best-same a b e) (scan-same hit is a b e)
   visit-same hit r (split x n u v) w a b e =

@@ -1,7 +1,7 @@
 -- "Results then zeros, or zeros throughout after a numbered refusal", of the slices and places that the calls named below are lent. A premise is what the
 -- `ensures` of these calls says of a run. What the other calls leave is said by their `ensures` alone: larnt_preview's counts, larnt_solid_hit and the
 -- calls like it, larnt_canonical, larnt_pick and the plotter's registers.
-use Rattle.std.specs.Prelude.{ℕ, zero, suc, ◌-◌, ◌/◌, ◌≡◌, Bool, false, List, [], ◌∷◌, ◌++◌, length, replicate, Float}
+use Rattle.std.specs.Prelude.{ℕ, zero, suc, ◌-◌, ◌/◌, ◌≡◌, Bool, false, List, [], ◌∷◌, ◌++◌, length, replicate, Float, Err, Ok, Option, Result}
 use Rattle.floats.specs.Arith.{zero_f}
 use Rattle.geometry.specs.declared.vector.Vector.{Vector}
 use Rattle.lists.specs.Lists.{Member}
@@ -9,17 +9,12 @@ use Rattle.rows.specs.Rows.{flat, view}
 use Rattle.rows.specs.Points.{point_of, point_row}
 use Rattle.scene.specs.Scenes.{Scene, entries_of}
 use Rattle.scene_merge.specs.MergedScenes.{merged_scene}
-use Rattle.scene_shape.specs.declared.Struck.{Struck}
 use Rattle.check_parts.specs.Drawn.{drawn}
 use Rattle.check_scene.specs.Checks.{inverses_of, boxes_of}
 use Rattle.tree_nodes.specs.Nodes.{box_rows, mark_rows}
 use Rattle.tree_sight.specs.declared.Sight.{Sight}
-use Rattle.tree_walk.specs.declared.Found.{Found}
 use Rattle.query_scene.specs.Queries.{scene_nodes, scene_order}
-use Rattle.query_scene.specs.declared.NamedSight.{NamedSight}
 use Rattle.query_cover.specs.Covered.{byte_of, covered_of}
-use Rattle.query_solid.specs.declared.Contained.{Contained}
-use Rattle.paths.specs.Answers.{Answer, answered, refused}
 use Rattle.paths.specs.Paths.{Paths, no_paths}
 use Rattle.paths.specs.Ends.{Zeroed}
 use Rattle.host.specs.Calls.{CheckTold, ContainedTold}
@@ -28,6 +23,9 @@ use Rattle.host.specs.CoverCalls.{BatchTold}
 use Rattle.host.specs.StageCalls.{PathsTold}
 use Rattle.host_merge.specs.MergeCalls.{MergeTold}
 use Rattle.host_text.specs.TextCalls.{WriteTold}
+use Rattle.geometry.specs.declared.hit.Hit.{Hit}
+use Rattle.tree_walk.specs.declared.Nearest.{Nearest}
+use Rattle.refusals.specs.declared.Refusal.{Refusal}
 
 -- a slice that a call is lent to write, a place for a count being a slice of one: its length, what it is to hold, what it holds afterwards
 pub record LentSlice : Type 1 where
@@ -56,16 +54,16 @@ AllEnd number [] = Unit {0}
 AllEnd number (l ∷ ls) = End number l × AllEnd number ls
 
 -- the paths, and the bytes, that an answer holds
-abbrev pub paths_answered : Answer Paths → Paths
-paths_answered (answered q) = q
-paths_answered (refused k) = no_paths
+abbrev pub paths_answered : Result Paths Refusal → Paths
+paths_answered (Ok q) = q
+paths_answered (Err k) = no_paths
 
-abbrev pub bytes_answered : Answer (List ℕ) → List ℕ
-bytes_answered (answered t) = t
-bytes_answered (refused k) = []
+abbrev pub bytes_answered : Result (List ℕ) Refusal → List ℕ
+bytes_answered (Ok t) = t
+bytes_answered (Err k) = []
 
 -- larnt_chop, larnt_outline, larnt_simplify, larnt_draw, larnt_draw_with: the points and the starts of the paths, and how many there are
-abbrev pub lent_for_paths : Answer Paths → ℕ → ℕ → List Float → List ℕ → ℕ → ℕ → List LentSlice
+abbrev pub lent_for_paths : Result Paths Refusal → ℕ → ℕ → List Float → List ℕ → ℕ → ℕ → List LentSlice
 lent_for_paths a n m out begins points paths =
     floats n (flat point_row (paths_answered a).vertices) out
     ∷ wholes m (paths_answered a).starts begins
@@ -75,7 +73,7 @@ lent_for_paths a n m out begins points paths =
 
 abbrev pub PathsEnd : Type 0
 PathsEnd =
-    (a : Answer Paths) (n m number : ℕ) (out : List Float) (begins : List ℕ) (points paths : ℕ)
+    (a : Result Paths Refusal) (n m number : ℕ) (out : List Float) (begins : List ℕ) (points paths : ℕ)
     → PathsTold a n m number out begins points paths → AllEnd number (lent_for_paths a n m out begins points paths)
 
 -- larnt_build: the nodes' boxes and marks, the entries in the leaves' order, and how many nodes there are
@@ -131,30 +129,30 @@ CoveredAllEnds =
     → BatchTold s boxes marks order eye tested told₀ number told → AllEnd number (lent_for_points s boxes marks order eye tested told₀ told)
 
 -- larnt_write: the text, and how many bytes it has
-abbrev pub lent_for_text : Answer (List ℕ) → ℕ → List ℕ → ℕ → List LentSlice
+abbrev pub lent_for_text : Result (List ℕ) Refusal → ℕ → List ℕ → ℕ → List LentSlice
 lent_for_text a room text count = wholes room (bytes_answered a) text ∷ tally (length (bytes_answered a)) count ∷ []
 
 abbrev pub WriteEnds : Type 0
 WriteEnds =
-    (a : Answer (List ℕ)) (room : ℕ) (text : List ℕ) (number count : ℕ)
+    (a : Result (List ℕ) Refusal) (room : ℕ) (text : List ℕ) (number count : ℕ)
     → WriteTold a room text number count → AllEnd number (lent_for_text a room text count)
 
 -- single places, after a refusal +0, false and 0: larnt_own_hit; larnt_intersect; larnt_occluder; larnt_visible and larnt_covered; larnt_own_contains
 abbrev pub OwnHitEnds : Type 0
-OwnHitEnds = (h : Struck) (number : ℕ) (t : Float) (ok : Bool) → HitTold h number t ok → (number ≡ 0 → ⊥) → (t ≡ zero_f) × (ok ≡ false)
+OwnHitEnds = (h : Result Hit Refusal) (number : ℕ) (t : Float) (ok : Bool) → HitTold h number t ok → (number ≡ 0 → ⊥) → (t ≡ zero_f) × (ok ≡ false)
 
 abbrev pub NearestHitEnds : Type 0
 NearestHitEnds =
-    (f : Found) (number : ℕ) (t : Float) (ok : Bool) (entry : ℕ) → NearestTold f number t ok entry → (number ≡ 0 → ⊥) → (t ≡ zero_f) × (ok ≡ false) × (entry ≡ 0)
+    (f : Result Nearest Refusal) (number : ℕ) (t : Float) (ok : Bool) (entry : ℕ) → NearestTold f number t ok entry → (number ≡ 0 → ⊥) → (t ≡ zero_f) × (ok ≡ false) × (entry ≡ 0)
 
 abbrev pub OccluderEnds : Type 0
-OccluderEnds = (o : NamedSight) (number entry : ℕ) → NameTold o number entry → (number ≡ 0 → ⊥) → entry ≡ 0
+OccluderEnds = (o : Result (Option ℕ) Refusal) (number entry : ℕ) → NameTold o number entry → (number ≡ 0 → ⊥) → entry ≡ 0
 
 abbrev pub SightEnds : Type 0
-SightEnds = (a : Sight) (number : ℕ) (seen : Bool) → SightTold a number seen → (number ≡ 0 → ⊥) → seen ≡ false
+SightEnds = (a : Result Sight Refusal) (number : ℕ) (seen : Bool) → SightTold a number seen → (number ≡ 0 → ⊥) → seen ≡ false
 
 abbrev pub ContainsEnds : Type 0
-ContainsEnds = (c : Contained) (number : ℕ) (within : Bool) → ContainedTold c number within → (number ≡ 0 → ⊥) → within ≡ false
+ContainsEnds = (c : Result Bool Refusal) (number : ℕ) (within : Bool) → ContainedTold c number within → (number ≡ 0 → ⊥) → within ≡ false
 
 -- each of the seven work slices of larnt_draw, larnt_draw_with and larnt_preview, whatever the answer: as long as it was, and each element a zero
 abbrev pub WorkEnds : Type 1

@@ -16,26 +16,26 @@ use Rattle.scene.specs.declared.entry.Op.{Op}
 use Rattle.scene.specs.declared.entry.Op.TheVariants.{Intersection, Difference}
 use Rattle.scene_shape.specs.Cuts.{both, restarted, takes_away, cut_contains, from_first, tell_of, accepted_or, step}
 use Rattle.scene_shape.specs.Shapes.{Shape, cut, cut_from, shape_hit, shape_contains}
-use Rattle.scene_shape.specs.declared.Struck.{Struck}
-use Rattle.scene_shape.specs.declared.Struck.TheVariants.{At, Refused}
 use Rattle.theorem_solids.specs.Distances.{last_or, last_from, last_hit, LastRay, rejected_or, rejected_from, rejected_hits, restart_sum, plus_restarts, TrueDistance, ButForDistance, TrueCutAlike}
+use Rattle.std.specs.Prelude.{Err, Ok, Result}
+use Rattle.refusals.specs.declared.Refusal.{Refusal}
 
 -- ---- what tells a hit as it is never reads the sum
-module _ (tell : Float → Hit → Hit) (plain : (sum : Float) (h : Hit) → tell sum h ≡ h) (a b : Ray → Struck) (inside : Vector → Bool) where
-  module _ (again : Float → Ray → Struck) (after : Ray → Struck) (e : (sum : Float) (r : Ray) → again sum r ≡ after r) where
-    last-accepted : (sum : Float) (r : Ray) (h : Hit) (t : Bool) → accepted_or tell again sum r h t ≡ cond t (At h) (after (restarted r h.t))
+module _ (tell : Float → Hit → Hit) (plain : (sum : Float) (h : Hit) → tell sum h ≡ h) (a b : Ray → Result Hit Refusal) (inside : Vector → Bool) where
+  module _ (again : Float → Ray → Result Hit Refusal) (after : Ray → Result Hit Refusal) (e : (sum : Float) (r : Ray) → again sum r ≡ after r) where
+    last-accepted : (sum : Float) (r : Ray) (h : Hit) (t : Bool) → accepted_or tell again sum r h t ≡ cond t (Ok h) (after (restarted r h.t))
     unfolding accepted_or
-    last-accepted sum r h true = ap At (plain sum h)
+    last-accepted sum r h true = ap Ok (plain sum h)
     last-accepted sum r h false = e _ _
 
-    last_step : (sum : Float) (r : Ray) (z : Struck) → step tell again inside sum r z ≡ last_or after inside r z
+    last_step : (sum : Float) (r : Ray) (z : Result Hit Refusal) → step tell again inside sum r z ≡ last_or after inside r z
     unfolding step last_or
-    last_step sum r (Refused n) = refl
-    last_step sum r (At h) = last-accepted sum r h (not (is_ok h) || inside (position r h.t))
+    last_step sum r (Err n) = refl
+    last_step sum r (Ok h) = last-accepted sum r h (not (is_ok h) || inside (position r h.t))
 
   last-from : (n : ℕ) (sum : Float) (r : Ray) → cut_from tell n a b inside sum r ≡ last_from n a b inside r
   unfolding cut_from last_from
-  last-from zero sum r = last_step (λ _ _. Refused Restarts) (λ _. Refused Restarts) (λ _ _. refl) sum r (both (a r) (b r))
+  last-from zero sum r = last_step (λ _ _. Err Restarts) (λ _. Err Restarts) (λ _ _. refl) sum r (both (a r) (b r))
   last-from (suc n) sum r = last_step (cut_from tell n a b inside) (last_from n a b inside) (last-from n) sum r (both (a r) (b r))
 
 pub last-ray : (a b : Shape) (r : Ray) → LastRay a b r
@@ -50,45 +50,45 @@ sum_from : Float → List Float → Float
 sum_from = foldl (λ (sum t : Float). sum ⊕ (t ⊕ hundredth))
 
 -- the sum so far, and over these hits, then the last t
-plus_from : Float → List Float → Struck → Struck
-plus_from sum ts (At h) = At (from_first (sum_from sum ts) h)
-plus_from sum ts (Refused k) = Refused k
+plus_from : Float → List Float → Result Hit Refusal → Result Hit Refusal
+plus_from sum ts (Ok h) = Ok (from_first (sum_from sum ts) h)
+plus_from sum ts (Err k) = Err k
 
-one_more : (sum t : Float) (ts : List Float) (z : Struck) → plus_from (sum ⊕ (t ⊕ hundredth)) ts z ≡ plus_from sum (t ∷ ts) z
+one_more : (sum t : Float) (ts : List Float) (z : Result Hit Refusal) → plus_from (sum ⊕ (t ⊕ hundredth)) ts z ≡ plus_from sum (t ∷ ts) z
 unfolding plus_from sum_from
-one_more sum t ts (At h) = refl
-one_more sum t ts (Refused k) = refl
+one_more sum t ts (Ok h) = refl
+one_more sum t ts (Err k) = refl
 
-none_told : (sum : Float) → Refused Restarts ≡ plus_from sum [] (Refused Restarts)
+none_told : (sum : Float) → Err Restarts ≡ plus_from sum [] (Err Restarts)
 unfolding plus_from
 none_told sum = refl
 
-module _ (a b : Ray → Struck) (inside : Vector → Bool) where
-  module _ (again : Float → Ray → Struck) (after : Ray → Struck) (rest : Ray → List Float)
+module _ (a b : Ray → Result Hit Refusal) (inside : Vector → Bool) where
+  module _ (again : Float → Ray → Result Hit Refusal) (after : Ray → Result Hit Refusal) (rest : Ray → List Float)
       (e : (sum : Float) (r : Ray) → again sum r ≡ plus_from sum (rest r) (after r)) where
     sum-accepted : (sum : Float) (r : Ray) (h : Hit) (t : Bool)
-        → accepted_or from_first again sum r h t ≡ plus_from sum (cond t [] (h.t ∷ rest (restarted r h.t))) (cond t (At h) (after (restarted r h.t)))
+        → accepted_or from_first again sum r h t ≡ plus_from sum (cond t [] (h.t ∷ rest (restarted r h.t))) (cond t (Ok h) (after (restarted r h.t)))
     unfolding accepted_or plus_from sum_from
     sum-accepted sum r h true = refl
     sum-accepted sum r h false = e _ _ ∙ one_more sum h.t (rest (restarted r h.t)) (after (restarted r h.t))
 
-    sum_step : (sum : Float) (r : Ray) (z : Struck) → step from_first again inside sum r z ≡ plus_from sum (rejected_or rest inside r z) (last_or after inside r z)
+    sum_step : (sum : Float) (r : Ray) (z : Result Hit Refusal) → step from_first again inside sum r z ≡ plus_from sum (rejected_or rest inside r z) (last_or after inside r z)
     unfolding step last_or rejected_or plus_from
-    sum_step sum r (Refused n) = refl
-    sum_step sum r (At h) = sum-accepted sum r h (not (is_ok h) || inside (position r h.t))
+    sum_step sum r (Err n) = refl
+    sum_step sum r (Ok h) = sum-accepted sum r h (not (is_ok h) || inside (position r h.t))
 
   sum-from : (n : ℕ) (sum : Float) (r : Ray) → cut_from from_first n a b inside sum r ≡ plus_from sum (rejected_from n a b inside r) (last_from n a b inside r)
   unfolding cut_from last_from rejected_from
-  sum-from zero sum r = sum_step (λ _ _. Refused Restarts) (λ _. Refused Restarts) (λ _. []) (λ sum _. none_told sum) sum r (both (a r) (b r))
+  sum-from zero sum r = sum_step (λ _ _. Err Restarts) (λ _. Err Restarts) (λ _. []) (λ sum _. none_told sum) sum r (both (a r) (b r))
   sum-from (suc n) sum r =
       sum_step (cut_from from_first n a b inside) (last_from n a b inside) (rejected_from n a b inside) (sum-from n) sum r (both (a r) (b r))
 
-plus-sum : (ts : List Float) (z : Struck) → plus_from zero_f ts z ≡ plus_restarts ts z
+plus-sum : (ts : List Float) (z : Result Hit Refusal) → plus_from zero_f ts z ≡ plus_restarts ts z
 unfolding plus_from sum_from plus_restarts restart_sum from_first
-plus-sum ts (At h) = refl
-plus-sum ts (Refused k) = refl
+plus-sum ts (Ok h) = refl
+plus-sum ts (Err k) = refl
 
-sum_told : (o : Op) (a b : Shape) (r : Ray) (z : Struck) → z ≡ last_hit o a b r
+sum_told : (o : Op) (a b : Shape) (r : Ray) (z : Result Hit Refusal) → z ≡ last_hit o a b r
     → cut_from from_first 64 (shape_hit a) (shape_hit b) (cut_contains o (shape_contains a) (shape_contains b)) zero_f r ≡ plus_restarts (rejected_hits o a b r) z
 sum_told o a b r z e =
     sum-from (shape_hit a) (shape_hit b) (cut_contains o (shape_contains a) (shape_contains b)) 64 zero_f r ∙ plus-sum (rejected_hits o a b r) (last_hit o a b r)
@@ -102,14 +102,14 @@ true-distance a b r = record {
 }
 
 -- ---- so but for the distance the answers are alike
-by-ok : (x : Float) (h : Hit) (k : Bool) → h.ok ≡ k → ButForDistance (At h) (At (cond k (record { t = x; ok = true }) h))
+by-ok : (x : Float) (h : Hit) (k : Bool) → h.ok ≡ k → ButForDistance (Ok h) (Ok (cond k (record { t = x; ok = true }) h))
 by-ok x h true e = (e, λ f. never (sym f ∙ e))
 by-ok x h false e = (refl, λ _. refl)
 
-plus-alike : (ts : List Float) (z : Struck) → ButForDistance z (plus_restarts ts z)
+plus-alike : (ts : List Float) (z : Result Hit Refusal) → ButForDistance z (plus_restarts ts z)
 unfolding plus_restarts
-plus-alike ts (At h) = by-ok (restart_sum ts ⊕ h.t) h h.ok refl
-plus-alike ts (Refused k) = refl
+plus-alike ts (Ok h) = by-ok (restart_sum ts ⊕ h.t) h h.ok refl
+plus-alike ts (Err k) = refl
 
 pub true-cut-alike : (a b : Shape) (r : Ray) → TrueCutAlike a b r
 true-cut-alike a b r = record {

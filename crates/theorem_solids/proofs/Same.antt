@@ -15,14 +15,14 @@ use Rattle.rows.specs.Entries.{numbers_of}
 use Rattle.rows.specs.declared.Marks.{Marks}
 use Rattle.rows.specs.declared.Numbers.{Numbers}
 use Rattle.scene.specs.Entries.{closed_of, simple_of, simple_or, op_of, cut_of, composite_of, entry_of, matrix_of, matrix_numbers, marks_at, own_entry}
-use Rattle.scene.specs.declared.entry.Simple.{Simple}
-use Rattle.scene.specs.declared.entry.Simple.TheVariants.{Is, Other}
 use Rattle.scene.specs.declared.entry.Op.{Op}
 use Rattle.scene.specs.declared.entry.Entry.{Entry}
-use Rattle.scene.specs.declared.entry.Entry.TheVariants.{Placed, Cut, None}
+use Rattle.scene.specs.declared.entry.Entry.TheVariants.{Placed, Cut}
 use Rattle.scene_shape.specs.Shapes.{Shape, read, shape_of}
 use Rattle.scene.specs.Scenes.{entries}
 use Rattle.theorem_solids.specs.Same.{used_numbers, uses_detail, Alike, SameTo, SameSolidReadAlike}
+use Rattle.std.specs.Prelude.{None, Option, Some}
+use Rattle.solids.specs.declared.solid.Solid.{Solid}
 
 -- ---- used numbers that agree are the measures that agree
 cell : (u : ℕ) (r r' : List Float) → take u r ≡ take u r' → (j : ℕ) → j < u → get_or r j nan ≡ get_or r' j nan
@@ -112,16 +112,16 @@ module _ (F G : ℕ → Shape) (m m' : Marks) (r r' : List Float) (A : Alike (λ
   abbrev inv : List Float → Numbers
   inv l = matrix_numbers (inverted (matrix_of (numbers_of l))).inverse
 
-  placed-as : m.kind ≡ 6 → shape_of F (Placed (matrix_of (numbers_of r)) (matrix_of (inv r)) m.first) ≡ shape_of G (Placed (matrix_of (numbers_of r')) (matrix_of (inv r')) m'.first)
+  placed-as : m.kind ≡ 6 → shape_of F (Some (Placed (matrix_of (numbers_of r)) (matrix_of (inv r)) m.first)) ≡ shape_of G (Some (Placed (matrix_of (numbers_of r')) (matrix_of (inv r')) m'.first))
   unfolding shape_of used_numbers
   placed-as k = let e : take 16 r ≡ take 16 r' = rw k at A.numbers in rw (all-agree r r' e, A.part k)
 
-  cut_as : m.kind ≡ 7 → (t : Bool) (o : Op) → shape_of F (cond t (Cut o m.first m.second) None) ≡ shape_of G (cond t (Cut o m'.first m'.second) None)
+  cut_as : m.kind ≡ 7 → (t : Bool) (o : Op) → shape_of F (cond t (Some (Cut o m.first m.second)) None) ≡ shape_of G (cond t (Some (Cut o m'.first m'.second)) None)
   unfolding shape_of
   cut_as k true o = rw ((A.parts k).0, (A.parts k).1)
   cut_as k false o = refl
 
-  composite-as : (t6 t7 : Bool) → eqb m.kind 6 ≡ t6 → eqb m.kind 7 ≡ t7 → shape_of F (cond t6 (Placed (matrix_of (numbers_of r)) (matrix_of (inv r)) m.first) (cond t7 (cut_of m) None)) ≡ shape_of G (cond t6 (Placed (matrix_of (numbers_of r')) (matrix_of (inv r')) m'.first) (cond t7 (cut_of m') None))
+  composite-as : (t6 t7 : Bool) → eqb m.kind 6 ≡ t6 → eqb m.kind 7 ≡ t7 → shape_of F (cond t6 (Some (Placed (matrix_of (numbers_of r)) (matrix_of (inv r)) m.first)) (cond t7 (cut_of m) None)) ≡ shape_of G (cond t6 (Some (Placed (matrix_of (numbers_of r')) (matrix_of (inv r')) m'.first)) (cond t7 (cut_of m') None))
   unfolding cut_of uses_detail shape_of
   composite-as true t7 e6 e7 = placed-as (eqb-true m.kind 6 e6)
   composite-as false true e6 e7 =
@@ -135,10 +135,10 @@ module _ (F G : ℕ → Shape) (m m' : Marks) (r r' : List Float) (A : Alike (λ
       rw (← ap (λ (k : ℕ). eqb k 6) A.kind, ← ap (λ (k : ℕ). eqb k 7) A.kind)
       (composite-as (eqb m.kind 6) (eqb m.kind 7) refl refl)
 
-  or_as : (s : Simple) (e e' : Entry) → shape_of F e ≡ shape_of G e' → shape_of F (simple_or s e) ≡ shape_of G (simple_or s e')
+  or_as : (s : Option Solid) (e e' : Option Entry) → shape_of F e ≡ shape_of G e' → shape_of F (simple_or s e) ≡ shape_of G (simple_or s e')
   unfolding shape_of simple_or
-  or_as (Is s) e e' h = refl
-  or_as Other e e' h = h
+  or_as (Some s) e e' h = refl
+  or_as None e e' h = h
 
   simples : simple_of m.kind (numbers_of r) ≡ simple_of m'.kind (numbers_of r')
   simples =
@@ -149,7 +149,7 @@ module _ (F G : ℕ → Shape) (m m' : Marks) (r r' : List Float) (A : Alike (λ
   unfolding entry_of
   entry-as =
       or_as (simple_of m.kind (numbers_of r)) (composite_of m (numbers_of r) (inv r)) (composite_of m' (numbers_of r') (inv r')) composites
-      ∙ ap (λ (s : Simple). shape_of G (simple_or s (composite_of m' (numbers_of r') (inv r')))) simples
+      ∙ ap (λ (s : Option Solid). shape_of G (simple_or s (composite_of m' (numbers_of r') (inv r')))) simples
 
 -- ---- the theorem, by the depth
 module _ (ns : List Float) (ms : List ℕ) (ns' : List Float) (ms' : List ℕ) (fit : entries ms * 16 ≤ length ns) (fit' : entries ms' * 16 ≤ length ns') where

@@ -11,10 +11,8 @@ use borrow.Author.Tests.{leb-true, eqb-true, eqb-false, ne_eqb, lt-ltb}
 use Rattle.rows.specs.declared.Marks.{Marks}
 use Rattle.rows.specs.declared.Numbers.{Numbers}
 use Rattle.scene.specs.Entries.{closed_of, simple_of, simple_or, cut_of, composite_of, entry_of, matrix_of, marks_at, numbers_at, own_entry}
-use Rattle.scene.specs.declared.entry.Simple.{Simple}
-use Rattle.scene.specs.declared.entry.Simple.TheVariants.{Is, Other}
 use Rattle.scene.specs.declared.entry.Entry.{Entry}
-use Rattle.scene.specs.declared.entry.Entry.TheVariants.{Simple as SimpleEntry, Placed, Cut, None}
+use Rattle.scene.specs.declared.entry.Entry.TheVariants.{Simple as SimpleEntry, Placed, Cut}
 use Rattle.scene_shape.specs.Shapes.{Shape, shape_of, solid_of}
 use Rattle.check_parts.specs.Parts.{parts_ok}
 use Rattle.scene.specs.Scenes.{entries}
@@ -24,29 +22,31 @@ use Rattle.check_measures.specs.Values.{is_kind, known}
 use Rattle.lists.proofs.Tests.{all-at}
 use Rattle.check_scene.proofs.Reading.{Each, each_map, own-parts, solid-opens}
 use Rattle.theorem_solids.specs.Whole.{without_none, ReadWhole}
+use Rattle.std.specs.Prelude.{None, Option, Some}
+use Rattle.solids.specs.declared.solid.Solid.{Solid}
 
 -- ---- an entry with known marks stands for something
-abbrev some : Entry → Bool
-some (SimpleEntry s) = true
-some (Placed m v k) = true
-some (Cut o a b) = true
+abbrev some : Option Entry → Bool
+some (Some (SimpleEntry s)) = true
+some (Some (Placed m v k)) = true
+some (Some (Cut o a b)) = true
 some None = false
 
-abbrev is_other : Simple → Bool
-is_other (Is s) = false
-is_other Other = true
+abbrev is_other : Option Solid → Bool
+is_other (Some s) = false
+is_other None = true
 
-some_or : (s : Simple) (e : Entry) → (s ≡ Other → some e ≡ true) → some (simple_or s e) ≡ true
+some_or : (s : Option Solid) (e : Option Entry) → (s ≡ None → some e ≡ true) → some (simple_or s e) ≡ true
 unfolding simple_or
-some_or (Is s) e h = refl
-some_or Other e h = h refl
+some_or (Some s) e h = refl
+some_or None e h = h refl
 
 -- the marks of a cut, and of what is neither a placing nor a cut nor simple
 known-cut : (m : Marks) → m.kind ≡ 7 → known m ≡ leb m.detail 3
 unfolding known
 known-cut m e = rw e
 
-module _ (m : Marks) (n : Numbers) (o : simple_of m.kind n ≡ Other) where
+module _ (m : Marks) (n : Numbers) (o : simple_of m.kind n ≡ None) where
   not-one : m.kind ≡ 1 → ⊥
   unfolding simple_of
   not-one e = never (ap is_other (sym (ap (λ (k : ℕ). simple_of k n) e) ∙ o))
@@ -95,7 +95,7 @@ module _ (m : Marks) (n v : Numbers) (h : known m ≡ true) where
   unfolding cut_of
   some-cut e = rw (sym (known-cut m e) ∙ h)
 
-  some-composite : simple_of m.kind n ≡ Other → (t6 t7 : Bool) → eqb m.kind 6 ≡ t6 → eqb m.kind 7 ≡ t7 → some (cond t6 (Placed (matrix_of n) (matrix_of v) m.first) (cond t7 (cut_of m) None)) ≡ true
+  some-composite : simple_of m.kind n ≡ None → (t6 t7 : Bool) → eqb m.kind 6 ≡ t6 → eqb m.kind 7 ≡ t7 → some (cond t6 (Some (Placed (matrix_of n) (matrix_of v) m.first)) (cond t7 (cut_of m) None)) ≡ true
   some-composite o true t7 e6 e7 = refl
   some-composite o false true e6 e7 = some-cut (eqb-true m.kind 7 e7)
   some-composite o false false e6 e7 = absurd (not_known m n o e6 e7 h)
@@ -105,11 +105,11 @@ module _ (m : Marks) (n v : Numbers) (h : known m ≡ true) where
   some-entry = some_or (simple_of m.kind n) (composite_of m n v) (λ o. some-composite o (eqb m.kind 6) (eqb m.kind 7) refl refl)
 
 -- ---- the theorem
-whole_of : (F : ℕ → Shape) (e : Entry) → some e ≡ true → Each (λ k. without_none (F k) ≡ true) e → without_none (shape_of F e) ≡ true
+whole_of : (F : ℕ → Shape) (e : Option Entry) → some e ≡ true → Each (λ k. without_none (F k) ≡ true) e → without_none (shape_of F e) ≡ true
 unfolding without_none shape_of
-whole_of F (SimpleEntry s) h p = refl
-whole_of F (Placed m v k) h p = p
-whole_of F (Cut o a b) h p = rw (p.0, p.1)
+whole_of F (Some (SimpleEntry s)) h p = refl
+whole_of F (Some (Placed m v k)) h p = p
+whole_of F (Some (Cut o a b)) h p = rw (p.0, p.1)
 whole_of F None h p = h
 
 module _ (ns : List Float) (ms : List ℕ) (fit : entries ms * 16 ≤ length ns) (values : all_of (λ i. known (marks_at ms i)) (entries ms) ≡ true) (names : parts_ok ms (entries ms) ≡ true) where

@@ -26,10 +26,9 @@ use Rattle.tree_nodes.proofs.Nodes.{node_at_lem}
 use Rattle.tree_sort.specs.Sort.{inserted, sorted}
 use Rattle.tree_split.specs.Build.{box_at, Fits, middle_box, hull_of, axis_of, by_middle, plan_axis, plan_of, arranged, tree_of, tree_for, nodes_for, order_for}
 use Rattle.tree_split.proofs.Growth.{length-arranged, parts, tree-leaf, tree-split}
-use Rattle.tree_build.specs.declared.Outcome.{Outcome}
-use Rattle.tree_build.specs.declared.Outcome.TheVariants.{Upto, Full}
 use Rattle.tree_build.specs.Slices.{room_for, Stored}
 use Rattle.tree_build.proofs.Whole.{nodes-some, order-some, count-some}
+use Rattle.std.specs.Prelude.{None, Option, Some}
 
 -- ---- sorting keeps the members
 module _ (less : ℕ → ℕ → Bool) (s : ℕ) where
@@ -158,19 +157,19 @@ fits-fine xs (x ∷ ids) h s (inl e) = subst (λ (j : ℕ). Sound (box_at xs j))
 fits-fine xs (x ∷ ids) h s (inr i) = fits-fine xs ids h.1 s i
 
 -- ---- the slices that the build leaves, where it answers a number of nodes
-answer-room : (b : Bool) (f n : ℕ) → Upto f ≡ cond b (Upto n) Full → b ≡ true
+answer-room : (b : Bool) (f n : ℕ) → Some f ≡ cond b (Some n) None → b ≡ true
 answer-room true f n e = refl
 answer-room false f n e = absurd (let z : ◌≡◌ {A = ℕ} 0 1 = cc in omega arith)
 
-answer-is : (b : Bool) (f n : ℕ) → Upto f ≡ cond b (Upto n) Full → f ≡ n
+answer-is : (b : Bool) (f n : ℕ) → Some f ≡ cond b (Some n) None → f ≡ n
 answer-is true f n e = ap upto e
   where
-    upto : Outcome → ℕ
-    upto (Upto k) = k
-    upto Full = 0
+    upto : Option ℕ → ℕ
+    upto (Some k) = k
+    upto None = 0
 answer-is false f n e = absurd (let z : ◌≡◌ {A = ℕ} 0 1 = cc in omega arith)
 
-module _ (box : ℕ → BBox) (ids : List ℕ) (places B M O f : ℕ) (nodeBoxes : List Float) (marks order : List ℕ) (P : Stored box ids places B M O (Upto f) nodeBoxes marks order) where
+module _ (box : ℕ → BBox) (ids : List ℕ) (places B M O f : ℕ) (nodeBoxes : List Float) (marks order : List ℕ) (P : Stored box ids places B M O (Some f) nodeBoxes marks order) where
   room : room_for box ids places ≡ true
   room = answer-room (room_for box ids places) f (length (nodes_for box ids)) P.answer
 

@@ -16,10 +16,9 @@ use Rattle.tree_sort.proofs.Sorting.{second-half, both_halves}
 use Rattle.tree_split.specs.declared.Plan.{Plan}
 use Rattle.tree_split.specs.Build.{plan_of, arranged, tree_of, tree_for}
 use Rattle.tree_split.proofs.Growth.{length-arranged, each-arranged, plan-inside, tree-leaf, tree-split, tree-fuel, under-small}
-use Rattle.tree_build.specs.declared.Outcome.{Outcome}
-use Rattle.tree_build.specs.declared.Outcome.TheVariants.{Upto, Full}
 use Rattle.tree_build.specs.Slices.{Laid, BuiltAs}
 use Rattle.tree_build.proofs.Laying.{laid_leaf, laid-split}
+use Rattle.std.specs.Prelude.{None, Option, Some}
 
 -- the solids ids have the plan p, and stand in the order o
 pub record Planned (box : ℕ → BBox) (ids o : List ℕ) (p : Plan) : Type 0 where
@@ -45,7 +44,7 @@ module _ (box : ℕ → BBox) (ids o : List ℕ) (p : Plan) (D : Planned box ids
       ap (λ (n : ℕ). tree_of n box ids) fuel ∙ tree-leaf box (length ids - 1) ids (eq-eqb (plan_of box ids).at 0 (sym at-is ∙ z)) ∙ rw (D.order, D.plan)
 
   pub built-leaf : (N N₁ : ℕ → Node) (places node free start : ℕ) → p.at ≡ 0 → node < free → free ≤ places → N₁ node ≡ record { bx = p.bx; first = start; count = length o; axis = p.axis }
-      → ((k : ℕ) → k ≢ node → N₁ k ≡ N k) → BuiltAs (Upto free) N N₁ places node free start o (tree_for box ids)
+      → ((k : ℕ) → k ≢ node → N₁ k ≡ N k) → BuiltAs (Some free) N N₁ places node free start o (tree_for box ids)
   unfolding below_root leaves
   built-leaf N N₁ places node free start z h c e same =
       rw (tree-is-leaf z) (omega arith, laid_leaf N N₁ places node free start p.bx p.axis o h c e (λ k d l. same k d), refl)
@@ -102,7 +101,7 @@ module _ (box : ℕ → BBox) (ids o : List ℕ) (p : Plan) (D : Planned box ids
 
     module _ (places node free start : ℕ) (N N₁ N₂ N₃ : ℕ → Node) (h : node < free)
         (e : N₁ node ≡ record { bx = p.bx; first = free; count = 0; axis = p.axis }) (same : (k : ℕ) → k ≢ node → N₁ k ≡ N k)
-        (f : ℕ) (o₂ o₃ : List ℕ) (left : BuiltAs (Upto f) N₁ N₂ places free (free + 2) start o₂ tl) (k₂ : length o₂ ≡ length L) where
+        (f : ℕ) (o₂ o₃ : List ℕ) (left : BuiltAs (Some f) N₁ N₂ places free (free + 2) start o₂ tl) (k₂ : length o₂ ≡ length L) where
       start_is : start + p.at ≡ start + length (leaves tl)
       start_is = omega (arith, length-L, k₂, ap length left.2)
 
@@ -110,9 +109,9 @@ module _ (box : ℕ → BBox) (ids o : List ℕ) (p : Plan) (D : Planned box ids
       abbrev o₄ : List ℕ
       o₄ = put_mid p.at (length (o₂ ++ R) - p.at) (o₂ ++ R) o₃
 
-      both : (r : Outcome) → BuiltAs r N₂ N₃ places (free + 1) f (start + p.at) o₃ tr → BuiltAs r N N₃ places node free start o₄ (tree_for box ids)
-      both Full b = omega (arith, under-is, left.0, b)
-      both (Upto g) b =
+      both : (r : Option ℕ) → BuiltAs r N₂ N₃ places (free + 1) f (start + p.at) o₃ tr → BuiltAs r N N₃ places node free start o₄ (tree_for box ids)
+      both None b = omega (arith, under-is, left.0, b)
+      both (Some g) b =
           let B : Laid N₂ N₃ places (free + 1) (free + 2 + below_root tl) (start + length (leaves tl)) tr = rw (left.0, start_is) at b.1 in (
             omega (arith, b.0, left.0, under-is),
             rw tree-is-split (laid-split N N₁ N₂ N₃ places node free start p.bx p.axis tl tr h e (λ k d l. same k d) left.1 B),
@@ -120,7 +119,7 @@ module _ (box : ℕ → BBox) (ids o : List ℕ) (p : Plan) (D : Planned box ids
           )
 
       -- the second part as it is lent is R
-      pub built-both : (r : Outcome) → BuiltAs r N₂ N₃ places (free + 1) f (start + p.at) o₃ (tree_for box (take (length (o₂ ++ R) - p.at) (drop p.at (o₂ ++ R))))
+      pub built-both : (r : Option ℕ) → BuiltAs r N₂ N₃ places (free + 1) f (start + p.at) o₃ (tree_for box (take (length (o₂ ++ R) - p.at) (drop p.at (o₂ ++ R))))
           → BuiltAs r N N₃ places node free start o₄ (tree_for box ids)
       built-both r b = both r (subst (λ (l : List ℕ). BuiltAs r N₂ N₃ places (free + 1) f (start + p.at) o₃ (tree_for box l)) (second-half o o₂ o₃ p.at half k₂) b)
 

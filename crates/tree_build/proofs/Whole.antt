@@ -26,9 +26,8 @@ use Rattle.tree_nodes.specs.declared.Node.{Node}
 use Rattle.tree_nodes.proofs.Nodes.{length-below, length-layout, places-fit}
 use Rattle.lists.specs.Lists.{Each}
 use Rattle.tree_split.specs.Build.{tree_for, nodes_for, order_for}
-use Rattle.tree_build.specs.declared.Outcome.{Outcome}
-use Rattle.tree_build.specs.declared.Outcome.TheVariants.{Upto, Full}
 use Rattle.tree_build.specs.Slices.{Laid, BuiltAs, LaidOut, room_for, Stored}
+use Rattle.std.specs.Prelude.{None, Option, Some}
 
 -- ---- parts of zeros
 module _ {A : Type 0} (z : A) where
@@ -108,10 +107,10 @@ module _ (places : ℕ) (nodeBoxes₀ nodeBoxes : List Float) (marks₀ marks : 
         (km ∙ length-take-le (places * 3) marks₀ hm) (few marks_of_node) hm (ap (drop (places * 3)) zm ∙ drop-replicate 0 (places * 3) (length marks₀)) (λ i h. omega arith)
         (λ i h. ap marks_of_node (each i h) ∙ sym (get_or-map marks_of_node (layout t) i zero_node))
 
-  pub laid_out : (r : Outcome) → BuiltAs r N (node_at nodeBoxes marks) places 0 1 0 order t
+  pub laid_out : (r : Option ℕ) → BuiltAs r N (node_at nodeBoxes marks) places 0 1 0 order t
       → LaidOut r (nodeBoxes ++ drop (places * 6) nodeBoxes₀) (marks ++ drop (places * 3) marks₀) order places (length nodeBoxes₀) (length marks₀) t
-  laid_out Full b = b
-  laid_out (Upto f) b =
+  laid_out None b = b
+  laid_out (Some f) b =
       let each = layout-at b.1 in
       (b.0, omega (arith, b.0, b.1.fits), whole-boxes b.1.fits each, whole-marks b.1.fits each, b.2)
 
@@ -140,24 +139,24 @@ module _ (box : ℕ → BBox) where
   count-some ids h = ap length (nodes-some ids h) ∙ length-layout (tree_for box ids)
 
   module _ (ids : List ℕ) (places B M O : ℕ) (nodeBoxes : List Float) (marks order : List ℕ) where
-    pub stored-none : ids ≡ [] → nodeBoxes ≡ replicate B zero_f → marks ≡ replicate M 0 → order ≡ replicate O 0 → Stored box ids places B M O (Upto 0) nodeBoxes marks order
+    pub stored-none : ids ≡ [] → nodeBoxes ≡ replicate B zero_f → marks ≡ replicate M 0 → order ≡ replicate O 0 → Stored box ids places B M O (Some 0) nodeBoxes marks order
     unfolding nodes_for order_for flat
     stored-none e b m o =
         let l : leb 0 places ≡ true = le-leb 0 places (omega arith) in
         rw e (record { answer = rw l; rows = rw l (padded-none zero_f B nodeBoxes b); triples = rw l (padded-none 0 M marks m); solids = rw l (padded-none 0 O order o) })
 
     module _ (h : 0 < length ids) where
-      stored-full : places < 1 + below_root (tree_for box ids) → nodeBoxes ≡ replicate B zero_f → marks ≡ replicate M 0 → order ≡ replicate O 0 → Stored box ids places B M O Full nodeBoxes marks order
+      stored-full : places < 1 + below_root (tree_for box ids) → nodeBoxes ≡ replicate B zero_f → marks ≡ replicate M 0 → order ≡ replicate O 0 → Stored box ids places B M O None nodeBoxes marks order
       unfolding flat
       stored-full f b m o =
           let l : room_for box ids places ≡ false = lt-leb (length (nodes_for box ids)) places (omega (arith, count-some ids h)) in
           record { answer = rw l; rows = rw l (padded-none zero_f B nodeBoxes b); triples = rw l (padded-none 0 M marks m); solids = rw l (padded-none 0 O order o) }
 
       stored-done : (f : ℕ) → f ≡ 1 + below_root (tree_for box ids) → f ≤ places → nodeBoxes ≡ padded zero_f B (box_rows (layout (tree_for box ids))) → marks ≡ padded 0 M (mark_rows (layout (tree_for box ids)))
-          → order ≡ padded 0 O (leaves (tree_for box ids)) → Stored box ids places B M O (Upto f) nodeBoxes marks order
+          → order ≡ padded 0 O (leaves (tree_for box ids)) → Stored box ids places B M O (Some f) nodeBoxes marks order
       stored-done f e g b m o =
           let l : room_for box ids places ≡ true = le-leb (length (nodes_for box ids)) places (omega (arith, count-some ids h)) in
-          record { answer = rw l (ap Upto (e ∙ sym (count-some ids h))); rows = rw (l, nodes-some ids h) b; triples = rw (l, nodes-some ids h) m; solids = rw (l, order-some ids h) o }
+          record { answer = rw l (ap Some (e ∙ sym (count-some ids h))); rows = rw (l, nodes-some ids h) b; triples = rw (l, nodes-some ids h) m; solids = rw (l, order-some ids h) o }
 
   -- ---- around the call that lays the tree out
   module _ (nodeBoxes₀ nodeBoxes₁ : List Float) (marks₀ marks₁ order₀ order₁ : List ℕ) (n places : ℕ) (C : Cleared nodeBoxes₀ nodeBoxes₁ marks₀ marks₁ order₀ order₁ n places) where
@@ -189,13 +188,13 @@ module _ (box : ℕ → BBox) where
           C.node-marks ∙ ap (λ (j : ℕ). replicate j 0) (sym length-marks),
         )
 
-    pub done : (f : ℕ) (nodeBoxes₂ : List Float) (marks₂ o₂ : List ℕ) → LaidOut (Upto f) nodeBoxes₂ marks₂ o₂ places (length nodeBoxes₁) (length marks₁) (tree_for box (take n order₁)) → length o₂ ≡ length (take n order₁)
-        → Stored box (take n order₀) (places_of nodeBoxes₀ marks₀) (length nodeBoxes₀) (length marks₀) (length order₀) (Upto f) nodeBoxes₂ marks₂ (o₂ ++ drop n order₁)
+    pub done : (f : ℕ) (nodeBoxes₂ : List Float) (marks₂ o₂ : List ℕ) → LaidOut (Some f) nodeBoxes₂ marks₂ o₂ places (length nodeBoxes₁) (length marks₁) (tree_for box (take n order₁)) → length o₂ ≡ length (take n order₁)
+        → Stored box (take n order₀) (places_of nodeBoxes₀ marks₀) (length nodeBoxes₀) (length marks₀) (length order₀) (Some f) nodeBoxes₂ marks₂ (o₂ ++ drop n order₁)
     unfolding padded
     done f nodeBoxes₂ marks₂ o₂ G k =
         let fl = front_length in
         let T : Tree ℕ = tree_for box (take n order₀) in
-        let G' : LaidOut (Upto f) nodeBoxes₂ marks₂ o₂ places (length nodeBoxes₁) (length marks₁) T = rw front at G in
+        let G' : LaidOut (Some f) nodeBoxes₂ marks₂ o₂ places (length nodeBoxes₁) (length marks₁) T = rw front at G in
         let ll : length (leaves T) ≡ n = sym (ap length G'.4) ∙ k ∙ ap length front ∙ fl in
         let d : drop n order₁ ≡ replicate (length order₀ - n) 0 = rw C.order (drop_at (take n order₀) (replicate (length order₀ - n) 0) n fl) in
         stored-done (take n order₀) (places_of nodeBoxes₀ marks₀) (length nodeBoxes₀) (length marks₀) (length order₀) nodeBoxes₂ marks₂ (o₂ ++ drop n order₁) (omega (arith, fl, C.some)) f G'.0 (omega (arith, G'.1, C.count))
@@ -203,7 +202,7 @@ module _ (box : ℕ → BBox) where
         (rw (d, G'.4, ll))
 
     pub full : (nodeBoxes : List Float) (marks order : List ℕ) → places < 1 + below_root (tree_for box (take n order₁)) → nodeBoxes ≡ replicate (length nodeBoxes₀) zero_f → marks ≡ replicate (length marks₀) 0 → order ≡ replicate (length order₀) 0
-        → Stored box (take n order₀) (places_of nodeBoxes₀ marks₀) (length nodeBoxes₀) (length marks₀) (length order₀) Full nodeBoxes marks order
+        → Stored box (take n order₀) (places_of nodeBoxes₀ marks₀) (length nodeBoxes₀) (length marks₀) (length order₀) None nodeBoxes marks order
     full nodeBoxes marks order g b m o =
         let fl = front_length in
         let g' : places < 1 + below_root (tree_for box (take n order₀)) = rw front at g in

@@ -1,5 +1,5 @@
 -- What the build asks of its slices, and what it leaves in them.
-use Rattle.std.specs.Prelude.{◌≡◌, Bool, cond, List, [], ◌≢◌, ℕ, ◌+◌, ◌*◌, ◌≤◌, ◌<◌, length, get_or, leb, Float}
+use Rattle.std.specs.Prelude.{◌≡◌, Bool, cond, List, [], ◌≢◌, ℕ, ◌+◌, ◌*◌, ◌≤◌, ◌<◌, length, get_or, leb, Float, None, Option, Some}
 use Rattle.floats.specs.Arith.{zero_f}
 use Rattle.geometry.specs.declared.bounding_box.BBox.{BBox}
 use Rattle.rows.specs.Rows.{padded}
@@ -7,8 +7,6 @@ use Rattle.tree_nodes.specs.Trees.{Tree, leaves, below_root, root_of, below_of, 
 use Rattle.tree_nodes.specs.Nodes.{box_rows, mark_rows}
 use Rattle.tree_nodes.specs.declared.Node.{Node}
 use Rattle.tree_split.specs.Build.{middle, on_axis, nodes_for, order_for}
-use Rattle.tree_build.specs.declared.Outcome.{Outcome}
-use Rattle.tree_build.specs.declared.Outcome.TheVariants.{Upto, Full}
 
 -- the keys by which solids are sorted, each at its solid's number: written for the first n
 pub record Keyed (box : ℕ → BBox) (axis : ℕ) (ids : List ℕ) (keys : List Float) (n : ℕ) : Type 0 where
@@ -34,15 +32,15 @@ pub record Laid {S : Type 0} (N N' : ℕ → Node) (places node free start : ℕ
   pub after : (k : ℕ) → free + below_root t ≤ k → k < places → N' k ≡ N k
 
 -- the next free place, or that there are too few
-abbrev pub BuiltAs : Outcome → (ℕ → Node) → (ℕ → Node) → ℕ → ℕ → ℕ → ℕ → List ℕ → Tree ℕ → Type 0
-BuiltAs (Upto f) N N' places node free start order t = (f ≡ free + below_root t) × Laid N N' places node free start t × (order ≡ leaves t)
-BuiltAs Full N N' places node free start order t = places < free + below_root t
+abbrev pub BuiltAs : Option ℕ → (ℕ → Node) → (ℕ → Node) → ℕ → ℕ → ℕ → ℕ → List ℕ → Tree ℕ → Type 0
+BuiltAs (Some f) N N' places node free start order t = (f ≡ free + below_root t) × Laid N N' places node free start t × (order ≡ leaves t)
+BuiltAs None N N' places node free start order t = places < free + below_root t
 
 -- the whole tree in slices of B numbers and M marks that were zero
-abbrev pub LaidOut : Outcome → List Float → List ℕ → List ℕ → ℕ → ℕ → ℕ → Tree ℕ → Type 0
-LaidOut (Upto f) boxes marks order places B M t =
+abbrev pub LaidOut : Option ℕ → List Float → List ℕ → List ℕ → ℕ → ℕ → ℕ → Tree ℕ → Type 0
+LaidOut (Some f) boxes marks order places B M t =
     (f ≡ 1 + below_root t) × (f ≤ places) × (boxes ≡ padded zero_f B (box_rows (layout t))) × (marks ≡ padded 0 M (mark_rows (layout t))) × (order ≡ leaves t)
-LaidOut Full boxes marks order places B M t = places < 1 + below_root t
+LaidOut None boxes marks order places B M t = places < 1 + below_root t
 
 -- ---- the whole build
 -- there is a place for each node
@@ -51,8 +49,8 @@ room_for box ids places = leb (length (nodes_for box ids)) places
 
 -- What the build answers, and what its slices of B numbers, M marks and O solids then hold: the nodes and the solids, then zeros; or zeros
 -- throughout where there is no room.
-pub record Stored (box : ℕ → BBox) (ids : List ℕ) (places B M O : ℕ) (r : Outcome) (boxes : List Float) (marks order : List ℕ) : Type 0 where
-  pub answer : r ≡ cond (room_for box ids places) (Upto (length (nodes_for box ids))) Full
+pub record Stored (box : ℕ → BBox) (ids : List ℕ) (places B M O : ℕ) (r : Option ℕ) (boxes : List Float) (marks order : List ℕ) : Type 0 where
+  pub answer : r ≡ cond (room_for box ids places) (Some (length (nodes_for box ids))) None
   pub rows : boxes ≡ padded zero_f B (box_rows (cond (room_for box ids places) (nodes_for box ids) []))
   pub triples : marks ≡ padded 0 M (mark_rows (cond (room_for box ids places) (nodes_for box ids) []))
   pub solids : order ≡ padded 0 O (cond (room_for box ids places) (order_for box ids) [])

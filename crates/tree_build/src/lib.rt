@@ -15,24 +15,15 @@ use geometry::bounding_box::BBox;
 use tree_nodes::Node;
 use tree_split::Plan;
 
-// The number of nodes, or that a slice is full.
-#[derive(Clone, Copy)]
-pub enum Outcome {
-    Upto(usize),
-    Full,
-}
-
 // The key of each solid of the order: its middle on the axis.
 fn fill_keys(boxes: &[f64], order: &[u32], axis: u32, keys: &mut [f64])
     requires { Each (Fits boxes.now) order.now × (1024 ≤ length keys.old) }
     ensures { Keyed (box_at boxes.now) axis order.now keys.new (length order.now) }
 {
-    let mut i = 0;
-    while i < order.len() {
+    for i in 0..order.len() {
         let s = order[i] as usize;
         let c = tree_split::centroid(rows::read_box(boxes, s));
         keys[s] = tree_split::on_axis(axis, c);
-        i += 1;
     }
 }
 
@@ -91,7 +82,7 @@ fn build(
     node_marks: &mut [u32],
     work: &mut [f64],
     spare: &mut [u32],
-) -> Outcome
+) -> Option<usize>
     requires { Each (Fits boxes.now) order.old × NodeRoom node_boxes.old node_marks.old places node free start (length order.old) × (1024 ≤ length work.old) × (1024 ≤ length spare.old) }
     ensures { BuiltAs result (node_at node_boxes.old node_marks.old) (node_at node_boxes.new node_marks.new) places node free start
         order.new (tree_for (box_at boxes.now) order.old) }
@@ -109,10 +100,10 @@ fn build(
             axis,
         };
         tree_nodes::write_node(node_boxes, node_marks, node, leaf);
-        return Outcome::Upto(free);
+        return Some(free);
     }
     if places < free + 2 {
-        return Outcome::Full;
+        return None;
     }
     let split = Node {
         bx,
@@ -121,7 +112,7 @@ fn build(
         axis,
     };
     tree_nodes::write_node(node_boxes, node_marks, node, split);
-    let l = build(
+    let f = build(
         boxes,
         &mut order[..at],
         start,
@@ -132,22 +123,19 @@ fn build(
         node_marks,
         work,
         spare,
-    );
-    match l {
-        Outcome::Full => Outcome::Full,
-        Outcome::Upto(f) => build(
-            boxes,
-            &mut order[at..],
-            start + at,
-            free + 1,
-            f,
-            places,
-            node_boxes,
-            node_marks,
-            work,
-            spare,
-        ),
-    }
+    )?;
+    build(
+        boxes,
+        &mut order[at..],
+        start + at,
+        free + 1,
+        f,
+        places,
+        node_boxes,
+        node_marks,
+        work,
+        spare,
+    )
 }
 
 // The whole tree of the order, in slices that are zero. What lies beyond the places is not lent on.
@@ -158,7 +146,7 @@ fn lay_out(
     places: usize,
     node_boxes: &mut [f64],
     node_marks: &mut [u32],
-) -> Outcome
+) -> Option<usize>
     requires { Each (Fits boxes.now) order.old × (0 < length order.old) × (length order.old ≤ 1024) × (0 < places)
         × (places * 6 ≤ length node_boxes.old) × (places * 3 ≤ length node_marks.old)
         × (node_boxes.old ≡ replicate (length node_boxes.old) zero_f) × (node_marks.old ≡ replicate (length node_marks.old) 0) }
@@ -191,7 +179,7 @@ pub fn build_tree(
     n: usize,
     node_boxes: &mut [f64],
     node_marks: &mut [u32],
-) -> Outcome
+) -> Option<usize>
     requires { (n ≤ length order.old) × (n ≤ 1024) × Each (Fits boxes.now) (take n order.old) }
     ensures { Stored (box_at boxes.now) (take n order.old) (places_of node_boxes.old node_marks.old)
         (length node_boxes.old) (length node_marks.old) (length order.old) result node_boxes.new node_marks.new order.new }
@@ -201,20 +189,20 @@ pub fn build_tree(
     rows::clear_marks(node_marks, 0);
     rows::clear_marks(order, n);
     if n == 0 {
-        return Outcome::Upto(0);
+        return Some(0);
     }
     if places == 0 {
         rows::clear_marks(order, 0);
-        return Outcome::Full;
+        return None;
     }
     let r = lay_out(boxes, &mut order[..n], places, node_boxes, node_marks);
     match r {
-        Outcome::Upto(f) => Outcome::Upto(f),
-        Outcome::Full => {
+        Some(f) => Some(f),
+        None => {
             rows::clear(node_boxes, 0);
             rows::clear_marks(node_marks, 0);
             rows::clear_marks(order, 0);
-            Outcome::Full
+            None
         }
     }
 }

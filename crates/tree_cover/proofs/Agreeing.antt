@@ -14,26 +14,23 @@ use Rattle.tree_nodes.specs.Nodes.{node_at, places_of, is_leaf}
 use Rattle.tree_nodes.specs.declared.Node.{Node}
 use Rattle.refusals.specs.declared.Refusal.{Refusal}
 use Rattle.refusals.specs.declared.Refusal.TheVariants.{Waiting}
-use Rattle.scene_shape.specs.declared.Struck.{Struck}
-use Rattle.scene_shape.specs.declared.Struck.TheVariants.{At, Refused as NotStruck}
 use Rattle.tree_walk.specs.Walks.{nothing, nearer, tried, onward, scan, leaf_entries, walk_on, walk_rows}
 use Rattle.tree_walk.specs.declared.Nearest.{Nearest}
-use Rattle.tree_walk.specs.declared.Found.{Found}
-use Rattle.tree_walk.specs.declared.Found.TheVariants.{Best, Refused as NotFound}
 use Rattle.tree_cover.specs.Seeking.{sought_on, scan_to, go_on, seek_on, seek_rows}
 use Rattle.tree_cover.specs.Agreeing.{or_short, or_covered, EndsAtTheFirst, Agrees, SeekAgrees}
 use Rattle.tree_cover.specs.declared.Sought.{Sought}
-use Rattle.tree_cover.specs.declared.Sought.TheVariants.{Open, Covered, Refused}
+use Rattle.tree_cover.specs.declared.Sought.TheVariants.{Open, Covered}
+use Rattle.std.specs.Prelude.{Err, Ok, Result}
 
 -- ---- which solid is the first
-module _ (k : Refusal) (far : Float) (hit : ℕ → Struck) where
-  or-on : (i : ℕ) (a : Struck) (b : Nearest) (g : Nearest → Sought) (f : Nearest → Found) → ((c : Nearest) → or_covered k (g c) ≡ f c)
+module _ (k : Refusal) (far : Float) (hit : ℕ → Result Hit Refusal) where
+  or-on : (i : ℕ) (a : Result Hit Refusal) (b : Nearest) (g : Nearest → Result Sought Refusal) (f : Nearest → Result Nearest Refusal) → ((c : Nearest) → or_covered k (g c) ≡ f c)
       → or_covered k (sought_on far i a b g) ≡ onward (tried i (or_short k far a) b) f
   unfolding sought_on tried or_short or_covered
-  or-on i (NotStruck n) b g f e = refl
-  or-on i (At h) b g f e = go (lt h.t far)
+  or-on i (Err n) b g f e = refl
+  or-on i (Ok h) b g f e = go (lt h.t far)
     where
-      go : (t : Bool) → or_covered k (cond t Covered (g (nearer i h b))) ≡ onward (tried i (cond t (NotStruck k) (At h)) b) f
+      go : (t : Bool) → or_covered k (cond t (Ok Covered) (g (nearer i h b))) ≡ onward (tried i (cond t (Err k) (Ok h)) b) f
       go true = refl
       go false = e (nearer i h b)
 
@@ -42,15 +39,15 @@ module _ (k : Refusal) (far : Float) (hit : ℕ → Struck) where
   or-scan [] b = refl
   or-scan (i ∷ is) b = or-on i (hit i) b (scan_to far hit is) (scan (λ (i : ℕ). or_short k far (hit i)) is) (λ (c : Nearest). or-scan is c)
 
-  or-go : (s : Sought) (f : Found) (g : Nearest → Sought) (h : Nearest → Found) → or_covered k s ≡ f → ((c : Nearest) → or_covered k (g c) ≡ h c) → or_covered k (go_on s g) ≡ onward f h
+  or-go : (s : Result Sought Refusal) (f : Result Nearest Refusal) (g : Nearest → Result Sought Refusal) (h : Nearest → Result Nearest Refusal) → or_covered k s ≡ f → ((c : Nearest) → or_covered k (g c) ≡ h c) → or_covered k (go_on s g) ≡ onward f h
   unfolding or_covered
-  or-go (Open b) f g h e u = u b ∙ ap (λ (x : Found). onward x h) e
-  or-go Covered f g h e u = ap (λ (x : Found). onward x h) e
-  or-go (Refused n) f g h e u = ap (λ (x : Found). onward x h) e
+  or-go (Ok (Open b)) f g h e u = u b ∙ ap (λ (x : Result Nearest Refusal). onward x h) e
+  or-go (Ok Covered) f g h e u = ap (λ (x : Result Nearest Refusal). onward x h) e
+  or-go (Err n) f g h e u = ap (λ (x : Result Nearest Refusal). onward x h) e
 
   module _ (r : Ray) (node : ℕ → Node) (places : ℕ) (order : List ℕ) where
-    four : (t u v w : Bool) (past into down : Sought) (past' into' down' : Found) → or_covered k past ≡ past' → or_covered k into ≡ into' → or_covered k down ≡ down'
-        → or_covered k (cond t (cond u past (cond v into (cond w (Refused Waiting) down))) past) ≡ cond t (cond u past' (cond v into' (cond w (NotFound Waiting) down'))) past'
+    four : (t u v w : Bool) (past into down : Result Sought Refusal) (past' into' down' : Result Nearest Refusal) → or_covered k past ≡ past' → or_covered k into ≡ into' → or_covered k down ≡ down'
+        → or_covered k (cond t (cond u past (cond v into (cond w (Err Waiting) down))) past) ≡ cond t (cond u past' (cond v into' (cond w (Err Waiting) down'))) past'
     unfolding or_covered
     four false u v w past into down past' into' down' p i d = p
     four true true v w past into down past' into' down' p i d = p
@@ -80,21 +77,21 @@ module _ (far : Float) where
       go true e = lt_trans h.t b.hit.t far (e tt) l
       go false e = l
 
-  onward-less : (f : Found) (g : Nearest → Found) → Agrees far Covered f → ((b : Nearest) → T (lt b.hit.t far) → Agrees far Covered (g b)) → Agrees far Covered (onward f g)
-  onward-less (Best b) g l k = k b l
-  onward-less (NotFound n) g l k = tt
+  onward-less : (f : Result Nearest Refusal) (g : Nearest → Result Nearest Refusal) → Agrees far (Ok Covered) f → ((b : Nearest) → T (lt b.hit.t far) → Agrees far (Ok Covered) (g b)) → Agrees far (Ok Covered) (onward f g)
+  onward-less (Ok b) g l k = k b l
+  onward-less (Err n) g l k = tt
 
-  tried-less : (i : ℕ) (s : Struck) (b : Nearest) → T (lt b.hit.t far) → Agrees far Covered (tried i s b)
+  tried-less : (i : ℕ) (s : Result Hit Refusal) (b : Nearest) → T (lt b.hit.t far) → Agrees far (Ok Covered) (tried i s b)
   unfolding tried
-  tried-less i (At h) b l = nearer-less i h b l
-  tried-less i (NotStruck n) b l = tt
+  tried-less i (Ok h) b l = nearer-less i h b l
+  tried-less i (Err n) b l = tt
 
-  scan-less : (hit : ℕ → Struck) (is : List ℕ) (b : Nearest) → T (lt b.hit.t far) → Agrees far Covered (scan hit is b)
+  scan-less : (hit : ℕ → Result Hit Refusal) (is : List ℕ) (b : Nearest) → T (lt b.hit.t far) → Agrees far (Ok Covered) (scan hit is b)
   unfolding scan
   scan-less hit [] b l = l
   scan-less hit (i ∷ is) b l = onward-less (tried i (hit i) b) (scan hit is) (tried-less i (hit i) b l) (λ c m. scan-less hit is c m)
 
-  cond-less : (t : Bool) (x y : Found) → Agrees far Covered x → Agrees far Covered y → Agrees far Covered (cond t x y)
+  cond-less : (t : Bool) (x y : Result Nearest Refusal) → Agrees far (Ok Covered) x → Agrees far (Ok Covered) y → Agrees far (Ok Covered) (cond t x y)
   cond-less true x y g h = g
   cond-less false x y g h = h
 
@@ -116,37 +113,37 @@ module _ (far : Float) where
       go true e = s
       go false e = absurd e
 
-  on_agrees : (i : ℕ) (a : Struck) (b : Nearest) (g : Nearest → Sought) (f : Nearest → Found) → T (le far b.hit.t)
-      → ((c : Nearest) → T (le far c.hit.t) → Agrees far (g c) (f c)) → ((c : Nearest) → T (lt c.hit.t far) → Agrees far Covered (f c))
+  on_agrees : (i : ℕ) (a : Result Hit Refusal) (b : Nearest) (g : Nearest → Result Sought Refusal) (f : Nearest → Result Nearest Refusal) → T (le far b.hit.t)
+      → ((c : Nearest) → T (le far c.hit.t) → Agrees far (g c) (f c)) → ((c : Nearest) → T (lt c.hit.t far) → Agrees far (Ok Covered) (f c))
       → Agrees far (sought_on far i a b g) (onward (tried i a b) f)
   unfolding sought_on tried
-  on_agrees i (NotStruck n) b g f l k m = refl
-  on_agrees i (At h) b g f l k m = go (lt h.t far) (λ z. z) (λ z. z)
+  on_agrees i (Err n) b g f l k m = refl
+  on_agrees i (Ok h) b g f l k m = go (lt h.t far) (λ z. z) (λ z. z)
     where
-      go : (t : Bool) → (T t → T (lt h.t far)) → (T (not t) → T (not (lt h.t far))) → Agrees far (cond t Covered (g (nearer i h b))) (f (nearer i h b))
+      go : (t : Bool) → (T t → T (lt h.t far)) → (T (not t) → T (not (lt h.t far))) → Agrees far (cond t (Ok Covered) (g (nearer i h b))) (f (nearer i h b))
       go true e n = m (nearer i h b) (less-now i h b l (e tt))
       go false e n = k (nearer i h b) (past-agrees i h b l (n tt))
 
-  module _ (hit : ℕ → Struck) where
+  module _ (hit : ℕ → Result Hit Refusal) where
     scan-agrees : (is : List ℕ) (b : Nearest) → T (le far b.hit.t) → Agrees far (scan_to far hit is b) (scan hit is b)
     unfolding scan_to scan
     scan-agrees [] b l = (refl, l)
     scan-agrees (i ∷ is) b l = on_agrees i (hit i) b (scan_to far hit is) (scan hit is) l (λ c m. scan-agrees is c m) (λ c m. scan-less hit is c m)
 
-    go-agrees : (s : Sought) (u : Found) (g : Nearest → Sought) (f : Nearest → Found) → Agrees far s u → ((b : Nearest) → T (le far b.hit.t) → Agrees far (g b) (f b))
-        → ((b : Nearest) → T (lt b.hit.t far) → Agrees far Covered (f b)) → Agrees far (go_on s g) (onward u f)
-    go-agrees (Open b) u g f a k m = subst (λ (x : Found). Agrees far (g b) (onward x f)) (sym a.0) (k b a.1)
-    go-agrees Covered (Best b) g f a k m = m b a
-    go-agrees Covered (NotFound n) g f a k m = tt
-    go-agrees (Refused n) u g f a k m = subst (λ (x : Found). onward x f ≡ NotFound n) (sym a) refl
+    go-agrees : (s : Result Sought Refusal) (u : Result Nearest Refusal) (g : Nearest → Result Sought Refusal) (f : Nearest → Result Nearest Refusal) → Agrees far s u → ((b : Nearest) → T (le far b.hit.t) → Agrees far (g b) (f b))
+        → ((b : Nearest) → T (lt b.hit.t far) → Agrees far (Ok Covered) (f b)) → Agrees far (go_on s g) (onward u f)
+    go-agrees (Ok (Open b)) u g f a k m = subst (λ (x : Result Nearest Refusal). Agrees far (g b) (onward x f)) (sym a.0) (k b a.1)
+    go-agrees (Ok Covered) (Ok b) g f a k m = m b a
+    go-agrees (Ok Covered) (Err n) g f a k m = tt
+    go-agrees (Err n) u g f a k m = subst (λ (x : Result Nearest Refusal). onward x f ≡ Err n) (sym a) refl
 
-    cond-agrees : (t : Bool) (x y : Sought) (u v : Found) → Agrees far x u → Agrees far y v → Agrees far (cond t x y) (cond t u v)
+    cond-agrees : (t : Bool) (x y : Result Sought Refusal) (u v : Result Nearest Refusal) → Agrees far x u → Agrees far y v → Agrees far (cond t x y) (cond t u v)
     cond-agrees true x y u v g h = g
     cond-agrees false x y u v g h = h
 
     -- ---- the two walks
     module _ (r : Ray) (node : ℕ → Node) (places : ℕ) (order : List ℕ) where
-      walk-less : (n : ℕ) (w : List ℕ) (b : Nearest) → T (lt b.hit.t far) → Agrees far Covered (walk_on hit r node places order n w b)
+      walk-less : (n : ℕ) (w : List ℕ) (b : Nearest) → T (lt b.hit.t far) → Agrees far (Ok Covered) (walk_on hit r node places order n w b)
       unfolding walk_on
       walk-less zero w b l = l
       walk-less (suc n) [] b l = l

@@ -14,28 +14,27 @@ use Rattle.geometry.specs.declared.hit.Hit.{Hit}
 use Rattle.tree_nodes.specs.declared.Node.{Node}
 use Rattle.refusals.specs.declared.Refusal.{Refusal}
 use Rattle.refusals.specs.declared.Refusal.TheVariants.{Waiting}
-use Rattle.scene_shape.specs.declared.Struck.{Struck}
-use Rattle.scene_shape.specs.declared.Struck.TheVariants.{At, Refused as NotStruck}
 use Rattle.tree_walk.specs.Walks.{nearer}
 use Rattle.tree_walk.specs.declared.Nearest.{Nearest}
 use Rattle.tree_walk.specs.declared.Children.{Children}
 use Rattle.tree_walk.proofs.Rounds.{Rounds}
 use Rattle.tree_cover.specs.Seeking.{sought_on, scan_to, go_on, seek_on, leaf_end}
 use Rattle.tree_cover.specs.declared.Sought.{Sought}
-use Rattle.tree_cover.specs.declared.Sought.TheVariants.{Open, Covered, Refused}
+use Rattle.tree_cover.specs.declared.Sought.TheVariants.{Open, Covered}
+use Rattle.std.specs.Prelude.{Err, Ok, Result}
 
 -- ---- the rounds
-seek-none : (far : Float) (hit : ℕ → Struck) (r : Ray) (node : ℕ → Node) (places : ℕ) (order : List ℕ) (k : ℕ) (best : Nearest) → seek_on far hit r node places order k [] best ≡ Open best
+seek-none : (far : Float) (hit : ℕ → Result Hit Refusal) (r : Ray) (node : ℕ → Node) (places : ℕ) (order : List ℕ) (k : ℕ) (best : Nearest) → seek_on far hit r node places order k [] best ≡ Ok (Open best)
 unfolding seek_on
 seek-none far hit r node places order zero best = refl
 seek-none far hit r node places order (suc k) best = refl
 
-module _ (far : Float) (hit : ℕ → Struck) (r : Ray) (node : ℕ → Node) (places : ℕ) (order : List ℕ) where
+module _ (far : Float) (hit : ℕ → Result Hit Refusal) (r : Ray) (node : ℕ → Node) (places : ℕ) (order : List ℕ) where
   -- through a leaf
-  abbrev pub through : List ℕ → Nearest → (Nearest → Sought) → Sought
+  abbrev pub through : List ℕ → Nearest → (Nearest → Result Sought Refusal) → Result Sought Refusal
   through is b next = go_on (scan_to far hit is b) next
 
-  pub seek-rounds : Rounds r node places order Open (Refused Waiting) through (seek_on far hit r node places order)
+  pub seek-rounds : Rounds r node places order (λ (b : Nearest). Ok (Open b)) (Err Waiting) through (seek_on far hit r node places order)
   unfolding seek_on
   seek-rounds = record {
     over = λ (w : List ℕ) (b : Nearest). refl;
@@ -69,25 +68,25 @@ end_take order first count = by-test (ltb (first + count) (length order)) refl
         rw t (take_past (length order - first) count (drop first order) (omega (arith, length-drop first order)) (omega (arith, length-drop first order, ltb-false (first + count) (length order) t)))
 
 -- ---- inside a leaf, at the entry that stands at place `at`; `next` goes on from the leaf, and all comes to `all`
-pub record Leafing (far : Float) (hit : ℕ → Struck) (order : List ℕ) (next : Nearest → Sought) (all : Sought) (last at : ℕ) (best : Nearest) : Type 0 where
+pub record Leafing (far : Float) (hit : ℕ → Result Hit Refusal) (order : List ℕ) (next : Nearest → Result Sought Refusal) (all : Result Sought Refusal) (last at : ℕ) (best : Nearest) : Type 0 where
   pub inside : last ≤ length order
   pub same : go_on (scan_to far hit (take (last - at) (drop at order)) best) next ≡ all
 
-pub leafing-start : (far : Float) (hit : ℕ → Struck) (order : List ℕ) (next : Nearest → Sought) (all : Sought) (first count last : ℕ) (best : Nearest)
+pub leafing-start : (far : Float) (hit : ℕ → Result Hit Refusal) (order : List ℕ) (next : Nearest → Result Sought Refusal) (all : Result Sought Refusal) (first count last : ℕ) (best : Nearest)
     → last ≡ leaf_end first count (length order) → go_on (scan_to far hit (take count (drop first order)) best) next ≡ all → Leafing far hit order next all last first best
 leafing-start far hit order next all first count last best e s = record {
   inside = rw e (end-inside first count (length order));
   same = rw (e, end_take order first count) s;
 }
 
-module _ (far : Float) (hit : ℕ → Struck) (order : List ℕ) (next : Nearest → Sought) (all : Sought) (last at : ℕ) (best : Nearest) (L : Leafing far hit order next all last at best) where
+module _ (far : Float) (hit : ℕ → Result Hit Refusal) (order : List ℕ) (next : Nearest → Result Sought Refusal) (all : Result Sought Refusal) (last at : ℕ) (best : Nearest) (L : Leafing far hit order next all last at best) where
   pub leafing-end : last ≤ at → next best ≡ all
   unfolding scan_to
   leafing-end h =
       let e : last - at ≡ 0 = omega arith in
       rw e at L.same
 
-  module _ (h : at < last) (i w : ℕ) (a : Struck) (ei : i ≡ get_or order at 0) (ew : w ≡ i) (ea : a ≡ hit w) where
+  module _ (h : at < last) (i w : ℕ) (a : Result Hit Refusal) (ei : i ≡ get_or order at 0) (ew : w ≡ i) (ea : a ≡ hit w) where
     turn : go_on (sought_on far i a best (scan_to far hit (take (last - (at + 1)) (drop (at + 1) order)))) next ≡ all
     unfolding scan_to
     turn =
@@ -95,12 +94,12 @@ module _ (far : Float) (hit : ℕ → Struck) (order : List ℕ) (next : Nearest
         let f : suc at ≡ at + 1 = omega arith in
         rw (ea, ew, ei) (rw (e, drop-cons order at 0 (omega (arith, L.inside)), f) at L.same)
 
-    pub leafing-refused : (k : Refusal) → a ≡ NotStruck k → Refused k ≡ all
+    pub leafing-refused : (k : Refusal) → a ≡ Err k → Err k ≡ all
     unfolding sought_on
     leafing-refused k q = rw q at turn
 
-    module _ (d : Hit) (q : a ≡ At d) where
-      pub leafing-short : lt d.t far ≡ true → Covered ≡ all
+    module _ (d : Hit) (q : a ≡ Ok d) where
+      pub leafing-short : lt d.t far ≡ true → Ok Covered ≡ all
       unfolding sought_on
       leafing-short s = rw s at (rw q at turn)
 

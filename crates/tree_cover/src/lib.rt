@@ -10,16 +10,14 @@ ghost use Rattle.tree_cover.specs.Seeking as Seeking;
 use geometry::ray::Ray;
 use geometry::vector::Vector;
 use refusals::Refusal;
-use scene_shape::Struck;
 use tree_sight::Sight;
 use tree_walk::Nearest;
 
-// How far a walk that stops has come: none of the solids fell short, one did, or a refusal was met before.
+// How far a walk that stops has come: none of the solids fell short, or one did.
 #[derive(Clone, Copy)]
 pub enum Sought {
     Open(Nearest),
     Covered,
-    Refused(Refusal),
 }
 
 // Where a leaf's entries end, as many as are there.
@@ -33,7 +31,7 @@ fn leaf_end(first: usize, count: usize, size: usize) -> usize
     size
 }
 
-// The walk up to the first solid whose distance falls short of `far`: left from inside its leaf.
+// The walk up to the first solid whose distance falls short of `far`: left by its label, from inside its leaf.
 pub fn seek(
     numbers: &[f64],
     inverses: &[f64],
@@ -43,7 +41,7 @@ pub fn seek(
     order: &[u32],
     r: Ray,
     far: f64,
-) -> Sought
+) -> Result<Sought, Refusal>
     ensures { result ≡ Seeking.seek_rows far (entry_hit numbers.now inverses.now marks.now r) r node_boxes.now node_marks.now order.now }
 {
     let many = tree_nodes::places(node_boxes, node_marks);
@@ -52,13 +50,14 @@ pub fn seek(
     let mut stack = [0usize; 64];
     let mut sp = 1usize;
     let mut rounds = many;
+    // the labelled loop of docs/DECISIONS.md, "Language forms by place"
     'walk: loop {
         if rounds == 0 {
-            return Sought::Open(best);
+            return Ok(Sought::Open(best));
         }
         rounds -= 1;
         if sp == 0 {
-            return Sought::Open(best);
+            return Ok(Sought::Open(best));
         }
         sp -= 1;
         let i = stack[sp];
@@ -73,43 +72,33 @@ pub fn seek(
         let first = rows::index(n.a);
         if tree_walk::is_leaf(n.b, n.c) {
             let last = leaf_end(first, rows::index(n.b), size);
-            let mut at = first;
-            while at < last {
+            for at in first..last {
                 let e = order[at];
-                let a = tree_walk::entry_hit(numbers, inverses, marks, r, rows::index(e));
-                match a {
-                    Struck::Refused(k) => {
-                        return Sought::Refused(k);
-                    }
-                    Struck::At(h) => {
-                        if h.t < far {
-                            break 'walk;
-                        }
-                        best = tree_walk::nearer(e, h, best);
-                    }
+                let h = tree_walk::entry_hit(numbers, inverses, marks, r, rows::index(e))?;
+                if h.t < far {
+                    break 'walk;
                 }
-                at += 1;
+                best = tree_walk::nearer(e, h, best);
             }
             continue;
         }
         if sp > 62 {
-            return Sought::Refused(Refusal::Waiting);
+            return Err(Refusal::Waiting);
         }
         let c = tree_walk::sided(first, tree_walk::backward(r, n.c));
         stack[sp] = c.far;
         stack[sp + 1] = c.near;
         sp += 2;
     }
-    Sought::Covered
+    Ok(Sought::Covered)
 }
 
-fn uncovered(s: Sought) -> Sight
+fn uncovered(s: Result<Sought, Refusal>) -> Result<Sight, Refusal>
     ensures { result ≡ Seeking.by_sought s }
 {
-    match s {
-        Sought::Open(_) => Sight::Visible,
-        Sought::Covered => Sight::Hidden,
-        Sought::Refused(k) => Sight::Refused(k),
+    match s? {
+        Sought::Open(_) => Ok(Sight::Visible),
+        Sought::Covered => Ok(Sight::Hidden),
     }
 }
 
@@ -123,13 +112,13 @@ pub fn covered(
     order: &[u32],
     eye: Vector,
     point: Vector,
-) -> Sight
+) -> Result<Sight, Refusal>
     ensures { result ≡ Seeking.covered_by (λ (d : Float) (r : Ray). Seeking.seek_rows d (entry_hit numbers.now inverses.now marks.now r) r node_boxes.now node_marks.now order.now) eye point }
 {
     let v = eye.sub(point);
     let distance = v.norm();
     if distance == 0.0 {
-        return Sight::Visible;
+        return Ok(Sight::Visible);
     }
     let r = Ray::new(point, v.div_scalar(distance));
     let a = seek(

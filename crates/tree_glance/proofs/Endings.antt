@@ -20,21 +20,21 @@ use Rattle.rows.specs.Points.{box_of_row}
 use Rattle.tree_nodes.specs.Trees.{Tree, leaf, split}
 use Rattle.tree_nodes.specs.Nodes.{node_at, places_of}
 use Rattle.tree_nodes.specs.declared.Node.{Node}
-use Rattle.scene_shape.specs.declared.Struck.{Struck}
-use Rattle.scene_shape.specs.declared.Struck.TheVariants.{At}
 use Rattle.tree_beams.specs.Beams.{is_shown, is_sure, Aimed}
 use Rattle.tree_beams.specs.declared.Beam.{Beam}
 use Rattle.tree_beams.proofs.Planes.{shown}
-use Rattle.tree_walk.specs.declared.Found.{Found}
 use Rattle.tree_walk.specs.Walks.{nothing, visit, walk_rows}
 use Rattle.tree_walk.proofs.Visits.{visit-le}
 use Rattle.tree_walk.proofs.Layouts.{walk-is-visit}
-use Rattle.tree_glance.specs.declared.Glance.{Glance}
-use Rattle.tree_glance.specs.declared.Glance.TheVariants.{Hidden, Visible}
 use Rattle.tree_trust.specs.Trust.{whole_tree, Trusted}
 use Rattle.tree_glance.specs.Glances.{LastCover, LeafIn, Tells, ended_of}
 use Rattle.tree_glance.proofs.Leaves.{Found-best, Answering, Clear, visit-answered, leaf-falls-short, clear-reaches}
 use Rattle.tree_glance.proofs.Glancing.{Hides, Whole}
+use Rattle.tree_sight.specs.declared.Sight.TheVariants.{Hidden, Visible}
+use Rattle.tree_walk.specs.declared.Nearest.{Nearest}
+use Rattle.std.specs.Prelude.{Ok, Option, Result, Some}
+use Rattle.refusals.specs.declared.Refusal.{Refusal}
+use Rattle.tree_sight.specs.declared.Sight.{Sight}
 
 -- ---- a beam's ray is one for which the laws of boxes hold
 pub aimed-usable : (b : Beam) → Aimed b → Usable b.ray
@@ -56,11 +56,11 @@ inf-number : T (number INF)
 unfolding of_bits
 inf-number = tt
 
-pub all-answering : (hit : ℕ → Struck) (r : Ray) → ((i : ℕ) → (h : Hit) × (hit i ≡ At h)) → (x : Tree ℕ) → Answering hit r x
+pub all-answering : (hit : ℕ → Result Hit Refusal) (r : Ray) → ((i : ℕ) → (h : Hit) × (hit i ≡ Ok h)) → (x : Tree ℕ) → Answering hit r x
 all-answering hit r A (leaf c a is) = λ p i m. A i
 all-answering hit r A (split c a u v) = λ p. (all-answering hit r A u, all-answering hit r A v)
 
-module _ (hit : ℕ → Struck) (r : Ray) (distance : Float) (boxes : List Float) (links order : List ℕ) (t : Trusted boxes links order) where
+module _ (hit : ℕ → Result Hit Refusal) (r : Ray) (distance : Float) (boxes : List Float) (links order : List ℕ) (t : Trusted boxes links order) where
   abbrev N : ℕ → Node
   N = node_at boxes links
 
@@ -77,12 +77,12 @@ module _ (hit : ℕ → Struck) (r : Ray) (distance : Float) (boxes : List Float
   found : Answering hit r tree → Found-best (visit hit r tree 0 nothing)
   found A = visit-answered hit r 62 0 (omega arith) tree t.shallow A nothing
 
-  pub hides-tells : Usable r → Answering hit r tree → Hides hit r distance tree → Tells Hidden (walk_rows hit r boxes links order) distance
+  pub hides-tells : Usable r → Answering hit r tree → Hides hit r distance tree → Tells (Some Hidden) (walk_rows hit r boxes links order) distance
   hides-tells u A H =
       let f = found A in
       (f.0, walked ∙ f.1, leaf-falls-short hit r u H.box H.passed distance H.before H.entry H.own H.returned H.short tree t.nests H.in_tree 0 nothing f.0 inf-number f.1)
 
-  pub clear-tells : T (le distance INF) → Answering hit r tree → Clear hit r distance tree → Tells Visible (walk_rows hit r boxes links order) distance
+  pub clear-tells : T (le distance INF) → Answering hit r tree → Clear hit r distance tree → Tells (Some Visible) (walk_rows hit r boxes links order) distance
   clear-tells l A C =
       let f = found A in
       let n = le-number-l f.0.hit.t INF (visit-le hit r tree 0 nothing f.0 inf-number f.1) in
@@ -104,5 +104,5 @@ kept-stack boxes links order cover stack K stack' l = record { wide = K.wide; wi
 pub kept_same : (boxes : List Float) (links order cover stack : List ℕ) → LastCover boxes links order cover stack → (cover' : List ℕ) → cover' ≡ cover → LastCover boxes links order cover' stack
 kept_same boxes links order cover stack K cover' e = subst (λ (l : List ℕ). LastCover boxes links order l stack) (sym e) K
 
-pub tells_as : (g h : Glance) (f : Found) (distance : Float) → g ≡ h → Tells h f distance → Tells g f distance
-tells_as g h f distance e = subst (λ (x : Glance). Tells x f distance) (sym e)
+pub tells_as : (g h : Option Sight) (f : Result Nearest Refusal) (distance : Float) → g ≡ h → Tells h f distance → Tells g f distance
+tells_as g h f distance e = subst (λ (x : Option Sight). Tells x f distance) (sym e)

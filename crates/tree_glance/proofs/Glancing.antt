@@ -20,8 +20,6 @@ use Rattle.lists.specs.Lists.{Member, Each}
 use Rattle.tree_nodes.specs.Trees.{Tree, leaf, split}
 use Rattle.tree_nodes.specs.Nodes.{is_leaf}
 use Rattle.tree_nodes.specs.declared.Node.{Node}
-use Rattle.scene_shape.specs.declared.Struck.{Struck}
-use Rattle.scene_shape.specs.declared.Struck.TheVariants.{At}
 use Rattle.tree_walk.specs.declared.Children.{Children}
 use Rattle.tree_walk.specs.Walks.{children_of, leaf_entries}
 use Rattle.tree_walk.specs.Standing.{Stands}
@@ -30,6 +28,8 @@ use Rattle.tree_walk.proofs.Layouts.{Stack}
 use Rattle.tree_trust.specs.Trust.{tree_box, Nests}
 use Rattle.tree_glance.specs.Glances.{LeafIn}
 use Rattle.tree_glance.proofs.Leaves.{Answering, Clear}
+use Rattle.std.specs.Prelude.{Ok, Result}
+use Rattle.refusals.specs.declared.Refusal.{Refusal}
 
 true≢false : {A : Type 0} → true ≡ false → A
 true≢false e = clash (sym e)
@@ -38,7 +38,7 @@ pub tree-sound : (x : Tree ℕ) → Nests x → Sound (tree_box x)
 tree-sound (leaf o a is) N = N
 tree-sound (split o a x y) N = N.sound
 
-module _ (hit : ℕ → Struck) (r : Ray) (distance : Float) where
+module _ (hit : ℕ → Result Hit Refusal) (r : Ray) (distance : Float) where
   -- a leaf of the tree that hides the ray's origin
   pub record Hides (tree : Tree ℕ) : Type 0 where
     pub box : BBox
@@ -47,7 +47,7 @@ module _ (hit : ℕ → Struck) (r : Ray) (distance : Float) where
     pub in_tree : LeafIn box entry tree
     pub passed : T (passes (box_test box r))
     pub before : T (lt (box_test box r).tmin distance)
-    pub returned : hit entry ≡ At own
+    pub returned : hit entry ≡ Ok own
     pub short : T (lt own.t distance)
 
   -- nothing is left to be looked at in x; what is clear is asked only while nothing hides
@@ -164,14 +164,14 @@ module _ (hit : ℕ → Struck) (r : Ray) (distance : Float) where
 
       -- ---- a leaf
       -- what its entries say
-      pub leaf-answers : is_leaf (N i) ≡ true → ((s : ℕ) → Member s (leaf_entries order (N i)) → (h : Hit) × (hit s ≡ At h)) → Answering hit r G.top
+      pub leaf-answers : is_leaf (N i) ≡ true → ((s : ℕ) → Member s (leaf_entries order (N i)) → (h : Hit) × (hit s ≡ Ok h)) → Answering hit r G.top
       leaf-answers k A = go G.top G.stands
         where
           go : (x : Tree ℕ) → Stands N places order i x → Answering hit r x
           go (leaf c a is) S = λ p s m. A s (subst (Member s) (sym S.solids) m)
           go (split c a u v) S = true≢false (sym k ∙ S.kind)
 
-      pub leaf-clear : is_leaf (N i) ≡ true → ((s : ℕ) → Member s (leaf_entries order (N i)) → (h : Hit) → hit s ≡ At h → T (not (lt h.t distance))) → Clear hit r distance G.top
+      pub leaf-clear : is_leaf (N i) ≡ true → ((s : ℕ) → Member s (leaf_entries order (N i)) → (h : Hit) → hit s ≡ Ok h → T (not (lt h.t distance))) → Clear hit r distance G.top
       leaf-clear k F = go G.top G.stands
         where
           go : (x : Tree ℕ) → Stands N places order i x → Clear hit r distance x

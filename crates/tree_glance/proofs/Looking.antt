@@ -21,23 +21,23 @@ use Rattle.lists.specs.Lists.{Member}
 use Rattle.tree_nodes.specs.Trees.{Tree, leaf, split}
 use Rattle.tree_nodes.specs.Nodes.{node_at, places_of, is_leaf}
 use Rattle.tree_nodes.specs.declared.Node.{Node}
-use Rattle.scene_shape.specs.declared.Struck.{Struck}
-use Rattle.scene_shape.specs.declared.Struck.TheVariants.{At}
 use Rattle.tree_walk.specs.declared.Children.{Children}
 use Rattle.tree_walk.specs.Walks.{children_of, leaf_entries, walk_rows}
 use Rattle.tree_walk.specs.Standing.{Stands}
 use Rattle.tree_walk.proofs.Rounds.{places-box}
-use Rattle.tree_glance.specs.declared.Glance.TheVariants.{Hidden, Visible}
 use Rattle.tree_trust.specs.Trust.{whole_tree, tree_box, Trusted}
 use Rattle.tree_glance.specs.Glances.{LastCover, AllAnswer, Shorter, Tells, ended_of}
 use Rattle.tree_glance.proofs.Leaves.{Answering}
 use Rattle.tree_glance.proofs.Glancing.{Hides, Done, failed-done, Part, Glancing, Fork, fork, tree-sound, there, leaf-answers, leaf-clear, leaf-in, glancing-start, glancing-end, answers-end, glancing-back, glancing-hidden, go-near, go-far, go-neither, go_both}
 use Rattle.tree_glance.proofs.Endings.{whole_tells, hides-tells, clear-tells, all-answering, kept-cover}
+use Rattle.tree_sight.specs.declared.Sight.TheVariants.{Hidden, Visible}
+use Rattle.std.specs.Prelude.{Ok, Result, Some}
+use Rattle.refusals.specs.declared.Refusal.{Refusal}
 
-at_same : {a b : Hit} → At a ≡ At b → a ≡ b
+at_same : {a b : Hit} → ◌≡◌ {A = Result Hit Refusal} (Ok a) (Ok b) → a ≡ b
 at_same e = cc
 
-module _ (hit : ℕ → Struck) (r : Ray) (distance : Float) (boxes : List Float) (links order : List ℕ) where
+module _ (hit : ℕ → Result Hit Refusal) (r : Ray) (distance : Float) (boxes : List Float) (links order : List ℕ) where
   abbrev N : ℕ → Node
   N = node_at boxes links
 
@@ -72,7 +72,7 @@ module _ (hit : ℕ → Struck) (r : Ray) (distance : Float) (boxes : List Float
     pub root-asked : (0 * 6 + 6 ≤ length boxes) × Sound (box_of_row (row 6 0 boxes))
     root-asked = ((places-box boxes links 0 (stands-there 0 tree t.stands)).0, subst Sound (sym (stands-box 0 tree t.stands)) (tree-sound tree t.nests))
 
-    pub root-missed : T (le distance INF) → T (not (passes (box_test (box_of_row (row 6 0 boxes)) r))) → Tells Visible (walk_rows hit r boxes links order) distance
+    pub root-missed : T (le distance INF) → T (not (passes (box_test (box_of_row (row 6 0 boxes)) r))) → Tells (Some Visible) (walk_rows hit r boxes links order) distance
     root-missed l h =
         let d = missed 0 tree t.stands false h in
         clear-tells hit r distance boxes links order t l d.answers (d.clear refl)
@@ -96,15 +96,15 @@ module _ (hit : ℕ → Struck) (r : Ray) (distance : Float) (boxes : List Float
         entries : take count (drop first order) ≡ leaf_entries order (N i)
         entries = rw (ec, ef, en)
 
-        pub leaf-done : ((s : ℕ) → Member s (take count (drop first order)) → (h : Hit) × (hit s ≡ At h) × T (not (lt h.t distance))) → Done hit r distance hid g.top
+        pub leaf-done : ((s : ℕ) → Member s (take count (drop first order)) → (h : Hit) × (hit s ≡ Ok h) × T (not (lt h.t distance))) → Done hit r distance hid g.top
         leaf-done F =
-            let f : (s : ℕ) → Member s (leaf_entries order (N i)) → (h : Hit) × (hit s ≡ At h) × T (not (lt h.t distance)) = subst (λ (is : List ℕ). (s : ℕ) → Member s is → (h : Hit) × (hit s ≡ At h) × T (not (lt h.t distance))) entries F in
+            let f : (s : ℕ) → Member s (leaf_entries order (N i)) → (h : Hit) × (hit s ≡ Ok h) × T (not (lt h.t distance)) = subst (λ (is : List ℕ). (s : ℕ) → Member s is → (h : Hit) × (hit s ≡ Ok h) × T (not (lt h.t distance))) entries F in
             record {
               answers = leaf-answers hit r distance N P order tree i stack sp hid g (leaf-is true l) (λ s m. ((f s m).0, (f s m).1));
               clear = λ e. leaf-clear hit r distance N P order tree i stack sp hid g (leaf-is true l) (λ s m h q. far s h q (f s m));
             }
           where
-            far : (s : ℕ) (h : Hit) → hit s ≡ At h → (k : Hit) × (hit s ≡ At k) × T (not (lt k.t distance)) → T (not (lt h.t distance))
+            far : (s : ℕ) (h : Hit) → hit s ≡ Ok h → (k : Hit) × (hit s ≡ Ok k) × T (not (lt k.t distance)) → T (not (lt h.t distance))
             far s h q z = let e : z.0 ≡ h = at_same (sym z.1 ∙ q) in subst (λ (k : Hit). T (not (lt k.t distance))) e z.2
 
         module _ (calm : Bool) (cover : List ℕ) (S : Shorter hit r distance calm boxes i (take count (drop first order)) cover) where
@@ -173,9 +173,9 @@ module _ (hit : ℕ → Struck) (r : Ray) (distance : Float) (boxes : List Float
       look-end e d = whole_tells hit r distance boxes links order t l u hid (glancing-end hit r distance N P order tree i stack sp hid g e d)
 
       -- hidden by the last leaf: nothing waits
-      pub look-end-hidden : sp ≡ 0 → Answering hit r g.top → Hides hit r distance tree → Tells Hidden (walk_rows hit r boxes links order) distance
+      pub look-end-hidden : sp ≡ 0 → Answering hit r g.top → Hides hit r distance tree → Tells (Some Hidden) (walk_rows hit r boxes links order) distance
       look-end-hidden e A H = hides-tells hit r distance boxes links order t u (answers-end hit r distance N P order tree i stack sp hid g e A) H
 
       -- every solid answers
-      pub look-calm : ((j : ℕ) → (h : Hit) × (hit j ≡ At h)) → Hides hit r distance tree → Tells Hidden (walk_rows hit r boxes links order) distance
+      pub look-calm : ((j : ℕ) → (h : Hit) × (hit j ≡ Ok h)) → Hides hit r distance tree → Tells (Some Hidden) (walk_rows hit r boxes links order) distance
       look-calm A H = hides-tells hit r distance boxes links order t u (all-answering hit r A tree) H

@@ -19,24 +19,22 @@ use Rattle.geometry.specs.declared.vector.Vector.{Vector}
 use Rattle.geometry.proofs.Lengths.{distance-le}
 use Rattle.rows.specs.Rows.{row}
 use Rattle.rows.specs.Points.{box_of_row}
-use Rattle.scene_shape.specs.declared.Struck.{Struck}
-use Rattle.scene_shape.specs.declared.Struck.TheVariants.{At}
 use Rattle.tree_beams.specs.Beams.{is_sure, aim_of, Aimed}
 use Rattle.tree_beams.specs.declared.Beam.{Beam}
-use Rattle.tree_walk.specs.declared.Found.{Found}
 use Rattle.tree_walk.specs.Walks.{walk_rows}
 use Rattle.tree_sight.specs.Sights.{eye_ray, sees}
 use Rattle.tree_sight.specs.declared.Sight.{Sight}
-use Rattle.tree_sight.specs.declared.Sight.TheVariants.{Visible as InSight, Hidden as OutOfSight}
+use Rattle.tree_sight.specs.declared.Sight.TheVariants.{Hidden, Visible}
 use Rattle.tree_sight.proofs.Answers.{short-hidden, reaching-visible}
 use Rattle.tree_trust.specs.Trust.{whole_tree, Trusted}
-use Rattle.tree_glance.specs.declared.Glance.{Glance}
-use Rattle.tree_glance.specs.declared.Glance.TheVariants.{Hidden, Visible, Unsure}
 use Rattle.tree_glance.specs.Glances.{LastCover, EnteredBefore, Covering, Tells, SeenAs}
 use Rattle.tree_glance.proofs.Endings.{all-answering, hides-tells}
+use Rattle.tree_walk.specs.declared.Nearest.{Nearest}
+use Rattle.std.specs.Prelude.{None, Ok, Option, Result, Some}
+use Rattle.refusals.specs.declared.Refusal.{Refusal}
 
 -- ---- a point at the eye is seen
-pub near-seen : (f : Ray → Found) (eye point : Vector) (d : Float) → d ≡ distance_of eye point → eq d zero_f ≡ true → sees f eye point ≡ InSight
+pub near-seen : (f : Ray → Result Nearest Refusal) (eye point : Vector) (d : Float) → d ≡ distance_of eye point → eq d zero_f ≡ true → sees f eye point ≡ Ok Visible
 unfolding sees
 near-seen f eye point d e h = rw (← e, h)
 
@@ -61,27 +59,27 @@ module _ (eye point v : Vector) (d : Float) (ev : v ≡ sub_v eye point) (length
       sure = subst (λ (k : Beam). is_sure k.ray.direction k.low ≡ k.sure) (sym eb) refl ∙ s;
     }
 
-    module _ (far : eq d zero_f ≡ false) (f : Ray → Found) where
+    module _ (far : eq d zero_f ≡ false) (f : Ray → Result Nearest Refusal) where
       apart : T (not (eq (distance_of eye point) zero_f))
       apart = subst (λ (x : Float). T (not (eq x zero_f))) length-is (subst (λ (k : Bool). T (not k)) (sym far) tt)
 
-      pub told-hidden : Tells Hidden (f b.ray) d → sees f eye point ≡ OutOfSight
+      pub told-hidden : Tells (Some Hidden) (f b.ray) d → sees f eye point ≡ Ok Hidden
       told-hidden t =
           short-hidden f eye point apart t.0 (ap f (sym ray-is) ∙ t.1) (subst (λ (x : Float). T (lt t.0.hit.t x)) length-is t.2)
 
-      pub told_visible : Tells Visible (f b.ray) d → sees f eye point ≡ InSight
+      pub told_visible : Tells (Some Visible) (f b.ray) d → sees f eye point ≡ Ok Visible
       told_visible t =
           reaching-visible f eye point t.0 (ap f (sym ray-is) ∙ t.1) (subst (λ (x : Float). T (le x t.0.hit.t)) length-is t.2)
 
       -- by what the walk's glance says
-      pub told-as : (g : Glance) → Tells g (f b.ray) d → SeenAs g (sees f eye point)
-      told-as Hidden t = told-hidden t
-      told-as Visible t = told_visible t
-      told-as Unsure t = tt
+      pub told-as : (g : Option Sight) → Tells g (f b.ray) d → SeenAs g (sees f eye point)
+      told-as (Some Hidden) t = told-hidden t
+      told-as (Some Visible) t = told_visible t
+      told-as None t = tt
 
 -- ---- what is kept hides
-module _ (hit : ℕ → Struck) (r : Ray) (distance : Float) (boxes : List Float) (links order cover stack : List ℕ) (t : Trusted boxes links order) (K : LastCover boxes links order cover stack) where
-  pub covering-tells : Usable r → ((i : ℕ) → (h : Hit) × (hit i ≡ At h)) → Covering hit r distance boxes cover → Tells Hidden (walk_rows hit r boxes links order) distance
+module _ (hit : ℕ → Result Hit Refusal) (r : Ray) (distance : Float) (boxes : List Float) (links order cover stack : List ℕ) (t : Trusted boxes links order) (K : LastCover boxes links order cover stack) where
+  pub covering-tells : Usable r → ((i : ℕ) → (h : Hit) × (hit i ≡ Ok h)) → Covering hit r distance boxes cover → Tells (Some Hidden) (walk_rows hit r boxes links order) distance
   covering-tells u A C = elim K.last [
     | inl e ↦ absurd (C.held e)
     | inr z ↦ hides-tells hit r distance boxes links order t u (all-answering hit r A (whole_tree boxes links order)) (record {
@@ -104,8 +102,8 @@ pub fits-else : (boxes : List Float) (place : ℕ) → (place ≡ 0xffff_ffff) �
 fits-else boxes place (inl e) h = absurd (h e)
 fits-else boxes place (inr f) h = f
 
-module _ (hit : ℕ → Struck) (r : Ray) (distance : Float) (boxes : List Float) (cover : List ℕ) where
-  pub covering : (get_or cover 0 0 ≡ 0xffff_ffff → ⊥) → EnteredBefore boxes (get_or cover 0 0) r distance → (h : Hit) → hit (get_or cover 1 0) ≡ At h → lt h.t distance ≡ true → Covering hit r distance boxes cover
+module _ (hit : ℕ → Result Hit Refusal) (r : Ray) (distance : Float) (boxes : List Float) (cover : List ℕ) where
+  pub covering : (get_or cover 0 0 ≡ 0xffff_ffff → ⊥) → EnteredBefore boxes (get_or cover 0 0) r distance → (h : Hit) → hit (get_or cover 1 0) ≡ Ok h → lt h.t distance ≡ true → Covering hit r distance boxes cover
   covering n e h q s = record { held = n; entered = e; own = h; returned = q; short = subst T (sym s) tt }
 
 -- ---- what is kept afterwards
@@ -117,16 +115,20 @@ kept-none boxes links order cover stack K = record {
 }
 
 -- ---- what the glance at the eye test says
-module _ (a : Glance) (s : Sight) (S : SeenAs a s) where
-  pub as-hidden : a ≡ Hidden → OutOfSight ≡ s
-  as-hidden e = sym (subst (λ (x : Glance). SeenAs x s) e S)
+module _ (a : Option Sight) (s : Result Sight Refusal) (S : SeenAs a s) where
+  pub as-hidden : a ≡ Some Hidden → Ok Hidden ≡ s
+  as-hidden e = sym (subst (λ (x : Option Sight). SeenAs x s) e S)
 
-  pub as-visible : a ≡ Visible → InSight ≡ s
-  as-visible e = sym (subst (λ (x : Glance). SeenAs x s) e S)
+  pub as-visible : a ≡ Some Visible → Ok Visible ≡ s
+  as-visible e = sym (subst (λ (x : Option Sight). SeenAs x s) e S)
 
-pub seen_as : (g h : Glance) (s : Sight) → g ≡ h → SeenAs g s → SeenAs h s
-seen_as g h s e S = subst (λ (x : Glance). SeenAs x s) e S
+  pub as-seen : (g : Sight) → a ≡ Some g → Ok g ≡ s
+  as-seen Hidden e = as-hidden e
+  as-seen Visible e = as-visible e
+
+pub seen_as : (g h : Option Sight) (s : Result Sight Refusal) → g ≡ h → SeenAs g s → SeenAs h s
+seen_as g h s e S = subst (λ (x : Option Sight). SeenAs x s) e S
 
 -- a cover of one ray, where another is the same
-pub turned : (hits : Ray → ℕ → Struck) (q r : Ray) (distance : Float) (boxes : List Float) {cover : List ℕ} → q ≡ r → Covering (hits r) r distance boxes cover → Covering (hits q) q distance boxes cover
+pub turned : (hits : Ray → ℕ → Result Hit Refusal) (q r : Ray) (distance : Float) (boxes : List Float) {cover : List ℕ} → q ≡ r → Covering (hits r) r distance boxes cover → Covering (hits q) q distance boxes cover
 turned hits q r distance boxes {cover} e = subst (λ (x : Ray). Covering (hits x) x distance boxes cover) (sym e)

@@ -18,17 +18,17 @@ use Rattle.geometry.specs.declared.bounding_box.Span.{Span}
 use Rattle.rows.specs.Rows.{row}
 use Rattle.rows.specs.Points.{box_of_row}
 use Rattle.lists.specs.Lists.{Member}
-use Rattle.scene_shape.specs.declared.Struck.{Struck}
-use Rattle.scene_shape.specs.declared.Struck.TheVariants.{At, Refused as NotStruck}
 use Rattle.floats.proofs.Tests.{clash}
 use Rattle.tree_glance.specs.declared.Spotted.{Spotted}
 use Rattle.tree_glance.specs.declared.Spotted.TheVariants.{Clear, Short, Unknown}
-use Rattle.tree_glance.specs.declared.Glance.{Glance}
-use Rattle.tree_glance.specs.declared.Glance.TheVariants.{Hidden, Visible, Unsure}
 use Rattle.tree_glance.specs.Glances.{LeafTold, clear, judged_of, spot_on, spotted_of, AllAnswer, EnteredBefore, Shorter, enters_before, leaf_glance}
+use Rattle.std.specs.Prelude.{Err, None, Ok, Option, Result, Some}
+use Rattle.tree_sight.specs.declared.Sight.TheVariants.{Hidden, Visible}
+use Rattle.refusals.specs.declared.Refusal.{Refusal}
+use Rattle.tree_sight.specs.declared.Sight.{Sight}
 
 -- ---- the loop
-module _ (distance : Float) (calm : Bool) (hit : ℕ → Struck) (order : List ℕ) (first count : ℕ) where
+module _ (distance : Float) (calm : Bool) (hit : ℕ → Result Hit Refusal) (order : List ℕ) (first count : ℕ) where
   abbrev all : Spotted
   all = spotted_of distance calm hit (take count (drop first order)) clear
 
@@ -56,7 +56,7 @@ module _ (distance : Float) (calm : Bool) (hit : ℕ → Struck) (order : List �
       let e : count - k ≡ 0 = omega arith in
       rw e at s.same
 
-  module _ (found : Spotted) (k : ℕ) (s : Spotting found k) (h : k < count) (l : first + k < length order) (i w : ℕ) (own : Struck) (a : Spotted)
+  module _ (found : Spotted) (k : ℕ) (s : Spotting found k) (h : k < count) (l : first + k < length order) (i w : ℕ) (own : Result Hit Refusal) (a : Spotted)
       (ei : i ≡ get_or order (first + k) 0) (ew : w ≡ i) (eo : own ≡ hit w) (ea : a ≡ judged_of distance i own found) where
     step : spot_on calm a (spotted_of distance calm hit (take (count - (k + 1)) (drop (first + (k + 1)) order))) ≡ spotted_of distance calm hit (take count (drop first order)) clear
     unfolding spotted_of
@@ -88,16 +88,16 @@ module _ (distance : Float) (calm : Bool) (hit : ℕ → Struck) (order : List �
 pub short≢clear : {A : Type 0} (i : ℕ) → Short i ≡ Clear → A
 short≢clear i e = let z : ◌≡◌ {A = ℕ} 0 1 = cc in absurd (omega arith)
 
-module _ (distance : Float) (calm : Bool) (hit : ℕ → Struck) (whole : List ℕ) where
+module _ (distance : Float) (calm : Bool) (hit : ℕ → Result Hit Refusal) (whole : List ℕ) where
   -- an entry of the leaf that falls short
   pub record Falls (s : ℕ) : Type 0 where
     pub own : Hit
     pub among : Member s whole
-    pub returned : hit s ≡ At own
+    pub returned : hit s ≡ Ok own
     pub short : T (lt own.t distance)
 
   abbrev FarOff : List ℕ → Type 0
-  FarOff is = (s : ℕ) → Member s is → (h : Hit) × (hit s ≡ At h) × T (not (lt h.t distance))
+  FarOff is = (s : ℕ) → Member s is → (h : Hit) × (hit s ≡ Ok h) × T (not (lt h.t distance))
 
   abbrev Known : Spotted → Type 0
   Known Clear = Unit
@@ -121,14 +121,14 @@ module _ (distance : Float) (calm : Bool) (hit : ℕ → Struck) (whole : List �
   spoken (i ∷ is) sub found K = one (λ (f : Spotted) (k : Known f). spoken is (λ s m. sub s (inr m)) f k) (hit i) refl
     where
       -- the first entry and the rest
-      with_at : (h : Hit) → hit i ≡ At h → (g : Spotted) → (g ≡ Clear → T (not (lt h.t distance)) × (found ≡ Clear)) → (f : Spotted) → Spoken g is f → Spoken found (i ∷ is) f
+      with_at : (h : Hit) → hit i ≡ Ok h → (g : Spotted) → (g ≡ Clear → T (not (lt h.t distance)) × (found ≡ Clear)) → (f : Spotted) → Spoken g is f → Spoken found (i ∷ is) f
       with_at h e g c Clear S =
           let z = c S.0 in
           (z.1, λ s m. elim m [ inl p ↦ (h, ap hit (sym p) ∙ e, z.0) | inr q ↦ S.1 s q ])
       with_at h e g c (Short s) S = (S.0, λ n j m. elim m [ inl p ↦ (h, ap hit (sym p) ∙ e) | inr q ↦ S.1 n j q ])
       with_at h e g c Unknown S = tt
 
-      on : Rest is → (h : Hit) → hit i ≡ At h → (b : Bool) → b ≡ lt h.t distance → Spoken found (i ∷ is) (spot_on calm (cond b (Short i) found) (spotted_of distance calm hit is))
+      on : Rest is → (h : Hit) → hit i ≡ Ok h → (b : Bool) → b ≡ lt h.t distance → Spoken found (i ∷ is) (spot_on calm (cond b (Short i) found) (spotted_of distance calm hit is))
       on rest h e true eb = by-calm calm refl
         where
           falls : Falls i
@@ -151,16 +151,16 @@ module _ (distance : Float) (calm : Bool) (hit : ℕ → Struck) (whole : List �
               by-calm false p = with_at h e (Short s) (λ z. short≢clear s z) (spotted_of distance calm hit is (Short s)) (rest (Short s) k)
           by-found Unknown q k = absurd k
 
-      one : Rest is → (a : Struck) → hit i ≡ a → Spoken found (i ∷ is) (spot_on calm (judged_of distance i a found) (spotted_of distance calm hit is))
-      one rest (At h) e = on rest h e (lt h.t distance) refl
-      one rest (NotStruck n) e = tt
+      one : Rest is → (a : Result Hit Refusal) → hit i ≡ a → Spoken found (i ∷ is) (spot_on calm (judged_of distance i a found) (spotted_of distance calm hit is))
+      one rest (Ok h) e = on rest h e (lt h.t distance) refl
+      one rest (Err n) e = tt
 
 -- ---- of a whole leaf
-module _ (distance : Float) (calm : Bool) (hit : ℕ → Struck) (is : List ℕ) (a : Spotted) (ea : a ≡ spotted_of distance calm hit is clear) where
+module _ (distance : Float) (calm : Bool) (hit : ℕ → Result Hit Refusal) (is : List ℕ) (a : Spotted) (ea : a ≡ spotted_of distance calm hit is clear) where
   told : Spoken distance calm hit is clear is a
   told = subst (Spoken distance calm hit is clear is) (sym ea) (spoken distance calm hit is is (λ s m. m) clear tt)
 
-  pub clear-far : a ≡ Clear → (s : ℕ) → Member s is → (h : Hit) × (hit s ≡ At h) × T (not (lt h.t distance))
+  pub clear-far : a ≡ Clear → (s : ℕ) → Member s is → (h : Hit) × (hit s ≡ Ok h) × T (not (lt h.t distance))
   clear-far e = (subst (Spoken distance calm hit is clear is) e told).1
 
   pub short-falls : (s : ℕ) → a ≡ Short s → Falls distance calm hit is s
@@ -194,25 +194,25 @@ module _ (boxes : List Float) (i : ℕ) (r : Ray) (distance : Float) where
 
 -- ---- what a leaf says
 module _ (a s : Spotted) (ea : a ≡ s) where
-  pub leaf-clear : (t : Bool) → a ≡ Clear → Visible ≡ leaf_glance s t
+  pub leaf-clear : (t : Bool) → a ≡ Clear → Some Visible ≡ leaf_glance s t
   unfolding leaf_glance
   leaf-clear t h = rw (← ea, h)
 
-  pub leaf-unknown : (t : Bool) → a ≡ Unknown → Unsure ≡ leaf_glance s t
+  pub leaf-unknown : (t : Bool) → a ≡ Unknown → None ≡ leaf_glance s t
   unfolding leaf_glance
   leaf-unknown t h = rw (← ea, h)
 
   module _ (i : ℕ) (h : a ≡ Short i) (t x : Bool) (et : t ≡ x) where
-    pub leaf-short : t ≡ true → Hidden ≡ leaf_glance s x
+    pub leaf-short : t ≡ true → Some Hidden ≡ leaf_glance s x
     unfolding leaf_glance
     leaf-short k = rw (← ea, h, ← et, k)
 
-    pub leaf-late : t ≡ false → Unsure ≡ leaf_glance s x
+    pub leaf-late : t ≡ false → None ≡ leaf_glance s x
     unfolding leaf_glance
     leaf-late k = rw (← ea, h, ← et, k)
 
 -- ---- a leaf that hides, kept with the entry that falls short
-module _ (hit : ℕ → Struck) (r : Ray) (distance : Float) (calm : Bool) (boxes : List Float) (i : ℕ) (is : List ℕ) (a : Spotted) (ea : a ≡ spotted_of distance calm hit is clear) where
+module _ (hit : ℕ → Result Hit Refusal) (r : Ray) (distance : Float) (calm : Bool) (boxes : List Float) (i : ℕ) (is : List ℕ) (a : Spotted) (ea : a ≡ spotted_of distance calm hit is clear) where
   pub shorter : (e : ℕ) → a ≡ Short e → EnteredBefore boxes i r distance → (cover : List ℕ) → length cover ≡ 2 → (w : ℕ) → w ≡ e → Shorter hit r distance calm boxes i is (set (set cover 0 i) 1 w)
   shorter e q b cover l w ew =
       let f = short-falls distance calm hit is a ea e q in
@@ -230,15 +230,15 @@ module _ (hit : ℕ → Struck) (r : Ray) (distance : Float) (calm : Bool) (boxe
       }
 
 -- ---- by what a leaf answered
-module _ (hit : ℕ → Struck) (r : Ray) (distance : Float) (calm : Bool) (boxes : List Float) (i : ℕ) (is cover cover' : List ℕ) (a : Glance) (L : LeafTold hit r distance calm boxes i is cover cover' a) where
-  pub told-unsure : a ≡ Unsure → cover' ≡ cover
+module _ (hit : ℕ → Result Hit Refusal) (r : Ray) (distance : Float) (calm : Bool) (boxes : List Float) (i : ℕ) (is cover cover' : List ℕ) (a : Option Sight) (L : LeafTold hit r distance calm boxes i is cover cover' a) where
+  pub told-unsure : a ≡ None → cover' ≡ cover
   told-unsure e = subst (LeafTold hit r distance calm boxes i is cover cover') e L
 
-  pub told_same : a ≡ Visible → cover' ≡ cover
+  pub told_same : a ≡ Some Visible → cover' ≡ cover
   told_same e = (subst (LeafTold hit r distance calm boxes i is cover cover') e L).0
 
-  pub told-far : a ≡ Visible → (s : ℕ) → Member s is → (h : Hit) × (hit s ≡ At h) × T (not (lt h.t distance))
+  pub told-far : a ≡ Some Visible → (s : ℕ) → Member s is → (h : Hit) × (hit s ≡ Ok h) × T (not (lt h.t distance))
   told-far e = (subst (LeafTold hit r distance calm boxes i is cover cover') e L).1
 
-  pub told-short : a ≡ Hidden → Shorter hit r distance calm boxes i is cover'
+  pub told-short : a ≡ Some Hidden → Shorter hit r distance calm boxes i is cover'
   told-short e = subst (LeafTold hit r distance calm boxes i is cover cover') e L

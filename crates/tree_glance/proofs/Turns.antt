@@ -24,45 +24,45 @@ use Rattle.tree_trust.specs.Trust.{whole_tree, Trusted}
 use Rattle.tree_beams.specs.Beams.{Aimed, misses_box}
 use Rattle.tree_beams.specs.declared.Beam.{Beam}
 use Rattle.tree_beams.proofs.Missing.{box-missed}
-use Rattle.scene_shape.specs.declared.Struck.{Struck}
-use Rattle.scene_shape.specs.declared.Struck.TheVariants.{At}
 use Rattle.tree_walk.specs.Walks.{children_of, backward, walk_rows}
 use Rattle.tree_walk.specs.declared.Children.{Children}
 use Rattle.tree_walk.proofs.Rounds.{piled, length-piled, piled-set, piled-top}
 use Rattle.tree_glance.specs.Glances.{LastCover, Shorter, LeafTold, Tells, clear, spotted_of, enters_before, leaf_glance, past_leaf, ended_of, look_on, leaf_says, look_rows}
-use Rattle.tree_glance.specs.declared.Glance.{Glance}
-use Rattle.tree_glance.specs.declared.Glance.TheVariants.{Hidden, Visible, Unsure}
 use Rattle.tree_glance.proofs.Leaves.{Answering}
 use Rattle.tree_glance.proofs.Glancing.{Hides, Done}
 use Rattle.tree_glance.proofs.Spots.{told-far, told-short}
 use Rattle.tree_glance.proofs.Endings.{aimed-usable, tells_as}
 use Rattle.tree_glance.proofs.Looking.{At-place, root-asked, root-missed, look-start, leaf-done, leaf-hides, leaf-kept, leaf-answered, near-asked, far-asked, to-far, to-neither, to-near, to_both, look-back, look-hidden, look-end, look-end-hidden, look-calm}
+use Rattle.tree_sight.specs.declared.Sight.TheVariants.{Hidden, Visible}
+use Rattle.std.specs.Prelude.{None, Ok, Option, Result, Some}
+use Rattle.refusals.specs.declared.Refusal.{Refusal}
+use Rattle.tree_sight.specs.declared.Sight.{Sight}
 
 -- one place more that waits
 piled-one : (s : List ℕ) (sp v : ℕ) → sp < length s → piled (set s sp v) (sp + 1) ≡ v ∷ piled s sp
 piled-one s sp v h = piled-top (set s sp v) sp (sp + 1) (omega arith) ∙ ap₂ (λ (x : ℕ) (l : List ℕ). x ∷ l) (get_or-set_same s sp v 0 h) (piled-set s sp v sp (omega arith))
 
-if-so : (t : Bool) (x y z : Glance) → cond t x y ≡ z → t ≡ true → x ≡ z
+if-so : (t : Bool) (x y z : Option Sight) → cond t x y ≡ z → t ≡ true → x ≡ z
 if-so true x y z e h = e
 if-so false x y z e h = clash h
 
-if-not : (t : Bool) (x y z : Glance) → cond t x y ≡ z → t ≡ false → y ≡ z
+if-not : (t : Bool) (x y z : Option Sight) → cond t x y ≡ z → t ≡ false → y ≡ z
 if-not true x y z e h = clash (sym h)
 if-not false x y z e h = e
 
 -- ---- one round
-module _ (says : ℕ → Glance) (misses : ℕ → Bool) (r : Ray) (node : ℕ → Node) (calm : Bool) where
+module _ (says : ℕ → Option Sight) (misses : ℕ → Bool) (r : Ray) (node : ℕ → Node) (calm : Bool) where
   on_none : (k : ℕ) (hid : Bool) → look_on says misses r node calm k [] hid ≡ ended_of hid
   unfolding look_on
   on_none zero hid = refl
   on_none (suc k) hid = refl
 
-  on-over : (i : ℕ) (w : List ℕ) (hid : Bool) → look_on says misses r node calm 0 (i ∷ w) hid ≡ Unsure
+  on-over : (i : ℕ) (w : List ℕ) (hid : Bool) → look_on says misses r node calm 0 (i ∷ w) hid ≡ None
   unfolding look_on
   on-over i w hid = refl
 
   module _ (k i : ℕ) (w : List ℕ) (hid : Bool) where
-    abbrev on : List ℕ → Bool → Glance
+    abbrev on : List ℕ → Bool → Option Sight
     on = look_on says misses r node calm k
 
     round-leaf : is_leaf (node i) ≡ true → look_on says misses r node calm (suc k) (i ∷ w) hid ≡ past_leaf calm (says i) hid (on w)
@@ -71,13 +71,13 @@ module _ (says : ℕ → Glance) (misses : ℕ → Bool) (r : Ray) (node : ℕ �
 
     round-split : is_leaf (node i) ≡ false → (c : Children) → c ≡ children_of (node i).first (backward r (node i).axis) → look_on says misses r node calm (suc k) (i ∷ w) hid
         ≡ cond (misses c.near) (cond (misses c.far) (on w hid) (on (c.far ∷ w) hid))
-        (cond (misses c.far) (on (c.near ∷ w) hid) (cond (ltb 63 (length w)) Unsure (on (c.near ∷ c.far ∷ w) hid)))
+        (cond (misses c.far) (on (c.near ∷ w) hid) (cond (ltb 63 (length w)) None (on (c.near ∷ c.far ∷ w) hid)))
     unfolding look_on
     round-split l c e = rw (l, e)
 
 -- ---- the loop
-module _ (hit : ℕ → Struck) (b : Beam) (distance : Float) (calm : Bool) (boxes : List Float) (links order : List ℕ) where
-  abbrev says : ℕ → Glance
+module _ (hit : ℕ → Result Hit Refusal) (b : Beam) (distance : Float) (calm : Bool) (boxes : List Float) (links order : List ℕ) where
+  abbrev says : ℕ → Option Sight
   says = leaf_says hit b distance calm boxes links order
 
   abbrev misses : ℕ → Bool
@@ -86,7 +86,7 @@ module _ (hit : ℕ → Struck) (b : Beam) (distance : Float) (calm : Bool) (box
   abbrev N : ℕ → Node
   N = node_at boxes links
 
-  abbrev all : Glance
+  abbrev all : Option Sight
   all = look_rows hit b distance calm boxes links order
 
   -- what is left from the places that wait
@@ -94,7 +94,7 @@ module _ (hit : ℕ → Struck) (b : Beam) (distance : Float) (calm : Bool) (box
   LeftFrom k w hid = look_on says misses b.ray N calm k w hid ≡ all
 
   module _ (m : Bool) (em : m ≡ misses_box (box_of_row (row 6 0 boxes)) b) where
-    all-missed : m ≡ true → Visible ≡ all
+    all-missed : m ≡ true → Some Visible ≡ all
     unfolding look_rows
     all-missed h = rw (← em, h)
 
@@ -107,7 +107,7 @@ module _ (hit : ℕ → Struck) (b : Beam) (distance : Float) (calm : Bool) (box
     left-none : sp ≡ 0 → ended_of hid ≡ all
     left-none z = sym (on_none says misses b.ray N calm k hid) ∙ rw (ap (piled stack) z) at e
 
-    left-hidden : hid ≡ true → sp ≡ 0 → Hidden ≡ all
+    left-hidden : hid ≡ true → sp ≡ 0 → Some Hidden ≡ all
     unfolding ended_of
     left-hidden h z = rw h at (left-none z)
 
@@ -115,7 +115,7 @@ module _ (hit : ℕ → Struck) (b : Beam) (distance : Float) (calm : Bool) (box
     left-next z = rw (piled-top stack (sp - 1) sp (omega arith)) at e
 
   module _ (rounds i : ℕ) (stack : List ℕ) (sp : ℕ) (hid : Bool) (e : LeftFrom rounds (i ∷ piled stack sp) hid) where
-    left_over : rounds ≡ 0 → Unsure ≡ all
+    left_over : rounds ≡ 0 → None ≡ all
     left_over z = sym (on-over says misses b.ray N calm i (piled stack sp) hid) ∙ rw z at e
 
     module _ (hr : 0 < rounds) (n : Triple) (en : n ≡ triple_of (row 3 i links)) (first : ℕ) (ef : first ≡ n.a) (lf : Bool) (el : lf ≡ (eqb n.c 0 || ltb 0 n.b)) where
@@ -132,7 +132,7 @@ module _ (hit : ℕ → Struck) (b : Beam) (distance : Float) (calm : Bool) (box
       leaf-is t h = sym (ap (λ (m : Triple). eqb m.c 0 || ltb 0 m.b) en) ∙ sym el ∙ h
 
       -- ---- a leaf
-      module _ (l : lf ≡ true) (count : ℕ) (ec : count ≡ n.b) (g : Glance)
+      module _ (l : lf ≡ true) (count : ℕ) (ec : count ≡ n.b) (g : Option Sight)
           (eg : g ≡ leaf_glance (spotted_of distance calm hit (take count (drop first order)) clear) (enters_before boxes i b.ray distance)) where
         said : g ≡ says i
         unfolding leaf_says
@@ -141,30 +141,30 @@ module _ (hit : ℕ → Struck) (b : Beam) (distance : Float) (calm : Bool) (box
         past : past_leaf calm g hid (look_on says misses b.ray N calm k w) ≡ all
         past = rw said (sym (round-leaf says misses b.ray N calm k i w hid (leaf-is true l)) ∙ opened)
 
-        past-unsure : g ≡ Unsure → Unsure ≡ all
+        past-unsure : g ≡ None → None ≡ all
         unfolding past_leaf
         past-unsure h = rw h at past
 
-        past-visible : g ≡ Visible → LeftFrom k w hid
+        past-visible : g ≡ Some Visible → LeftFrom k w hid
         unfolding past_leaf
         past-visible h = rw h at past
 
-        module _ (h : g ≡ Hidden) where
-          past-calm : calm ≡ true → Hidden ≡ all
+        module _ (h : g ≡ Some Hidden) where
+          past-calm : calm ≡ true → Some Hidden ≡ all
           unfolding past_leaf
-          past-calm t = if-so calm Hidden (look_on says misses b.ray N calm k w true) all (rw h at past) t
+          past-calm t = if-so calm (Some Hidden) (look_on says misses b.ray N calm k w true) all (rw h at past) t
 
           past-hidden : calm ≡ false → LeftFrom k w true
           unfolding past_leaf
-          past-hidden t = if-not calm Hidden (look_on says misses b.ray N calm k w true) all (rw h at past) t
+          past-hidden t = if-not calm (Some Hidden) (look_on says misses b.ray N calm k w true) all (rw h at past) t
 
       -- ---- a split
       module _ (l : lf ≡ false) (back : Bool) (ew : back ≡ backward b.ray n.c) (c : Children) (ec : c ≡ children_of first back)
           (p : Bool) (ep : p ≡ misses_box (box_of_row (row 6 c.near boxes)) b) (q : Bool) (eq : q ≡ misses_box (box_of_row (row 6 c.far boxes)) b) where
-        abbrev onto : List ℕ → Glance
+        abbrev onto : List ℕ → Option Sight
         onto v = look_on says misses b.ray N calm k v hid
 
-        sides : cond p (cond q (onto w) (onto (c.far ∷ w))) (cond q (onto (c.near ∷ w)) (cond (ltb 63 (length w)) Unsure (onto (c.near ∷ c.far ∷ w)))) ≡ all
+        sides : cond p (cond q (onto w) (onto (c.far ∷ w))) (cond q (onto (c.near ∷ w)) (cond (ltb 63 (length w)) None (onto (c.near ∷ c.far ∷ w)))) ≡ all
         sides = rw (ep, eq) (sym (round-split says misses b.ray N calm k i w hid (leaf-is false l) c (ec ∙ rw (ef, ew, en))) ∙ opened)
 
         sides-neither : p ≡ true → q ≡ true → LeftFrom k w hid
@@ -177,10 +177,10 @@ module _ (hit : ℕ → Struck) (b : Beam) (distance : Float) (calm : Bool) (box
         sides-near h j = rw (h, j) at sides
 
         module _ (h : p ≡ false) (j : q ≡ false) where
-          full-or : cond (ltb 63 (length w)) Unsure (onto (c.near ∷ c.far ∷ w)) ≡ all
+          full-or : cond (ltb 63 (length w)) None (onto (c.near ∷ c.far ∷ w)) ≡ all
           full-or = rw (h, j) at sides
 
-          sides-full : 63 < sp → Unsure ≡ all
+          sides-full : 63 < sp → None ≡ all
           sides-full f = rw (lt-ltb 63 (length w) (omega (arith, length-piled stack sp))) at full-or
 
           sides-both : length stack ≡ 64 → sp ≤ 63 → LeftFrom k (c.near ∷ piled (set stack sp c.far) (sp + 1)) hid
@@ -188,17 +188,17 @@ module _ (hit : ℕ → Struck) (b : Beam) (distance : Float) (calm : Bool) (box
               rw (piled-one stack sp c.far (omega (arith, wide))) (rw (le-ltb 63 (length w) (omega (arith, length-piled stack sp))) at full-or)
 
 -- ---- the loop, with what holds of the place that is looked at
-module _ (hit : ℕ → Struck) (b : Beam) (distance : Float) (calm : Bool) (boxes : List Float) (links order : List ℕ) where
+module _ (hit : ℕ → Result Hit Refusal) (b : Beam) (distance : Float) (calm : Bool) (boxes : List Float) (links order : List ℕ) where
   pub record Turn (rounds i : ℕ) (stack : List ℕ) (sp : ℕ) (hid : Bool) : Type 0 where
     pub place : At-place hit b.ray distance boxes links order i stack sp hid
     pub left : LeftFrom hit b distance calm boxes links order rounds (i ∷ piled stack sp) hid
 
   -- an answer, and what it says of the walk
-  abbrev pub Said : Glance → Type 0
+  abbrev pub Said : Option Sight → Type 0
   Said g = Tells g (walk_rows hit b.ray boxes links order) distance × (g ≡ look_rows hit b distance calm boxes links order)
 
   module _ (t : Trusted boxes links order) (m : Bool) (em : m ≡ misses_box (box_of_row (row 6 0 boxes)) b) where
-    pub turn-missed : Aimed b → T (le distance INF) → m ≡ true → Said Visible
+    pub turn-missed : Aimed b → T (le distance INF) → m ≡ true → Said (Some Visible)
     turn-missed A d h = (
       root-missed hit b.ray distance boxes links order t d (box-missed _ b (root-asked hit b.ray distance boxes links order t).1 A m em h),
       all-missed hit b distance calm boxes links order m em h,
@@ -220,7 +220,7 @@ module _ (hit : ℕ → Struck) (b : Beam) (distance : Float) (calm : Bool) (box
     abbrev Finished : Type 0
     Finished = Done hit b.ray distance hid G.top
 
-    pub turn-over : rounds ≡ 0 → Said Unsure
+    pub turn-over : rounds ≡ 0 → Said None
     turn-over z = (tt, left_over hit b distance calm boxes links order rounds i stack sp hid E z)
 
     back_by : Finished → Left (piled stack sp) hid → (sp ≡ 0 → ⊥) → Turn (rounds - 1) (get_or stack (sp - 1) 0) stack (sp - 1) hid
@@ -229,7 +229,7 @@ module _ (hit : ℕ → Struck) (b : Beam) (distance : Float) (calm : Bool) (box
       left = left-next hit b distance calm boxes links order (rounds - 1) stack sp hid e z;
     }
 
-    end_by : Trusted boxes links order → Aimed b → T (le distance INF) → Finished → Left (piled stack sp) hid → sp ≡ 0 → (g : Glance) → g ≡ ended_of hid → Said g
+    end_by : Trusted boxes links order → Aimed b → T (le distance INF) → Finished → Left (piled stack sp) hid → sp ≡ 0 → (g : Option Sight) → g ≡ ended_of hid → Said g
     end_by t A d D e z g h = (
       tells_as g (ended_of hid) (walk_rows hit b.ray boxes links order) distance h (look-end hit b.ray distance boxes links order i stack sp hid G t (aimed-usable b A) d z D),
       h ∙ left-none hit b distance calm boxes links order (rounds - 1) stack sp hid e z,
@@ -237,13 +237,13 @@ module _ (hit : ℕ → Struck) (b : Beam) (distance : Float) (calm : Bool) (box
 
     module _ (hr : 0 < rounds) (n : Triple) (en : n ≡ triple_of (row 3 i links)) (first : ℕ) (ef : first ≡ n.a) (lf : Bool) (el : lf ≡ (eqb n.c 0 || ltb 0 n.b)) where
       -- ---- a leaf
-      module _ (l : lf ≡ true) (count : ℕ) (ec : count ≡ n.b) (cover cover' : List ℕ) (g : Glance)
+      module _ (l : lf ≡ true) (count : ℕ) (ec : count ≡ n.b) (cover cover' : List ℕ) (g : Option Sight)
           (eg : g ≡ leaf_glance (spotted_of distance calm hit (take count (drop first order)) clear) (enters_before boxes i b.ray distance))
           (L : LeafTold hit b.ray distance calm boxes i (take count (drop first order)) cover cover' g) where
-        pub turn-unsure : g ≡ Unsure → Said Unsure
+        pub turn-unsure : g ≡ None → Said None
         turn-unsure h = (tt, past-unsure hit b distance calm boxes links order rounds i stack sp hid E hr n en first ef lf el l count ec g eg h)
 
-        module _ (h : g ≡ Visible) where
+        module _ (h : g ≡ Some Visible) where
           far : Finished
           far = leaf-done hit b.ray distance boxes links order i stack sp hid G n en first ef lf el l count ec (told-far hit b.ray distance calm boxes i (take count (drop first order)) cover cover' g L h)
 
@@ -253,10 +253,10 @@ module _ (hit : ℕ → Struck) (b : Beam) (distance : Float) (calm : Bool) (box
           pub turn-past : (sp ≡ 0 → ⊥) → Turn (rounds - 1) (get_or stack (sp - 1) 0) stack (sp - 1) hid
           turn-past = back_by far onward
 
-          pub turn_last : Trusted boxes links order → Aimed b → T (le distance INF) → sp ≡ 0 → (a : Glance) → a ≡ ended_of hid → Said a
+          pub turn_last : Trusted boxes links order → Aimed b → T (le distance INF) → sp ≡ 0 → (a : Option Sight) → a ≡ ended_of hid → Said a
           turn_last t A d = end_by t A d far onward
 
-        module _ (h : g ≡ Hidden) where
+        module _ (h : g ≡ Some Hidden) where
           short : Shorter hit b.ray distance calm boxes i (take count (drop first order)) cover'
           short = told-short hit b.ray distance calm boxes i (take count (drop first order)) cover cover' g L h
 
@@ -266,7 +266,7 @@ module _ (hit : ℕ → Struck) (b : Beam) (distance : Float) (calm : Bool) (box
           pub turn-kept : length stack ≡ 64 → LastCover boxes links order cover' stack
           turn-kept = leaf-kept hit b.ray distance boxes links order i stack sp hid G n en first ef lf el l count ec calm cover' short
 
-          pub turn-calm : Trusted boxes links order → Aimed b → T (le distance INF) → ((j : ℕ) → (k : Hit) × (hit j ≡ At k)) → calm ≡ true → Said Hidden
+          pub turn-calm : Trusted boxes links order → Aimed b → T (le distance INF) → ((j : ℕ) → (k : Hit) × (hit j ≡ Ok k)) → calm ≡ true → Said (Some Hidden)
           turn-calm t A d answers c = (
             look-calm hit b.ray distance boxes links order i stack sp hid G t (aimed-usable b A) d answers hides,
             past-calm hit b distance calm boxes links order rounds i stack sp hid E hr n en first ef lf el l count ec g eg h c,
@@ -285,7 +285,7 @@ module _ (hit : ℕ → Struck) (b : Beam) (distance : Float) (calm : Bool) (box
               left = left-next hit b distance calm boxes links order (rounds - 1) stack sp true hidden z;
             }
 
-            pub turn-hidden-last : Trusted boxes links order → Aimed b → T (le distance INF) → sp ≡ 0 → Said Hidden
+            pub turn-hidden-last : Trusted boxes links order → Aimed b → T (le distance INF) → sp ≡ 0 → Said (Some Hidden)
             turn-hidden-last t A d z = (
               look-end-hidden hit b.ray distance boxes links order i stack sp hid G t (aimed-usable b A) d z answered hides,
               left-hidden hit b distance calm boxes links order (rounds - 1) stack sp true hidden refl z,
@@ -311,7 +311,7 @@ module _ (hit : ℕ → Struck) (b : Beam) (distance : Float) (calm : Bool) (box
             pub turn-neither : (sp ≡ 0 → ⊥) → Turn (rounds - 1) (get_or stack (sp - 1) 0) stack (sp - 1) hid
             turn-neither = back_by neither aside
 
-            pub turn-neither-last : Trusted boxes links order → T (le distance INF) → sp ≡ 0 → (a : Glance) → a ≡ ended_of hid → Said a
+            pub turn-neither-last : Trusted boxes links order → T (le distance INF) → sp ≡ 0 → (a : Option Sight) → a ≡ ended_of hid → Said a
             turn-neither-last t d = end_by t A d neither aside
 
           pub turn-far : q ≡ false → Turn (rounds - 1) c.far stack sp hid
@@ -328,7 +328,7 @@ module _ (hit : ℕ → Struck) (b : Beam) (distance : Float) (calm : Bool) (box
           }
 
           module _ (j : q ≡ false) where
-            pub turn-full : 63 < sp → Said Unsure
+            pub turn-full : 63 < sp → Said None
             turn-full f = (tt, sides-full hit b distance calm boxes links order rounds i stack sp hid E hr n en first ef lf el l back ew c ec p ep q eq h j f)
 
             pub turn-both : length stack ≡ 64 → sp ≤ 63 → Turn (rounds - 1) c.near (set stack sp c.far) (sp + 1) hid

@@ -1,6 +1,6 @@
 // The eye test by a glance: a walk that leaves out what cannot change its answer. It tells boxes that the ray misses
 // by products, stops at the first solid that falls short where no refusal can follow, and tries the solid
-// that hid the last point first. Where it is not sure, the full walk answers.
+// that hid the last point first. Where it is not sure, and answers `None`, the full walk answers.
 #![tactic(auto)]
 
 ghost use Rattle.std.specs.Prelude.{◌≡◌, ◌⊎◌, true, false, [], ◌+◌, ◌*◌, ◌≤◌, ◌<◌, length, get_or, take, drop, T};
@@ -18,19 +18,12 @@ ghost use Rattle.geometry.specs.Vectors.{distance_of};
 ghost use Rattle.tree_sight.specs.Sights.{sees};
 ghost use Rattle.tree_glance.specs.Glances.{no_place, LastCover, Covering, LeafTold, Tells, SeenAs};
 
+use geometry::hit::Hit;
 use geometry::ray::Ray;
 use geometry::vector::Vector;
-use scene_shape::Struck;
+use refusals::Refusal;
 use tree_beams::Beam;
 use tree_sight::Sight;
-
-// What a glance says of a point.
-#[derive(Clone, Copy)]
-pub enum Glance {
-    Hidden,
-    Visible,
-    Unsure,
-}
 
 // What the entries of a leaf say of the distance: none falls short of it, this one does, or one met a refusal.
 #[derive(Clone, Copy)]
@@ -40,12 +33,12 @@ pub enum Spotted {
     Unknown,
 }
 
-fn judged(i: u32, a: Struck, distance: f64, found: Spotted) -> Spotted
+fn judged(i: u32, a: Result<Hit, Refusal>, distance: f64, found: Spotted) -> Spotted
     ensures { result ≡ Glances.judged_of distance i a found }
 {
     match a {
-        Struck::Refused(_) => Spotted::Unknown,
-        Struck::At(h) => {
+        Err(_) => Spotted::Unknown,
+        Ok(h) => {
             if h.t < distance {
                 return Spotted::Short(i);
             }
@@ -72,8 +65,7 @@ fn spot(
 {
     let n = order.len();
     let mut found = Spotted::Clear;
-    let mut k = 0usize;
-    while k < count {
+    for k in 0usize..count {
         let at = first + k;
         if at >= n {
             return found;
@@ -81,22 +73,15 @@ fn spot(
         let i = order[at];
         let w = rows::index(i);
         let a = tree_walk::entry_hit(numbers, inverses, marks, b.ray, w);
-        let s = judged(i, a, distance, found);
-        match s {
+        found = judged(i, a, distance, found);
+        match found {
             Spotted::Unknown => return Spotted::Unknown,
             Spotted::Short(e) => {
                 if calm {
                     return Spotted::Short(e);
                 }
-                found = Spotted::Short(e);
-                k += 1;
-                continue;
             }
-            Spotted::Clear => {
-                found = Spotted::Clear;
-                k += 1;
-                continue;
-            }
+            Spotted::Clear => {}
         }
     }
     found
@@ -131,7 +116,7 @@ fn at_leaf(
     distance: f64,
     calm: bool,
     cover: &mut [usize],
-) -> Glance
+) -> Option<Sight>
     requires { (first + count ≤ 8589934592) × (i * 6 + 6 ≤ length boxes.now) × (length cover.old ≡ 2) }
     ensures value { result ≡ Glances.leaf_glance (Glances.spotted_of distance calm (entry_hit numbers.now inverses.now marks.now b.ray) (take count (drop first order.now)) Glances.clear) (Glances.enters_before boxes.now i b.ray distance) }
     ensures leaf_told { LeafTold (entry_hit numbers.now inverses.now marks.now b.ray) b.ray distance calm boxes.now i (take count (drop first order.now)) cover.old cover.new result }
@@ -140,27 +125,27 @@ fn at_leaf(
         numbers, inverses, marks, order, first, count, b, distance, calm,
     );
     match a {
-        Spotted::Unknown => Glance::Unsure,
-        Spotted::Clear => Glance::Visible,
+        Spotted::Unknown => None,
+        Spotted::Clear => Some(Sight::Visible),
         Spotted::Short(e) => {
             if enters(boxes, i, b.ray, distance) {
                 cover[0] = i;
                 cover[1] = rows::index(e);
-                return Glance::Hidden;
+                return Some(Sight::Hidden);
             }
-            Glance::Unsure
+            None
         }
     }
 }
 
 // Nothing is left to be looked at.
-fn ended(hid: bool) -> Glance
+fn ended(hid: bool) -> Option<Sight>
     ensures { result ≡ Glances.ended_of hid }
 {
     if hid {
-        return Glance::Hidden;
+        return Some(Sight::Hidden);
     }
-    Glance::Visible
+    Some(Sight::Visible)
 }
 
 // Whether the box in row i is shown to be missed.
@@ -186,20 +171,18 @@ pub fn look(
     calm: bool,
     cover: &mut [usize],
     stack: &mut [usize],
-) -> Glance
+) -> Option<Sight>
     requires { Trusted node_boxes.now node_marks.now order.now × (calm ≡ true → Uncut numbers.now inverses.now marks.now) × Aimed b × T (le distance INF) × LastCover node_boxes.now node_marks.now order.now cover.old stack.old }
     ensures { Tells result (walk_rows (entry_hit numbers.now inverses.now marks.now b.ray) b.ray node_boxes.now node_marks.now order.now) distance × LastCover node_boxes.now node_marks.now order.now cover.new stack.new × (result ≡ Glances.look_rows (entry_hit numbers.now inverses.now marks.now b.ray) b distance calm node_boxes.now node_marks.now order.now) }
 {
     if missed(node_boxes, 0, b) {
-        return Glance::Visible;
+        return Some(Sight::Visible);
     }
     let r = b.ray;
     let mut i = 0usize;
     let mut sp = 0usize;
     let mut hid = false;
-    let mut rounds = 2048usize;
-    while rounds > 0 {
-        rounds -= 1;
+    for _ in 0usize..2048 {
         let n = rows::read_triple(node_marks, i);
         let first = rows::index(n.a);
         if tree_walk::is_leaf(n.b, n.c) {
@@ -216,10 +199,9 @@ pub fn look(
                 distance,
                 calm,
                 cover,
-            );
+            )?;
             match a {
-                Glance::Unsure => return Glance::Unsure,
-                Glance::Visible => {
+                Sight::Visible => {
                     if sp == 0 {
                         return ended(hid);
                     }
@@ -227,12 +209,12 @@ pub fn look(
                     i = stack[sp];
                     continue;
                 }
-                Glance::Hidden => {
+                Sight::Hidden => {
                     if calm {
-                        return Glance::Hidden;
+                        return Some(Sight::Hidden);
                     }
                     if sp == 0 {
-                        return Glance::Hidden;
+                        return Some(Sight::Hidden);
                     }
                     hid = true;
                     sp -= 1;
@@ -261,13 +243,13 @@ pub fn look(
             continue;
         }
         if sp > 63 {
-            return Glance::Unsure;
+            return None;
         }
         stack[sp] = c.far;
         sp += 1;
         i = c.near;
     }
-    Glance::Unsure
+    None
 }
 
 // Whether what hid the last point hides this one too.
@@ -289,8 +271,8 @@ fn covered(
     }
     let a = tree_walk::entry_hit(numbers, inverses, marks, r, cover[1]);
     match a {
-        Struck::Refused(_) => false,
-        Struck::At(h) => {
+        Err(_) => false,
+        Ok(h) => {
             if h.t < distance {
                 return enters(boxes, place, r, distance);
             }
@@ -314,33 +296,32 @@ fn glimpse(
     calm: bool,
     cover: &mut [usize],
     stack: &mut [usize],
-) -> Glance
+) -> Option<Sight>
     requires { Trusted node_boxes.now node_marks.now order.now × (calm ≡ true → Uncut numbers.now inverses.now marks.now) × Within eye × Within point × LastCover node_boxes.now node_marks.now order.now cover.old stack.old × (distance ≡ distance_of eye point) }
     ensures { SeenAs result (sees (λ (r : Ray). walk_rows (entry_hit numbers.now inverses.now marks.now r) r node_boxes.now node_marks.now order.now) eye point) × LastCover node_boxes.now node_marks.now order.now cover.new stack.new }
 {
     if distance == 0.0 {
-        return Glance::Visible;
+        return Some(Sight::Visible);
     }
     let v = eye.sub(point);
     let r = Ray::new(point, v.div_scalar(distance));
     let b = tree_beams::aim(r, v, distance);
     if !b.sure {
-        return Glance::Unsure;
+        return None;
     }
     if calm {
         if covered(numbers, inverses, marks, node_boxes, r, distance, cover) {
-            return Glance::Hidden;
+            return Some(Sight::Hidden);
         }
     }
     let g = look(
         numbers, inverses, marks, node_boxes, node_marks, order, b, distance, calm, cover, stack,
-    );
+    )?;
     match g {
-        Glance::Unsure => Glance::Unsure,
-        Glance::Hidden => Glance::Hidden,
-        Glance::Visible => {
+        Sight::Hidden => Some(Sight::Hidden),
+        Sight::Visible => {
             cover[0] = 0xffffffff;
-            Glance::Visible
+            Some(Sight::Visible)
         }
     }
 }
@@ -361,27 +342,16 @@ pub fn sight(
     calm: bool,
     cover: &mut [usize],
     stack: &mut [usize],
-) -> Sight
+) -> Result<Sight, Refusal>
     requires { (trusted ≡ true → Trusted node_boxes.now node_marks.now order.now × Within eye × Within point) × (calm ≡ true → Uncut numbers.now inverses.now marks.now) × LastCover node_boxes.now node_marks.now order.now cover.old stack.old × (distance ≡ distance_of eye point) }
     ensures { (result ≡ sees (λ (r : Ray). walk_rows (entry_hit numbers.now inverses.now marks.now r) r node_boxes.now node_marks.now order.now) eye point) × LastCover node_boxes.now node_marks.now order.now cover.new stack.new }
 {
     if trusted {
-        let g = glimpse(
+        if let Some(s) = glimpse(
             numbers, inverses, marks, node_boxes, node_marks, order, eye, point, distance, calm,
             cover, stack,
-        );
-        match g {
-            Glance::Hidden => {
-                return Sight::Hidden;
-            }
-            Glance::Visible => {
-                return Sight::Visible;
-            }
-            Glance::Unsure => {
-                return tree_sight::visible(
-                    numbers, inverses, marks, node_boxes, node_marks, order, eye, point,
-                );
-            }
+        ) {
+            return Ok(s);
         }
     }
     tree_sight::visible(

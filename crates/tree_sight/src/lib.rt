@@ -9,28 +9,23 @@ ghost use Rattle.tree_sight.specs.Sights as Sights;
 use geometry::ray::Ray;
 use geometry::vector::Vector;
 use refusals::Refusal;
-use tree_walk::Found;
+use tree_walk::Nearest;
 
-// Document 01's yes and no, or why there is no answer.
+// Document 01's yes and no.
 #[derive(Clone, Copy)]
 pub enum Sight {
     Visible,
     Hidden,
-    Refused(Refusal),
 }
 
-fn judged(a: Found, distance: f64) -> Sight
+fn judged(a: Result<Nearest, Refusal>, distance: f64) -> Result<Sight, Refusal>
     ensures { result ≡ Sights.by_distance a distance }
 {
-    match a {
-        Found::Refused(e) => Sight::Refused(e),
-        Found::Best(b) => {
-            if b.hit.t >= distance {
-                return Sight::Visible;
-            }
-            Sight::Hidden
-        }
+    let b = a?;
+    if b.hit.t >= distance {
+        return Ok(Sight::Visible);
     }
+    Ok(Sight::Hidden)
 }
 
 pub fn visible(
@@ -42,13 +37,13 @@ pub fn visible(
     order: &[u32],
     eye: Vector,
     point: Vector,
-) -> Sight
+) -> Result<Sight, Refusal>
     ensures { result ≡ Sights.sees (λ (r : Ray). walk_rows (entry_hit numbers.now inverses.now marks.now r) r node_boxes.now node_marks.now order.now) eye point }
 {
     let v = eye.sub(point);
     let distance = v.norm();
     if distance == 0.0 {
-        return Sight::Visible;
+        return Ok(Sight::Visible);
     }
     let r = Ray::new(point, v.div_scalar(distance));
     let a = tree_walk::intersect(numbers, inverses, marks, node_boxes, node_marks, order, r);

@@ -19,11 +19,7 @@ fn copy(from: &[u32], to: &mut [u32], n: usize)
     requires { (n ≤ length from.now) × (n ≤ length to.old) }
     ensures { take n to.new ≡ take n from.now }
 {
-    let mut i = 0;
-    while i < n {
-        to[i] = from[i];
-        i += 1;
-    }
+    to[..n].copy_from_slice(&from[..n]);
 }
 
 // The two parts of `order`, of which the first has m elements, are merged.
@@ -36,6 +32,7 @@ fn merge(keys: &[f64], order: &mut [u32], m: usize, work: &mut [u32])
     let mut i = 0;
     let mut j = m;
     let mut k = 0;
+    // no `for`: a turn moves either i or j
     while i < m {
         let p = work[i];
         if j < n {
@@ -60,18 +57,16 @@ fn insert(keys: &[f64], order: &mut [u32])
 {
     let n = order.len();
     let x = order[0];
-    let mut i = 1;
-    while i < n {
+    for i in 1..n {
         let y = order[i];
         if precedes(keys, y, x) {
             order[i - 1] = y;
-            i += 1;
-            continue;
+        } else {
+            order[i - 1] = x;
+            return;
         }
-        order[i - 1] = x;
-        return;
     }
-    order[i - 1] = x;
+    order[n - 1] = x;
 }
 
 // The insertion sort itself, which is the faster one for few elements.
@@ -79,9 +74,7 @@ fn insertion_sort(keys: &[f64], order: &mut [u32])
     requires { Each (HasKey keys.now) order.old }
     ensures { order.new ≡ sorted (by_key keys.now) order.old }
 {
-    let mut i = order.len();
-    while 0 < i {
-        i -= 1;
+    for i in (0..order.len()).rev() {
         insert(keys, &mut order[i..]);
     }
 }

@@ -53,10 +53,8 @@ pub fn hull(boxes: &[f64], order: &[u32]) -> BBox
     ensures { result ≡ hull_of (box_at boxes.now) order.now }
 {
     let mut b = solid_box(boxes, order, 0);
-    let mut i = 1;
-    while i < order.len() {
+    for i in 1..order.len() {
         b = b.extend(solid_box(boxes, order, i));
-        i += 1;
     }
     b
 }
@@ -67,10 +65,8 @@ pub fn spread(boxes: &[f64], order: &[u32]) -> BBox
     ensures { result ≡ hull_of (λ (i : ℕ). middle_box (box_at boxes.now i)) order.now }
 {
     let mut b = solid_middle(boxes, order, 0);
-    let mut i = 1;
-    while i < order.len() {
+    for i in 1..order.len() {
         b = b.extend(solid_middle(boxes, order, i));
-        i += 1;
     }
     b
 }
@@ -111,11 +107,10 @@ pub fn right_areas(boxes: &[f64], order: &[u32], right: &mut [f64])
     requires { Each (Fits boxes.now) order.now × (1 < length order.now) × (length order.now ≤ length right.old) × (length order.now ≤ 1024) }
     ensures { Swept (box_at boxes.now) order.now right.new }
 {
-    let mut i = order.len() - 1;
-    let mut b = solid_box(boxes, order, i);
-    right[i] = surface_area(b);
-    while 1 < i {
-        i -= 1;
+    let last = order.len() - 1;
+    let mut b = solid_box(boxes, order, last);
+    right[last] = surface_area(b);
+    for i in (1..last).rev() {
         b = b.extend(solid_box(boxes, order, i));
         right[i] = surface_area(b);
     }
@@ -155,12 +150,10 @@ pub fn best_split(boxes: &[f64], order: &[u32], right: &[f64]) -> BestSplit
         at: n / 2,
     };
     let mut left = solid_box(boxes, order, 0);
-    let mut i = 1;
-    while i < n {
+    for i in 1..n {
         let c = cost(left, i, right[i], n - i);
         best = better(best, c, i);
         left = left.extend(solid_box(boxes, order, i));
-        i += 1;
     }
     best
 }

@@ -17,41 +17,40 @@ use Rattle.rows.specs.declared.Marks.{Marks}
 use Rattle.rows.specs.declared.Numbers.{Numbers}
 use Rattle.solids.specs.Solids.{hit_of}
 use Rattle.scene.specs.Entries.{entry_of, entry_at, composite_of, simple_of, simple_or, cut_of, matrix_of, marks_at, numbers_at}
-use Rattle.scene.specs.declared.entry.Simple.{Simple}
-use Rattle.scene.specs.declared.entry.Simple.TheVariants.{Is, Other}
 use Rattle.scene.specs.declared.entry.Entry.{Entry}
-use Rattle.scene.specs.declared.entry.Entry.TheVariants.{Simple as SimpleEntry, Placed, Cut, None}
+use Rattle.scene.specs.declared.entry.Entry.TheVariants.{Simple as SimpleEntry, Placed, Cut}
 use Rattle.scene_shape.specs.Cuts.{rescaled}
 use Rattle.scene_shape.specs.Shapes.{shape_of, read, shape_hit}
-use Rattle.scene_shape.specs.declared.Struck.{Struck}
-use Rattle.scene_shape.specs.declared.Struck.TheVariants.{At}
 use Rattle.tree_walk.specs.Walks.{entry_hit}
 use Rattle.tree_trust.specs.Trust.{Uncut, is_uncut}
+use Rattle.std.specs.Prelude.{None, Ok, Option, Result, Some}
+use Rattle.refusals.specs.declared.Refusal.{Refusal}
+use Rattle.solids.specs.declared.solid.Solid.{Solid}
 
 -- no entry is a cut
 abbrev NoCuts : List ℕ → Type 0
 NoCuts marks = (i : ℕ) → i < length marks / 4 → (marks_at marks i).kind ≡ 7 → ⊥
 
 -- an entry that is not a cut
-abbrev Whole : Entry → Type 0
-Whole (SimpleEntry s) = Unit
-Whole (Placed m v k) = Unit
-Whole (Cut o a b) = ⊥
+abbrev Whole : Option Entry → Type 0
+Whole (Some (SimpleEntry s)) = Unit
+Whole (Some (Placed m v k)) = Unit
+Whole (Some (Cut o a b)) = ⊥
 Whole None = Unit
 
 whole-composite : (m : Marks) (n v : Numbers) → (m.kind ≡ 7 → ⊥) → Whole (composite_of m n v)
 unfolding composite_of
 whole-composite m n v h = go (eqb m.kind 6) (eqb m.kind 7) (eqb-true m.kind 7)
   where
-    go : (a b : Bool) → (b ≡ true → m.kind ≡ 7) → Whole (cond a (Placed (matrix_of n) (matrix_of v) m.first) (cond b (cut_of m) None))
+    go : (a b : Bool) → (b ≡ true → m.kind ≡ 7) → Whole (cond a (Some (Placed (matrix_of n) (matrix_of v) m.first)) (cond b (cut_of m) None))
     go true b k = tt
     go false true k = absurd (h (k refl))
     go false false k = tt
 
-whole-simple : (s : Simple) (e : Entry) → Whole e → Whole (simple_or s e)
+whole-simple : (s : Option Solid) (e : Option Entry) → Whole e → Whole (simple_or s e)
 unfolding simple_or
-whole-simple (Is s) e w = tt
-whole-simple Other e w = w
+whole-simple (Some s) e w = tt
+whole-simple None e w = w
 
 whole-at : (numbers inverses : List Float) (marks : List ℕ) → NoCuts marks → (i : ℕ) → Whole (entry_at numbers inverses marks i)
 unfolding entry_at entry_of
@@ -64,19 +63,19 @@ whole-at numbers inverses marks c i = go (ltb i (length numbers / 16)) (ltb i (l
     go true false d k = tt
     go false b d k = tt
 
-abbrev Hit-by : Struck → Type 0
-Hit-by a = (h : Hit) × (a ≡ At h)
+abbrev Hit-by : Result Hit Refusal → Type 0
+Hit-by a = (h : Hit) × (a ≡ Ok h)
 
-rescaled-hit : (scale : Float) (a : Struck) → Hit-by a → Hit-by (rescaled scale a)
+rescaled-hit : (scale : Float) (a : Result Hit Refusal) → Hit-by a → Hit-by (rescaled scale a)
 unfolding rescaled
 rescaled-hit scale a z = (record { t = z.0.t ⊘ scale; ok = z.0.ok }, rw z.1 refl)
 
-module _ (at : ℕ → Entry) (w : (i : ℕ) → Whole (at i)) where
-  shape-hit : (d : ℕ) (e : Entry) → Whole e → ((k : ℕ) (r : Ray) → Hit-by (shape_hit (read d at k) r)) → (r : Ray) → Hit-by (shape_hit (shape_of (read d at) e) r)
+module _ (at : ℕ → Option Entry) (w : (i : ℕ) → Whole (at i)) where
+  shape-hit : (d : ℕ) (e : Option Entry) → Whole e → ((k : ℕ) (r : Ray) → Hit-by (shape_hit (read d at k) r)) → (r : Ray) → Hit-by (shape_hit (shape_of (read d at) e) r)
   unfolding shape_of shape_hit
-  shape-hit d (SimpleEntry s) o f r = (hit_of s r, refl)
-  shape-hit d (Placed m v k) o f r = rescaled-hit (mul_ray v r).scale (shape_hit (read d at k) (mul_ray v r).ray) (f k (mul_ray v r).ray)
-  shape-hit d (Cut q a b) o f r = absurd o
+  shape-hit d (Some (SimpleEntry s)) o f r = (hit_of s r, refl)
+  shape-hit d (Some (Placed m v k)) o f r = rescaled-hit (mul_ray v r).scale (shape_hit (read d at k) (mul_ray v r).ray) (f k (mul_ray v r).ray)
+  shape-hit d (Some (Cut q a b)) o f r = absurd o
   shape-hit d None o f r = (no_hit, refl)
 
   read-hit : (d i : ℕ) (r : Ray) → Hit-by (shape_hit (read d at i) r)

@@ -1,5 +1,5 @@
 -- What is asked of a tree in node slices, and of the solids, before anything is left out of a walk.
-use Rattle.std.specs.Prelude.{◌≡◌, Bool, cond, not, ◌&&◌, ◌||◌, List, ℕ, zero, suc, ◌+◌, ◌/◌, ◌<◌, length, ltb, eqb, Float}
+use Rattle.std.specs.Prelude.{◌≡◌, Bool, cond, not, ◌&&◌, ◌||◌, List, ℕ, zero, suc, ◌+◌, ◌/◌, ◌<◌, length, ltb, eqb, Float, Ok}
 use Rattle.std.specs.Float.Ieee.{le}
 use Rattle.lists.specs.Lists.{all_of}
 use Rattle.limits.specs.Limits.{within_box}
@@ -12,7 +12,6 @@ use Rattle.tree_nodes.specs.Trees.{Tree, leaf, split, below_root}
 use Rattle.tree_nodes.specs.Nodes.{node_at, places_of, is_leaf}
 use Rattle.tree_nodes.specs.declared.Node.{Node}
 use Rattle.scene.specs.Entries.{marks_at}
-use Rattle.scene_shape.specs.declared.Struck.TheVariants.{At}
 use Rattle.tree_walk.specs.Walks.{leaf_entries, entry_hit}
 use Rattle.tree_walk.specs.Standing.{Stands}
 
@@ -51,7 +50,7 @@ pub record Trusted (boxes : List Float) (links order : List ℕ) : Type 0 where
 
 -- every solid answers every ray: none needs a 65th restart
 abbrev pub Uncut : List Float → List Float → List ℕ → Type 0
-Uncut numbers inverses marks = (r : Ray) (i : ℕ) → (h : Hit) × (entry_hit numbers inverses marks r i ≡ At h)
+Uncut numbers inverses marks = (r : Ray) (i : ℕ) → (h : Hit) × (entry_hit numbers inverses marks r i ≡ Ok h)
 
 -- ---- the tests: what passes them has the above
 -- each component of u is at most that of v

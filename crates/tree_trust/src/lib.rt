@@ -109,13 +109,11 @@ pub fn uncut(marks: &[u32]) -> bool
     ensures { result ≡ is_uncut marks.now }
 {
     let n = marks.len() / 4;
-    let mut i = 0usize;
-    while i < n {
+    for i in 0usize..n {
         let m = rows::read_marks(marks, i);
         if m.kind == 7 {
             return false;
         }
-        i += 1;
     }
     true
 }

@@ -20,9 +20,7 @@ use Rattle.rows.proofs.Rows.{get_d-row, length-flat, get_d-padded}
 use Rattle.tree_nodes.specs.Trees.{Tree, leaf, split, leaves, below_root, root_of, below_of, layout}
 use Rattle.tree_nodes.specs.Nodes.{node_at, marks_of_node, places_of, box_rows, mark_rows}
 use Rattle.tree_nodes.specs.declared.Node.{Node}
-use Rattle.scene_shape.specs.declared.Struck.{Struck}
 use Rattle.tree_walk.specs.declared.Nearest.{Nearest}
-use Rattle.tree_walk.specs.declared.Found.TheVariants.{Best}
 use Rattle.tree_walk.specs.Standing.{Stands}
 use Rattle.tree_walk.specs.Walks.{nothing, scan, backward, children_of, visit, walk_on, walk_rows}
 use Rattle.tree_nodes.specs.Members.{Sensible}
@@ -30,6 +28,9 @@ use Rattle.tree_nodes.proofs.Nodes.{node_at_lem}
 use Rattle.tree_walk.proofs.Rounds.{round-gone, round-skip, round-leaf}
 use Rattle.tree_walk.proofs.Turns.{walk_none, walk-rounds}
 use Rattle.tree_walk.proofs.Stacks.{visits, visits-leaf, visits-split, onward-same, onward-best}
+use Rattle.geometry.specs.declared.hit.Hit.{Hit}
+use Rattle.std.specs.Prelude.{Ok, Result}
+use Rattle.refusals.specs.declared.Refusal.{Refusal}
 
 -- ---- trees that stand among the nodes
 -- the places are those of the trees
@@ -51,7 +52,7 @@ abbrev pub nodes_of : List (Tree ℕ) → ℕ
 nodes_of [] = 0
 nodes_of (x ∷ ts) = suc (below_root x) + nodes_of ts
 
-module _ (hit : ℕ → Struck) (r : Ray) (N : ℕ → Node) (places : ℕ) (order : List ℕ) where
+module _ (hit : ℕ → Result Hit Refusal) (r : Ray) (N : ℕ → Node) (places : ℕ) (order : List ℕ) where
   down : (n first : ℕ) (is : List ℕ) (u v : Tree ℕ) (ts : List (Tree ℕ)) (best : Nearest) (back : Bool)
       → walk_on hit r N places order n ((first + 1) ∷ first ∷ is) best ≡ visits hit r (v ∷ u ∷ ts) best
       → walk_on hit r N places order n (first ∷ (first + 1) ∷ is) best ≡ visits hit r (u ∷ v ∷ ts) best
@@ -173,7 +174,7 @@ places-rows ns ys zs = go (ltb (length marks / 3) (length boxes / 6))
     go false = omega (arith, lb)
 
 -- The walk of slices that hold a tree's layout, its solids in order, and then zeros, is the recursion on that tree.
-pub walk_of-layout : (hit : ℕ → Struck) (r : Ray) (x : Tree ℕ) → Sensible x → (B M O : ℕ)
+pub walk_of-layout : (hit : ℕ → Result Hit Refusal) (r : Ray) (x : Tree ℕ) → Sensible x → (B M O : ℕ)
     → walk_rows hit r (padded zero_f B (box_rows (layout x))) (padded 0 M (mark_rows (layout x))) (padded 0 O (leaves x)) ≡ visit hit r x 0 nothing
 unfolding walk_rows padded layout
 walk_of-layout hit r x good B M O =
@@ -212,8 +213,8 @@ by-test {ℓ} : {Q : Type ℓ} (t : Bool) → (t ≡ true → Q) → (t ≡ fals
 by-test true f g = f refl
 by-test false f g = g refl
 
-module _ (hit : ℕ → Struck) (r : Ray) (N : ℕ → Node) (places : ℕ) (order : List ℕ) (best : Nearest) where
-  lone : (k : ℕ) → (N 0).count ≡ 0 → (N 0).axis ≡ 0 → walk_on hit r N places order k (0 ∷ []) best ≡ Best best
+module _ (hit : ℕ → Result Hit Refusal) (r : Ray) (N : ℕ → Node) (places : ℕ) (order : List ℕ) (best : Nearest) where
+  lone : (k : ℕ) → (N 0).count ≡ 0 → (N 0).axis ≡ 0 → walk_on hit r N places order k (0 ∷ []) best ≡ Ok best
   unfolding walk_on scan
   lone zero c a = refl
   lone (suc k) c a = by-test (ltb 0 places)
@@ -223,7 +224,7 @@ module _ (hit : ℕ → Struck) (r : Ray) (N : ℕ → Node) (places : ℕ) (ord
       (λ h. round-gone (walk-rounds hit r N places order) k 0 [] best h ∙ walk_none hit r N places order k best)
 
 -- The walk of marks that are zeros throughout finds nothing.
-pub walk_of-zeros : (hit : ℕ → Struck) (r : Ray) (boxes : List Float) (M : ℕ) (order : List ℕ) → walk_rows hit r boxes (padded 0 M []) order ≡ Best nothing
+pub walk_of-zeros : (hit : ℕ → Result Hit Refusal) (r : Ray) (boxes : List Float) (M : ℕ) (order : List ℕ) → walk_rows hit r boxes (padded 0 M []) order ≡ Ok nothing
 unfolding walk_rows
 walk_of-zeros hit r boxes M order =
     lone hit r (node_at boxes marks) (places_of boxes marks) order nothing (places_of boxes marks) (mark 1 (lit< tt)) (mark 2 (lit< tt))

@@ -93,6 +93,10 @@ module _ {A : Type 0} {r : Ray} {node : ℕ → Node} {places : ℕ} {order : Li
         pub round-down : ltb 64 (length w + 2) ≡ false → (c : Children) → c ≡ children_of (node i).first (backward r (node i).axis) → walk (suc k) (i ∷ w) b ≡ walk k (c.near ∷ c.far ∷ w) b
         round-down f c e = R.step k i w b c e ∙ rw (h, s, l, f)
 
+-- the rounds that are left of n after i of them, one round on
+pub round-left : (n i : ℕ) → n - (i + 1) ≡ n - i - 1
+round-left n i = omega arith
+
 -- ---- the loop of the walk, which answers `all`
 pub record Walking {A : Type 0} (walk : ℕ → List ℕ → Nearest → A) (all : A) (boxes : List Float) (marks : List ℕ) (many : ℕ) (stack : List ℕ) (sp rounds : ℕ) (best : Nearest) : Type 0 where
   pub every : many ≡ places_of boxes marks

@@ -21,29 +21,26 @@ use Rattle.tree_nodes.specs.Members.{StandsIn, Well}
 use Rattle.lists.specs.Lists.{Member}
 use Rattle.refusals.specs.declared.Refusal.{Refusal}
 use Rattle.refusals.specs.declared.Refusal.TheVariants.{Waiting}
-use Rattle.scene_shape.specs.declared.Struck.{Struck}
-use Rattle.scene_shape.specs.declared.Struck.TheVariants.{At, Refused as NotStruck}
 use Rattle.tree_walk.specs.declared.Nearest.{Nearest}
-use Rattle.tree_walk.specs.declared.Found.{Found}
-use Rattle.tree_walk.specs.declared.Found.TheVariants.{Best, Refused}
 use Rattle.tree_walk.specs.Walks.{nearer, tried, onward, scan, backward, visit}
+use Rattle.std.specs.Prelude.{Err, Ok, Result}
 
 -- ---- answers
-pub refused≢best : (n : Refusal) (b : Nearest) → Refused n ≡ Best b → ⊥
+pub refused≢best : (n : Refusal) (b : Nearest) → Err n ≡ Ok b → ⊥
 refused≢best n b e = let z : ◌≡◌ {A = ℕ} 0 1 = cc in omega arith
 
-pub best-same : {a b : Nearest} → Best a ≡ Best b → a ≡ b
+pub best-same : {a b : Nearest} → ◌≡◌ {A = Result Nearest Refusal} (Ok a) (Ok b) → a ≡ b
 best-same e = cc
 
 -- an answer that was found went through both
-pub onward-found : (a : Found) (k : Nearest → Found) (b : Nearest) → onward a k ≡ Best b → (c : Nearest) × (a ≡ Best c) × (k c ≡ Best b)
-onward-found (Best c) k b q = (c, refl, q)
-onward-found (Refused n) k b q = absurd (refused≢best n b q)
+pub onward-found : (a : Result Nearest Refusal) (k : Nearest → Result Nearest Refusal) (b : Nearest) → onward a k ≡ Ok b → (c : Nearest) × (a ≡ Ok c) × (k c ≡ Ok b)
+onward-found (Ok c) k b q = (c, refl, q)
+onward-found (Err n) k b q = absurd (refused≢best n b q)
 
-tried-found : (i : ℕ) (a : Struck) (best b : Nearest) → tried i a best ≡ Best b → (h : Hit) × (a ≡ At h) × (b ≡ nearer i h best)
+tried-found : (i : ℕ) (a : Result Hit Refusal) (best b : Nearest) → tried i a best ≡ Ok b → (h : Hit) × (a ≡ Ok h) × (b ≡ nearer i h best)
 unfolding tried
-tried-found i (At h) best b q = (h, refl, sym (best-same q))
-tried-found i (NotStruck n) best b q = absurd (refused≢best n b q)
+tried-found i (Ok h) best b q = (h, refl, sym (best-same q))
+tried-found i (Err n) best b q = absurd (refused≢best n b q)
 
 -- ---- one solid
 nearer-le : (i : ℕ) (h : Hit) (best : Nearest) → T (number best.hit.t) → T (le (nearer i h best).hit.t best.hit.t)
@@ -63,12 +60,12 @@ nearer-hit i h best n m = go (lt h.t best.hit.t) (not-gt→le best.hit.t h.t n m
     go false l = l tt
 
 -- ---- the solids of a leaf
-module _ (hit : ℕ → Struck) where
+module _ (hit : ℕ → Result Hit Refusal) where
   -- the best is the hit of the entry that it names
   abbrev pub Named : Nearest → Type 0
-  Named b = hit b.entry ≡ At b.hit
+  Named b = hit b.entry ≡ Ok b.hit
 
-  pub scan-le : (is : List ℕ) (best b : Nearest) → T (number best.hit.t) → scan hit is best ≡ Best b → T (le b.hit.t best.hit.t)
+  pub scan-le : (is : List ℕ) (best b : Nearest) → T (number best.hit.t) → scan hit is best ≡ Ok b → T (le b.hit.t best.hit.t)
   unfolding scan
   scan-le [] best b n q = subst (λ (x : Nearest). T (le x.hit.t best.hit.t)) (best-same q) (le_refl best.hit.t n)
   scan-le (i ∷ is) best b n q =
@@ -78,7 +75,7 @@ module _ (hit : ℕ → Struck) where
       let l = subst (λ (x : Nearest). T (le x.hit.t best.hit.t)) (sym o.2) (nearer-le i o.0 best n) in
       le_trans b.hit.t c.hit.t best.hit.t (scan-le is c b (le-number-l c.hit.t best.hit.t l) p.2) l
 
-  pub scan-hit : (s : ℕ) (d : Hit) → hit s ≡ At d → T (number d.t) → (is : List ℕ) (best b : Nearest) → T (number best.hit.t) → Member s is → scan hit is best ≡ Best b
+  pub scan-hit : (s : ℕ) (d : Hit) → hit s ≡ Ok d → T (number d.t) → (is : List ℕ) (best b : Nearest) → T (number best.hit.t) → Member s is → scan hit is best ≡ Ok b
       → T (le b.hit.t d.t)
   unfolding scan
   scan-hit s d D m [] best b n h q = absurd h
@@ -90,15 +87,15 @@ module _ (hit : ℕ → Struck) where
       let k = le-number-l c.hit.t best.hit.t l in
       go c o.0 o.1 o.2 (scan-le is c b k p.2) (λ (j : Member s is). scan-hit s d D m is c b k j p.2) h
     where
-      go : (c : Nearest) (g : Hit) → hit i ≡ At g → c ≡ nearer i g best → T (le b.hit.t c.hit.t) → (Member s is → T (le b.hit.t d.t)) → (i ≡ s) ⊎ Member s is → T (le b.hit.t d.t)
+      go : (c : Nearest) (g : Hit) → hit i ≡ Ok g → c ≡ nearer i g best → T (le b.hit.t c.hit.t) → (Member s is → T (le b.hit.t d.t)) → (i ≡ s) ⊎ Member s is → T (le b.hit.t d.t)
       go c g e f l r (inr j) = r j
       go c g e f l r (inl j) =
-          let same : g ≡ d = let x : At g ≡ At d = sym e ∙ ap hit j ∙ D in cc in
+          let same : g ≡ d = let x : ◌≡◌ {A = Result Hit Refusal} (Ok g) (Ok d) = sym e ∙ ap hit j ∙ D in cc in
           let z : T (le (nearer i d best).hit.t d.t) = nearer-hit i d best n m in
           le_trans b.hit.t c.hit.t d.t l (subst (λ (x : Nearest). T (le x.hit.t d.t)) (ap (λ (x : Hit). nearer i x best) (sym same) ∙ sym f) z)
 
   -- what the best is where it is not what it was
-  pub scan-from : (is : List ℕ) (best b : Nearest) → scan hit is best ≡ Best b → (b ≡ best) ⊎ (Member b.entry is × Named b)
+  pub scan-from : (is : List ℕ) (best b : Nearest) → scan hit is best ≡ Ok b → (b ≡ best) ⊎ (Member b.entry is × Named b)
   unfolding scan nearer
   scan-from [] best b q = inl (sym (best-same q))
   scan-from (i ∷ is) best b q =
@@ -106,49 +103,49 @@ module _ (hit : ℕ → Struck) where
       let o = tried-found i (hit i) best p.0 p.1 in
       go p.0 o.0 o.1 (lt o.0.t best.hit.t) o.2 (scan-from is p.0 b p.2)
     where
-      go : (c : Nearest) (g : Hit) → hit i ≡ At g → (k : Bool) → c ≡ cond k (record { hit = g; entry = i }) best → (b ≡ c) ⊎ (Member b.entry is × Named b)
+      go : (c : Nearest) (g : Hit) → hit i ≡ Ok g → (k : Bool) → c ≡ cond k (record { hit = g; entry = i }) best → (b ≡ c) ⊎ (Member b.entry is × Named b)
           → (b ≡ best) ⊎ (Member b.entry (i ∷ is) × Named b)
       go c g e k f (inr z) = inr (inr z.0, z.1)
       go c g e false f (inl j) = inl (j ∙ f)
       go c g e true f (inl j) =
           let x : b ≡ record { hit = g; entry = i } = j ∙ f in
-          inr (inl (sym (ap (λ (y : Nearest). y.entry) x)), ap hit (ap (λ (y : Nearest). y.entry) x) ∙ e ∙ ap At (sym (ap (λ (y : Nearest). y.hit) x)))
+          inr (inl (sym (ap (λ (y : Nearest). y.entry) x)), ap hit (ap (λ (y : Nearest). y.entry) x) ∙ e ∙ ap Ok (sym (ap (λ (y : Nearest). y.hit) x)))
 
 -- ---- the tree
-module _ (hit : ℕ → Struck) (r : Ray) where
+module _ (hit : ℕ → Result Hit Refusal) (r : Ray) where
   -- the answer of a split, by its three tests
-  abbrev pub forked : Bool → Bool → Bool → Tree ℕ → Tree ℕ → ℕ → Nearest → Found
+  abbrev pub forked : Bool → Bool → Bool → Tree ℕ → Tree ℕ → ℕ → Nearest → Result Nearest Refusal
   forked k j i x y w best =
-      cond k (Best best)
-      (cond j (Refused Waiting)
+      cond k (Ok best)
+      (cond j (Err Waiting)
       (cond i
       (onward (visit hit r y (w + 1) best) (visit hit r x w))
       (onward (visit hit r x (w + 1) best) (visit hit r y w))))
 
   -- the best t never grows
   abbrev pub Falls : Tree ℕ → Type 0
-  Falls x = (w : ℕ) (best b : Nearest) → T (number best.hit.t) → visit hit r x w best ≡ Best b → T (le b.hit.t best.hit.t)
+  Falls x = (w : ℕ) (best b : Nearest) → T (number best.hit.t) → visit hit r x w best ≡ Ok b → T (le b.hit.t best.hit.t)
 
-  two-fall : (x y : Tree ℕ) → Falls x → Falls y → (w w' : ℕ) (best b : Nearest) → T (number best.hit.t) → onward (visit hit r x w best) (visit hit r y w') ≡ Best b
+  two-fall : (x y : Tree ℕ) → Falls x → Falls y → (w w' : ℕ) (best b : Nearest) → T (number best.hit.t) → onward (visit hit r x w best) (visit hit r y w') ≡ Ok b
       → T (le b.hit.t best.hit.t)
   two-fall x y X Y w w' best b N q =
       let p = onward-found (visit hit r x w best) (visit hit r y w') b q in
       let h = X w best p.0 N p.1 in
       le_trans b.hit.t p.0.hit.t best.hit.t (Y w' p.0 b (le-number-l p.0.hit.t best.hit.t h) p.2) h
 
-  same : (best b : Nearest) → T (number best.hit.t) → Best best ≡ Best b → T (le b.hit.t best.hit.t)
+  same : (best b : Nearest) → T (number best.hit.t) → ◌≡◌ {A = Result Nearest Refusal} (Ok best) (Ok b) → T (le b.hit.t best.hit.t)
   same best b N q = subst (λ (x : Nearest). T (le x.hit.t best.hit.t)) (best-same q) (le_refl best.hit.t N)
 
   pub visit-le : (x : Tree ℕ) → Falls x
   unfolding visit
   visit-le (leaf c a is) w best b N q = go (skips (box_test c r) best.hit.t) q
     where
-      go : (k : Bool) → cond k (Best best) (scan hit is best) ≡ Best b → T (le b.hit.t best.hit.t)
+      go : (k : Bool) → cond k (Ok best) (scan hit is best) ≡ Ok b → T (le b.hit.t best.hit.t)
       go true q = same best b N q
       go false q = scan-le hit is best b N q
   visit-le (split c a x y) w best b N q = go (visit-le x) (visit-le y) (skips (box_test c r) best.hit.t) (ltb 64 (w + 2)) (backward r a) q
     where
-      go : Falls x → Falls y → (k j i : Bool) → forked k j i x y w best ≡ Best b → T (le b.hit.t best.hit.t)
+      go : Falls x → Falls y → (k j i : Bool) → forked k j i x y w best ≡ Ok b → T (le b.hit.t best.hit.t)
       go X Y true j i q = same best b N q
       go X Y false true i q = absurd (refused≢best Waiting b q)
       go X Y false false true q = two-fall y x Y X (w + 1) w best b N q
@@ -156,12 +153,12 @@ module _ (hit : ℕ → Struck) (r : Ray) where
 
   -- nothing is made up: the best is what it was, or the hit of the entry that it names, which stands in the tree
   abbrev pub From : Tree ℕ → Type 0
-  From x = (w : ℕ) (best b : Nearest) → visit hit r x w best ≡ Best b → (b ≡ best) ⊎ (StandsIn b.entry x × Named hit b)
+  From x = (w : ℕ) (best b : Nearest) → visit hit r x w best ≡ Ok b → (b ≡ best) ⊎ (StandsIn b.entry x × Named hit b)
 
   abbrev pub Either : Tree ℕ → Tree ℕ → Nearest → Nearest → Type 0
   Either x y best b = (b ≡ best) ⊎ ((StandsIn b.entry x ⊎ StandsIn b.entry y) × Named hit b)
 
-  two_from : (x y : Tree ℕ) → From x → From y → (w w' : ℕ) (best b : Nearest) → onward (visit hit r x w best) (visit hit r y w') ≡ Best b → Either x y best b
+  two_from : (x y : Tree ℕ) → From x → From y → (w w' : ℕ) (best b : Nearest) → onward (visit hit r x w best) (visit hit r y w') ≡ Ok b → Either x y best b
   two_from x y X Y w w' best b q =
       let p = onward-found (visit hit r x w best) (visit hit r y w') b q in
       elim (Y w' p.0 b p.2) [ inl e ↦ next p.0 e (X w best p.0 p.1) | inr z ↦ inr (inr z.0, z.1) ]
@@ -178,26 +175,26 @@ module _ (hit : ℕ → Struck) (r : Ray) where
   unfolding visit
   visit-from (leaf c a is) w best b q = go (skips (box_test c r) best.hit.t) q
     where
-      go : (k : Bool) → cond k (Best best) (scan hit is best) ≡ Best b → (b ≡ best) ⊎ (Member b.entry is × Named hit b)
+      go : (k : Bool) → cond k (Ok best) (scan hit is best) ≡ Ok b → (b ≡ best) ⊎ (Member b.entry is × Named hit b)
       go true q = inl (sym (best-same q))
       go false q = scan-from hit is best b q
   visit-from (split c a x y) w best b q = go (visit-from x) (visit-from y) (skips (box_test c r) best.hit.t) (ltb 64 (w + 2)) (backward r a) q
     where
-      go : From x → From y → (k j i : Bool) → forked k j i x y w best ≡ Best b → Either x y best b
+      go : From x → From y → (k j i : Bool) → forked k j i x y w best ≡ Ok b → Either x y best b
       go X Y true j i q = inl (sym (best-same q))
       go X Y false true i q = absurd (refused≢best Waiting b q)
       go X Y false false true q = turn x y best b (two_from y x Y X (w + 1) w best b q)
       go X Y false false false q = two_from x y X Y (w + 1) w best b q
 
   -- a solid whose own box passes and is entered no later than its t is not missed
-  module _ (u : Usable r) (box : ℕ → BBox) (s : ℕ) (fine : Sound (box s)) (d : Hit) (D : hit s ≡ At d) (p : T (passes (box_test (box s) r))) (e : T (le (box_test (box s) r).tmin d.t)) where
+  module _ (u : Usable r) (box : ℕ → BBox) (s : ℕ) (fine : Sound (box s)) (d : Hit) (D : hit s ≡ Ok d) (p : T (passes (box_test (box s) r))) (e : T (le (box_test (box s) r).tmin d.t)) where
     skipped : (c : BBox) (best : Nearest) → Sound c → Inside (box s) c → T (skips (box_test c r) best.hit.t) → T (le best.hit.t d.t)
     skipped c best C i k = holds-skips (box_test c r) (box_test (box s) r) (box-holds (box s) c r fine C i u) d.t best.hit.t p e k
 
     abbrev pub Hits : Tree ℕ → Type 0
-    Hits x = StandsIn s x → (w : ℕ) (best b : Nearest) → T (number best.hit.t) → visit hit r x w best ≡ Best b → T (le b.hit.t d.t)
+    Hits x = StandsIn s x → (w : ℕ) (best b : Nearest) → T (number best.hit.t) → visit hit r x w best ≡ Ok b → T (le b.hit.t d.t)
 
-    two-hit : (x y : Tree ℕ) → Hits x → Hits y → StandsIn s x ⊎ StandsIn s y → (w w' : ℕ) (best b : Nearest) → T (number best.hit.t) → onward (visit hit r x w best) (visit hit r y w') ≡ Best b
+    two-hit : (x y : Tree ℕ) → Hits x → Hits y → StandsIn s x ⊎ StandsIn s y → (w w' : ℕ) (best b : Nearest) → T (number best.hit.t) → onward (visit hit r x w best) (visit hit r y w') ≡ Ok b
         → T (le b.hit.t d.t)
     two-hit x y X Y h w w' best b N q =
         let z = onward-found (visit hit r x w best) (visit hit r y w') b q in
@@ -208,19 +205,19 @@ module _ (hit : ℕ → Struck) (r : Ray) where
           | inr i ↦ Y i w' z.0 b n z.2
         ]
 
-    stop : (best b : Nearest) → Best best ≡ Best b → T (le best.hit.t d.t) → T (le b.hit.t d.t)
+    stop : (best b : Nearest) → ◌≡◌ {A = Result Nearest Refusal} (Ok best) (Ok b) → T (le best.hit.t d.t) → T (le b.hit.t d.t)
     stop best b q l = subst (λ (x : Nearest). T (le x.hit.t d.t)) (best-same q) l
 
     pub visit-hits : (x : Tree ℕ) → Well box x → Hits x
     unfolding visit
     visit-hits (leaf c a is) W i w best b N q = go (skips (box_test c r) best.hit.t) (λ z. z) q
       where
-        go : (k : Bool) → (T k → T (skips (box_test c r) best.hit.t)) → cond k (Best best) (scan hit is best) ≡ Best b → T (le b.hit.t d.t)
+        go : (k : Bool) → (T k → T (skips (box_test c r) best.hit.t)) → cond k (Ok best) (scan hit is best) ≡ Ok b → T (le b.hit.t d.t)
         go true K q = stop best b q (skipped c best W.sound (W.holds s i) (K tt))
         go false K q = scan-hit hit s d D (le-number-r (box_test (box s) r).tmin d.t e) is best b N i q
     visit-hits (split c a x y) W i w best b N q = go (visit-hits x W.one) (visit-hits y W.two) (skips (box_test c r) best.hit.t) (ltb 64 (w + 2)) (backward r a) (λ z. z) q
       where
-        go : Hits x → Hits y → (k j l : Bool) → (T k → T (skips (box_test c r) best.hit.t)) → forked k j l x y w best ≡ Best b → T (le b.hit.t d.t)
+        go : Hits x → Hits y → (k j l : Bool) → (T k → T (skips (box_test c r) best.hit.t)) → forked k j l x y w best ≡ Ok b → T (le b.hit.t d.t)
         go X Y true j l K q = stop best b q (skipped c best W.sound (W.holds s i) (K tt))
         go X Y false true l K q = absurd (refused≢best Waiting b q)
         go X Y false false true K q = two-hit y x Y X (elim i [ inl a ↦ inr a | inr a ↦ inl a ]) (w + 1) w best b N q

@@ -1,5 +1,5 @@
 -- The nearest hit (`Tree::intersect` of tree.rs): the walk by recursion on a tree, and the walk of node slices of any contents.
-use Rattle.std.specs.Prelude.{Bool, cond, List, [], ◌∷◌, ℕ, zero, suc, ◌+◌, length, take, drop, ltb, eqb, Float}
+use Rattle.std.specs.Prelude.{Bool, cond, List, [], ◌∷◌, ℕ, zero, suc, ◌+◌, length, take, drop, ltb, eqb, Float, Err, Ok, Result}
 use Rattle.std.specs.Float.Ieee.{lt}
 use Rattle.floats.specs.Arith.{zero_f}
 use Rattle.geometry.specs.Hits.{no_hit}
@@ -11,15 +11,12 @@ use Rattle.tree_nodes.specs.Nodes.{node_at, places_of, is_leaf}
 use Rattle.tree_nodes.specs.declared.Node.{Node}
 use Rattle.refusals.specs.declared.Refusal.TheVariants.{Waiting}
 use Rattle.scene_shape.specs.Shapes.{decode, shape_hit}
-use Rattle.scene_shape.specs.declared.Struck.{Struck}
-use Rattle.scene_shape.specs.declared.Struck.TheVariants.{At, Refused as NotStruck}
 use Rattle.tree_walk.specs.declared.Nearest.{Nearest}
 use Rattle.tree_walk.specs.declared.Children.{Children}
-use Rattle.tree_walk.specs.declared.Found.{Found}
-use Rattle.tree_walk.specs.declared.Found.TheVariants.{Best, Refused}
+use Rattle.refusals.specs.declared.Refusal.{Refusal}
 
 -- the hit that the solid at entry i of a scene gives the ray, with no tree and no other solid: its t is document 01's own returned distance
-unfoldable pub entry_hit : List Float → List Float → List ℕ → Ray → ℕ → Struck
+unfoldable pub entry_hit : List Float → List Float → List ℕ → Ray → ℕ → Result Hit Refusal
 entry_hit numbers inverses marks r i = shape_hit (decode 8 numbers inverses marks i) r
 
 -- the best before any solid is tried: no hit, and the number of no entry
@@ -31,18 +28,18 @@ unfoldable pub nearer : ℕ → Hit → Nearest → Nearest
 nearer i h best = cond (lt h.t best.hit.t) (record { hit = h; entry = i }) best
 
 -- the best once entry i has answered
-unfoldable pub tried : ℕ → Struck → Nearest → Found
-tried i (At h) best = Best (nearer i h best)
-tried i (NotStruck n) best = Refused n
+unfoldable pub tried : ℕ → Result Hit Refusal → Nearest → Result Nearest Refusal
+tried i (Ok h) best = Ok (nearer i h best)
+tried i (Err n) best = Err n
 
 -- on from the best; a refusal ends the walk
-abbrev pub onward : Found → (Nearest → Found) → Found
-onward (Best b) next = next b
-onward (Refused n) next = Refused n
+abbrev pub onward : Result Nearest Refusal → (Nearest → Result Nearest Refusal) → Result Nearest Refusal
+onward (Ok b) next = next b
+onward (Err n) next = Err n
 
 -- each solid of a leaf, in leaf order
-unfoldable pub scan : (ℕ → Struck) → List ℕ → Nearest → Found
-scan hit [] best = Best best
+unfoldable pub scan : (ℕ → Result Hit Refusal) → List ℕ → Nearest → Result Nearest Refusal
+scan hit [] best = Ok best
 scan hit (i ∷ is) best = onward (tried i (hit i) best) (scan hit is)
 
 -- the Rust's is_dir_negative: along this axis the ray runs backward, so that the second child is the nearer one
@@ -53,11 +50,11 @@ backward r axis =
 
 -- The walk by recursion on the tree, the nearer child first: `hit` is the hit of each entry, and so many places wait beneath. A split puts both children
 -- among them, of which there are 64: number 12.
-unfoldable pub visit : (ℕ → Struck) → Ray → Tree ℕ → ℕ → Nearest → Found
-visit hit r (leaf b a is) waiting best = cond (skips (box_test b r) best.hit.t) (Best best) (scan hit is best)
+unfoldable pub visit : (ℕ → Result Hit Refusal) → Ray → Tree ℕ → ℕ → Nearest → Result Nearest Refusal
+visit hit r (leaf b a is) waiting best = cond (skips (box_test b r) best.hit.t) (Ok best) (scan hit is best)
 visit hit r (split b a u v) waiting best =
-    cond (skips (box_test b r) best.hit.t) (Best best)
-    (cond (ltb 64 (waiting + 2)) (Refused Waiting)
+    cond (skips (box_test b r) best.hit.t) (Ok best)
+    (cond (ltb 64 (waiting + 2)) (Err Waiting)
     (cond (backward r a)
     (onward (visit hit r v (waiting + 1) best) (visit hit r u waiting))
     (onward (visit hit r u (waiting + 1) best) (visit hit r v waiting))))
@@ -73,9 +70,9 @@ leaf_entries order n = take n.count (drop n.first order)
 
 -- In at most so many rounds, from the places that wait, the last one first: `node` gives the node at a place, of which there are `places`. A place where there is
 -- no node is passed over.
-unfoldable pub walk_on : (ℕ → Struck) → Ray → (ℕ → Node) → ℕ → List ℕ → ℕ → List ℕ → Nearest → Found
-walk_on hit r node places order zero waiting best = Best best
-walk_on hit r node places order (suc rounds) [] best = Best best
+unfoldable pub walk_on : (ℕ → Result Hit Refusal) → Ray → (ℕ → Node) → ℕ → List ℕ → ℕ → List ℕ → Nearest → Result Nearest Refusal
+walk_on hit r node places order zero waiting best = Ok best
+walk_on hit r node places order (suc rounds) [] best = Ok best
 walk_on hit r node places order (suc rounds) (i ∷ waiting) best =
     let past = walk_on hit r node places order rounds waiting best in
     let into = onward (scan hit (leaf_entries order (node i)) best) (walk_on hit r node places order rounds waiting) in
@@ -84,9 +81,9 @@ walk_on hit r node places order (suc rounds) (i ∷ waiting) best =
     cond (ltb i places)
     (cond (skips (box_test (node i).bx r) best.hit.t) past
     (cond (is_leaf (node i)) into
-    (cond (ltb 64 (length waiting + 2)) (Refused Waiting) down)))
+    (cond (ltb 64 (length waiting + 2)) (Err Waiting) down)))
     past
 
 -- the walk of node slices: from the root, in at most as many rounds as there are nodes
-unfoldable pub walk_rows : (ℕ → Struck) → Ray → List Float → List ℕ → List ℕ → Found
+unfoldable pub walk_rows : (ℕ → Result Hit Refusal) → Ray → List Float → List ℕ → List ℕ → Result Nearest Refusal
 walk_rows hit r boxes marks order = walk_on hit r (node_at boxes marks) (places_of boxes marks) order (places_of boxes marks) (0 ∷ []) nothing

@@ -11,20 +11,12 @@ use geometry::bounding_box::BBox;
 use geometry::hit::Hit;
 use geometry::ray::Ray;
 use refusals::Refusal;
-use scene_shape::Struck;
 
 // The best hit and the entry whose t last became the best: 0xffffffff, which no entry is, where none did.
 #[derive(Clone, Copy)]
 pub struct Nearest {
     pub hit: Hit,
     pub entry: u32,
-}
-
-// The nearest hit, or why there is none.
-#[derive(Clone, Copy)]
-pub enum Found {
-    Best(Nearest),
-    Refused(Refusal),
 }
 
 // The places of a split's children.
@@ -48,7 +40,13 @@ pub fn nothing() -> Nearest
 }
 
 // The hit that the solid at entry i gives the ray by itself.
-pub fn entry_hit(numbers: &[f64], inverses: &[f64], marks: &[u32], r: Ray, i: usize) -> Struck
+pub fn entry_hit(
+    numbers: &[f64],
+    inverses: &[f64],
+    marks: &[u32],
+    r: Ray,
+    i: usize,
+) -> Result<Hit, Refusal>
     ensures { result ≡ Walks.entry_hit numbers.now inverses.now marks.now r i }
 {
     scene_shape::entry_hit(numbers, inverses, marks, i, r, 8)
@@ -63,13 +61,11 @@ pub fn nearer(i: u32, h: Hit, best: Nearest) -> Nearest
     best
 }
 
-fn tried(i: u32, a: Struck, best: Nearest) -> Found
+fn tried(i: u32, a: Result<Hit, Refusal>, best: Nearest) -> Result<Nearest, Refusal>
     ensures { result ≡ Walks.tried i a best }
 {
-    match a {
-        Struck::At(h) => Found::Best(nearer(i, h, best)),
-        Struck::Refused(n) => Found::Refused(n),
-    }
+    let h = a?;
+    Ok(nearer(i, h, best))
 }
 
 // The entries of a leaf in order, as many as are there.
@@ -82,31 +78,21 @@ fn scan(
     count: usize,
     r: Ray,
     best: Nearest,
-) -> Found
+) -> Result<Nearest, Refusal>
     requires { first + count ≤ 8589934592 }
     ensures { result ≡ Walks.scan (Walks.entry_hit numbers.now inverses.now marks.now r) (take count (drop first order.now)) best }
 {
     let n = order.len();
     let mut b = best;
-    let mut k = 0usize;
-    while k < count {
+    for k in 0usize..count {
         let at = first + k;
         if at >= n {
-            return Found::Best(b);
+            return Ok(b);
         }
         let i = order[at];
-        let a = tried(i, entry_hit(numbers, inverses, marks, r, rows::index(i)), b);
-        match a {
-            Found::Refused(e) => {
-                return Found::Refused(e);
-            }
-            Found::Best(h) => {
-                b = h;
-            }
-        }
-        k += 1;
+        b = tried(i, entry_hit(numbers, inverses, marks, r, rows::index(i)), b)?;
     }
-    Found::Best(b)
+    Ok(b)
 }
 
 // Whether the walk passes a box by.
@@ -174,18 +160,16 @@ pub fn intersect(
     node_marks: &[u32],
     order: &[u32],
     r: Ray,
-) -> Found
+) -> Result<Nearest, Refusal>
     ensures { result ≡ Walks.walk_rows (Walks.entry_hit numbers.now inverses.now marks.now r) r node_boxes.now node_marks.now order.now }
 {
     let many = tree_nodes::places(node_boxes, node_marks);
     let mut best = nothing();
     let mut stack = [0usize; 64];
     let mut sp = 1usize;
-    let mut rounds = many;
-    while rounds > 0 {
-        rounds -= 1;
+    for _ in 0..many {
         if sp == 0 {
-            return Found::Best(best);
+            return Ok(best);
         }
         sp -= 1;
         let i = stack[sp];
@@ -198,7 +182,7 @@ pub fn intersect(
         let n = rows::read_triple(node_marks, i);
         let first = rows::index(n.a);
         if is_leaf(n.b, n.c) {
-            let a = scan(
+            best = scan(
                 numbers,
                 inverses,
                 marks,
@@ -207,24 +191,16 @@ pub fn intersect(
                 rows::index(n.b),
                 r,
                 best,
-            );
-            match a {
-                Found::Refused(e) => {
-                    return Found::Refused(e);
-                }
-                Found::Best(b) => {
-                    best = b;
-                    continue;
-                }
-            }
+            )?;
+            continue;
         }
         if sp > 62 {
-            return Found::Refused(Refusal::Waiting);
+            return Err(Refusal::Waiting);
         }
         let c = sided(first, backward(r, n.c));
         stack[sp] = c.far;
         stack[sp + 1] = c.near;
         sp += 2;
     }
-    Found::Best(best)
+    Ok(best)
 }

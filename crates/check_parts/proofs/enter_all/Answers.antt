@@ -27,10 +27,6 @@ pub returns-then-not-enter : goal.returns-then-not-enter
 returns-then-not-enter c =
     record { value = ill-all _ _ _ c.loop-i-test.true c.loop-i.invariant.4 (sym c.if-not-enter.true ∙ c.enter.ensures.value); flags = never }
 
-pub overflow_add-i : goal.overflow_add-i
-overflow_add-i c =
-    omega (arith, c.loop-i-test.true)
-
 pub loop-i-smaller : goal.loop-i-smaller
 loop-i-smaller c =
     omega (arith, c.loop-i-test.true)

@@ -4,6 +4,3 @@ use Rattle.degrees.proofs.all_from_units.Given as goal
 
 abbrev pub invariant-loop-i : goal.invariant-loop-i
 invariant-loop-i l = Converted l.all l.i
-
-abbrev pub decreases-loop-i : goal.decreases-loop-i
-decreases-loop-i l = 720 - l.i

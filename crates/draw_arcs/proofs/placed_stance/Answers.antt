@@ -1,5 +1,4 @@
 use Rattle.draw_arcs.specs.Stances.{placed_part}
-use borrow.Author.Rules.{rules}
 use Rattle.draw_arcs.proofs.placed_stance.Goals as goal
 
 pub returns : goal.returns

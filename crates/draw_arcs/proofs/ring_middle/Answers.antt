@@ -1,13 +1,12 @@
-use borrow.Author.Rules.{rules}
 use Rattle.draw_rings.specs.Pieces.{ring_middle, times_radius}
 use Rattle.draw_arcs.proofs.ring_middle.Goals as goal
 
-pub returns-in-Zero : goal.returns-in-Zero
+pub returns-in_err-v : goal.returns-in_err-v
 unfolding ring_middle times_radius
-returns-in-Zero c =
-    simp (← c.add.ensures, ← c.normalize-n.ensures, c.in-Zero.is)
+returns-in_err-v c =
+    simp (c.from_residual.ensures, ← c.add.ensures, ← c.normalize.ensures, c.in_err-v.was)
 
-pub returns-in-Unit : goal.returns-in-Unit
+pub returns : goal.returns
 unfolding ring_middle times_radius
-returns-in-Unit c =
-    simp (← c.add.ensures, ← c.normalize-n.ensures, c.in-Unit.is, ← c.mul_scalar.ensures)
+returns c =
+    simp (← c.add.ensures, ← c.normalize.ensures, c.in_ok-v.was, ← c.mul_scalar.ensures)

@@ -1,6 +1,5 @@
 use Rattle.draw_arcs.specs.Stances.{placement_of}
 use Rattle.draw_arcs.proofs.Pushing.{ring-run}
-use borrow.Author.Rules.{rules}
 use Rattle.draw_arcs.proofs.ring_points.Goals as goal
 
 pub returns : goal.returns

@@ -3,7 +3,6 @@ use native.Mathlib.Omega.{arith}
 use Rattle.draw_memory.specs.Memory.{outcome_of}
 use Rattle.draw_memory.proofs.Memories.{known-told, known_more}
 use Rattle.draw_clip.proofs.Clipping.{told-dropped, told-kept}
-use borrow.Author.Rules.{rules}
 use Rattle.draw_clip.proofs.end_filter.Goals as goal
 
 pub recall-c-requires : goal.recall-c-requires

@@ -1,10 +1,7 @@
-use Rattle.path_filter.proofs.Filtering.{Filtering, filtering-start, filtering-turn, filtering-refused, filtering-end}
-use Rattle.draw_memory.specs.Memory.{Remembered}
-use Rattle.draw_clip.specs.Clip.{clip_filter, seen_from, Prepared}
+use Rattle.std.proofs.lemmas.Result.{err_from_is_err_and}
+use Rattle.path_filter.proofs.Filtering.{filtering-start, filtering-turn, filtering-refused, filtering-end}
 use Prim.Native.Nat.{◌-◌}
 use mathlib.Core.Path.{sym, ◌∙◌}
-use native.Mathlib.Omega.{arith}
-use borrow.Author.Rules.{rules}
 use Rattle.draw_clip.proofs.filter_from.Goals as goal
 
 pub loop-i-init : goal.loop-i-init
@@ -19,49 +16,41 @@ pub point_filter-t-requires : goal.point_filter-t-requires
 point_filter-t-requires c =
     (c.loop-i.invariant.1, c.loop-i.invariant.2)
 
-pub step-r-requires : goal.step-r-requires
-step-r-requires c =
+pub step-requires : goal.step-requires
+step-requires c =
     (c.loop-i.invariant.0.fits, c.loop-i.invariant.0.fits-starts)
 
-pub shape_of-ends-in-Refused : goal.shape_of-ends-in-Refused
-shape_of-ends-in-Refused c =
+pub shape_of-ends-in_err-a : goal.shape_of-ends-in_err-a
+shape_of-ends-in_err-a c =
     let pre = c.requires in c.point_filter-t.ensures.1.wide ∙ sym pre.4.wide
 
-pub shape_of-known-in-Refused : goal.shape_of-known-in-Refused
-shape_of-known-in-Refused c =
+pub shape_of-known-in_err-a : goal.shape_of-known-in_err-a
+shape_of-known-in_err-a c =
     let pre = c.requires in c.point_filter-t.ensures.1.wide_known ∙ sym pre.4.wide_known
 
-pub shape_of-out-in-Refused : goal.shape_of-out-in-Refused
-shape_of-out-in-Refused c =
-    c.step-r.auto.out ∙ c.loop-i.invariant.0.same
+pub shape_of-out-in_err-a : goal.shape_of-out-in_err-a
+shape_of-out-in_err-a c =
+    c.step.auto.out ∙ c.loop-i.invariant.0.same
 
-pub shape_of-begins-in-Refused : goal.shape_of-begins-in-Refused
-shape_of-begins-in-Refused c =
-    c.step-r.auto.begins ∙ c.loop-i.invariant.0.same-starts
+pub shape_of-begins-in_err-a : goal.shape_of-begins-in_err-a
+shape_of-begins-in_err-a c =
+    c.step.auto.begins ∙ c.loop-i.invariant.0.same-starts
 
-pub shape_of-cover-in-Refused : goal.shape_of-cover-in-Refused
-shape_of-cover-in-Refused c =
+pub shape_of-cover-in_err-a : goal.shape_of-cover-in_err-a
+shape_of-cover-in_err-a c =
     let pre = c.requires in c.point_filter-t.ensures.2.kept.wide ∙ sym pre.5.kept.wide
 
-pub shape_of-stack-in-Refused : goal.shape_of-stack-in-Refused
-shape_of-stack-in-Refused c =
+pub shape_of-stack-in_err-a : goal.shape_of-stack-in_err-a
+shape_of-stack-in_err-a c =
     let pre = c.requires in c.point_filter-t.ensures.2.kept.wide_stack ∙ sym pre.5.kept.wide_stack
 
-pub returns-in-Refused : goal.returns-in-Refused
-returns-in-Refused c =
-    (filtering-refused _ _ _ _ _ _ _ _ _ _ _ _ _ c.loop-i.invariant.0 c.loop-i-test.true _ _ c.read_point-v.ensures c.point_filter-t.ensures.0 _ _ c.step-r.ensures c.in-Refused.is, c.point_filter-t.ensures.1, c.point_filter-t.ensures.2)
-
-pub overflow_add-i : goal.overflow_add-i
-overflow_add-i c =
-    let fits = c.ranges in omega (arith, c.loop-i-test.true, fits.end)
-
-pub loop-i-smaller : goal.loop-i-smaller
-loop-i-smaller c =
-    omega (arith, c.loop-i-test.true)
+pub returns-in_err-a : goal.returns-in_err-a
+returns-in_err-a c =
+    let p = err_from_is_err_and c.from_residual.result c.from_residual.ensures.1 in (rw (p.1, p.2) (filtering-refused _ _ _ _ _ _ _ _ _ _ _ _ _ c.loop-i.invariant.0 c.loop-i-test.true _ _ c.read_point-v.ensures c.point_filter-t.ensures.0 _ _ c.step.ensures c.in_err-a.was), c.point_filter-t.ensures.1, c.point_filter-t.ensures.2)
 
 pub loop-i-preserved : goal.loop-i-preserved
 loop-i-preserved c =
-    (filtering-turn _ _ _ _ _ _ _ _ _ _ _ _ _ c.loop-i.invariant.0 c.loop-i-test.true _ _ c.read_point-v.ensures c.point_filter-t.ensures.0 _ _ c.step-r.ensures c.step-r.auto.out c.step-r.auto.begins c.in-Both.is, c.point_filter-t.ensures.1, c.point_filter-t.ensures.2)
+    (filtering-turn _ _ _ _ _ _ _ _ _ _ _ _ _ c.loop-i.invariant.0 c.loop-i-test.true _ _ c.read_point-v.ensures c.point_filter-t.ensures.0 _ _ c.step.ensures c.step.auto.out c.step.auto.begins c.in_ok-a.was, c.point_filter-t.ensures.1, c.point_filter-t.ensures.2)
 
 pub shape_of-ends : goal.shape_of-ends
 shape_of-ends c =

@@ -1,3 +1,4 @@
+use Rattle.std.proofs.lemmas.Result.{err_from_is_err_and}
 use Rattle.draw_collect.proofs.Listing.{collecting-start, collecting-refused, collecting-turn, collecting-end}
 use lib.Seq.{length-take-le, get_or-take}
 use lib.ListN.{take}
@@ -17,33 +18,29 @@ pub bounds-listed-i : goal.bounds-listed-i
 bounds-listed-i c =
     let pre = c.requires in omega (arith, c.loop-i-test.true, pre.0)
 
-pub entry_paths-r-requires : goal.entry_paths-r-requires
-entry_paths-r-requires c =
+pub entry_paths-requires : goal.entry_paths-requires
+entry_paths-requires c =
     (c.loop-i.invariant.lent, record { enough = omega (arith, c.stance_of.ensures.1); most = omega (arith, c.stance_of.ensures.1) })
 
-pub shape_of-work-in-Refused : goal.shape_of-work-in-Refused
-shape_of-work-in-Refused c =
-    c.entry_paths-r.auto.work ∙ c.loop-i.invariant.same
+pub shape_of-work-in_err-p : goal.shape_of-work-in_err-p
+shape_of-work-in_err-p c =
+    c.entry_paths.auto.work ∙ c.loop-i.invariant.same
 
-pub shape_of-begins-in-Refused : goal.shape_of-begins-in-Refused
-shape_of-begins-in-Refused c =
-    c.entry_paths-r.auto.begins ∙ c.loop-i.invariant.same-starts
+pub shape_of-begins-in_err-p : goal.shape_of-begins-in_err-p
+shape_of-begins-in_err-p c =
+    c.entry_paths.auto.begins ∙ c.loop-i.invariant.same-starts
 
-pub shape_of-chopped-in-Refused : goal.shape_of-chopped-in-Refused
-shape_of-chopped-in-Refused c =
-    c.entry_paths-r.auto.chopped ∙ c.loop-i.invariant.same-chopped
+pub shape_of-chopped-in_err-p : goal.shape_of-chopped-in_err-p
+shape_of-chopped-in_err-p c =
+    c.entry_paths.auto.chopped ∙ c.loop-i.invariant.same-chopped
 
-pub shape_of-chopped_starts-in-Refused : goal.shape_of-chopped_starts-in-Refused
-shape_of-chopped_starts-in-Refused c =
-    c.entry_paths-r.auto.chopped_starts ∙ c.loop-i.invariant.same-chopped-starts
+pub shape_of-chopped_starts-in_err-p : goal.shape_of-chopped_starts-in_err-p
+shape_of-chopped_starts-in_err-p c =
+    c.entry_paths.auto.chopped_starts ∙ c.loop-i.invariant.same-chopped-starts
 
-pub returns-in-Refused : goal.returns-in-Refused
-returns-in-Refused c =
-    let args = c.args in let pre = c.requires in collecting-refused args.args args.wide args.many _ (take args.count args.listed.now) args.work.now args.begins.now args.chopped.now args.chopped_starts.now c.loop-i.work c.loop-i.begins c.loop-i.chopped c.loop-i.chopped_starts c.loop-i.p c.loop-i.q c.loop-i.i c.loop-i.invariant _ (omega (arith, c.loop-i-test.true, pre.0, length-take-le args.count args.listed.now pre.0)) (c.index.ensures.0 ∙ sym (get_or-take args.count args.listed.now c.loop-i.i 0 c.loop-i-test.true)) c.entry_paths-r.new.work c.entry_paths-r.new.begins c.stance_of.ensures.0 c.entry_paths-r.ensures c.in-Refused.is
-
-pub overflow_add-i : goal.overflow_add-i
-overflow_add-i c =
-    let fits = c.ranges in omega (arith, c.loop-i-test.true, fits.count)
+pub returns-in_err-p : goal.returns-in_err-p
+returns-in_err-p c =
+    let p = err_from_is_err_and c.from_residual.result c.from_residual.ensures.1 in rw (p.1, p.2) (let args = c.args in let pre = c.requires in collecting-refused args.args args.wide args.many _ (take args.count args.listed.now) args.work.now args.begins.now args.chopped.now args.chopped_starts.now c.loop-i.work c.loop-i.begins c.loop-i.chopped c.loop-i.chopped_starts c.loop-i.p c.loop-i.q c.loop-i.i c.loop-i.invariant _ (omega (arith, c.loop-i-test.true, pre.0, length-take-le args.count args.listed.now pre.0)) (c.index.ensures.0 ∙ sym (get_or-take args.count args.listed.now c.loop-i.i 0 c.loop-i-test.true)) c.entry_paths.new.work c.entry_paths.new.begins c.stance_of.ensures.0 c.entry_paths.ensures c.in_err-p.was)
 
 pub loop-i-smaller : goal.loop-i-smaller
 loop-i-smaller c =
@@ -53,9 +50,9 @@ pub loop-i-preserved : goal.loop-i-preserved
 loop-i-preserved c =
     let args = c.args in let pre = c.requires in collecting-turn args.args args.wide args.many _ (take args.count args.listed.now) args.work.now args.begins.now args.chopped.now args.chopped_starts.now c.loop-i.work c.loop-i.begins c.loop-i.chopped
     c.loop-i.chopped_starts c.loop-i.p c.loop-i.q c.loop-i.i c.loop-i.invariant _ (omega (arith, c.loop-i-test.true, pre.0, length-take-le args.count args.listed.now pre.0))
-    (c.index.ensures.0 ∙ sym (get_or-take args.count args.listed.now c.loop-i.i 0 c.loop-i-test.true)) c.entry_paths-r.new.work c.entry_paths-r.new.begins c.stance_of.ensures.0 c.entry_paths-r.ensures
-    c.in-Both.is _ _ c.entry_paths-r.auto.work c.entry_paths-r.auto.begins c.entry_paths-r.auto.chopped
-    c.entry_paths-r.auto.chopped_starts
+    (c.index.ensures.0 ∙ sym (get_or-take args.count args.listed.now c.loop-i.i 0 c.loop-i-test.true)) c.entry_paths.new.work c.entry_paths.new.begins c.stance_of.ensures.0 c.entry_paths.ensures
+    c.in_ok-p.was _ _ c.entry_paths.auto.work c.entry_paths.auto.begins c.entry_paths.auto.chopped
+    c.entry_paths.auto.chopped_starts
 
 pub shape_of-work : goal.shape_of-work
 shape_of-work c =

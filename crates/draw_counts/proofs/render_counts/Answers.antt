@@ -1,3 +1,4 @@
+use Rattle.std.proofs.lemmas.Result.{err_from_is_err_and}
 use mathlib.Core.Path.{sym, ◌∙◌}
 use mathlib.Core.List.{[]}
 use Prim.Native.Nat.{◌*◌, ◌/◌}
@@ -14,55 +15,55 @@ pub overflow_mul-wide : goal.overflow_mul-wide
 overflow_mul-wide c =
     let good = c.well_formed in omega (arith, good)
 
-pub all_paths-c-requires : goal.all_paths-c-requires
-all_paths-c-requires c =
+pub all_paths-requires : goal.all_paths-requires
+all_paths-requires c =
     let pre = c.requires in (pre.1.upto, record { long = omega arith; broad = omega arith; points_fit = omega arith; starts_fit = omega arith })
 
 pub slice_bounds-stage_counts-end : goal.slice_bounds-stage_counts-end
 slice_bounds-stage_counts-end c =
-    omega (arith, c.all_paths-c.auto.work)
+    omega (arith, c.all_paths.auto.work)
 
-pub slice_bounds-stage_counts-end-in-Both : goal.slice_bounds-stage_counts-end-in-Both
-slice_bounds-stage_counts-end-in-Both c =
-    sym (length-take-le _ c.all_paths-c.new.work (omega (arith, c.all_paths-c.auto.work)))
+pub slice_bounds-stage_counts-end-2 : goal.slice_bounds-stage_counts-end-2
+slice_bounds-stage_counts-end-2 c =
+    sym (length-take-le _ c.all_paths.new.work (omega (arith, c.all_paths.auto.work)))
 
-pub slice_bounds-stage_counts-end-in-Both-2 : goal.slice_bounds-stage_counts-end-in-Both-2
-slice_bounds-stage_counts-end-in-Both-2 c =
-    omega (arith, c.all_paths-c.auto.begins)
+pub slice_bounds-stage_counts-end-3 : goal.slice_bounds-stage_counts-end-3
+slice_bounds-stage_counts-end-3 c =
+    omega (arith, c.all_paths.auto.begins)
 
-pub slice_bounds-stage_counts-end-in-Both-3 : goal.slice_bounds-stage_counts-end-in-Both-3
-slice_bounds-stage_counts-end-in-Both-3 c =
-    sym (length-take-le _ c.all_paths-c.new.begins (omega (arith, c.all_paths-c.auto.begins)))
+pub slice_bounds-stage_counts-end-4 : goal.slice_bounds-stage_counts-end-4
+slice_bounds-stage_counts-end-4 c =
+    sym (length-take-le _ c.all_paths.new.begins (omega (arith, c.all_paths.auto.begins)))
 
 pub stage_counts-requires : goal.stage_counts-requires
 stage_counts-requires c =
-    let pre = c.requires in (pre.0, pre.1, (c.all_paths-c.ensures.fits _ _ c.in-Both.is).0, (c.all_paths-c.ensures.fits _ _ c.in-Both.is).1)
+    let pre = c.requires in (pre.0, pre.1, (c.all_paths.ensures.fits _ _ c.in_ok-n.was).0, (c.all_paths.ensures.fits _ _ c.in_ok-n.was).1)
 
-pub returns-in-Refused : goal.returns-in-Refused
-returns-in-Refused c =
-    let args = c.args in refusal-counted (whole-ends _ _ _ _ _ _ (lines-refused args.threshold args.view _ _ args.chopped.now args.chopped_starts.now args.node_boxes.now args.node_marks.now args.order.now (blank args.out) (blank_starts args.begins)
+pub returns-in_err-n : goal.returns-in_err-n
+returns-in_err-n c =
+    let p = err_from_is_err_and c.from_residual.result c.from_residual.ensures.1 in rw (p.1, p.2) (let args = c.args in refusal-counted (whole-ends _ _ _ _ _ _ (lines-refused args.threshold args.view _ _ args.chopped.now args.chopped_starts.now args.node_boxes.now args.node_marks.now args.order.now (blank args.out) (blank_starts args.begins)
     args.numbers.now args.inverses.now args.marks.now args.points.now args.starts.now args.owners.now (box_at args.boxes.now) (take args.count args.listed.now) (take args.count args.listed.now)
-    c.args-2.ensures c.all_paths-c.new.work c.all_paths-c.new.begins c.all_paths-c.ensures c.in-Refused.is [] []))
+    c.args-2.ensures c.all_paths.new.work c.all_paths.new.begins c.all_paths.ensures c.in_err-n.was [] [])))
 
-pub shape_of-work-in-Both : goal.shape_of-work-in-Both
-shape_of-work-in-Both c =
-    let args = c.args in length_front c.all_paths-c.new.work c.stage_counts.new.work (length args.work.now / 24 * 3) c.stage_counts.auto.work ∙ c.all_paths-c.auto.work
+pub shape_of-work : goal.shape_of-work
+shape_of-work c =
+    let args = c.args in length_front c.all_paths.new.work c.stage_counts.new.work (length args.work.now / 24 * 3) c.stage_counts.auto.work ∙ c.all_paths.auto.work
 
-pub shape_of-work_starts-in-Both : goal.shape_of-work_starts-in-Both
-shape_of-work_starts-in-Both c =
-    let args = c.args in length_front c.all_paths-c.new.begins c.stage_counts.new.work_starts (length args.work_starts.now / 8) c.stage_counts.auto.work_starts ∙ c.all_paths-c.auto.begins
+pub shape_of-work_starts : goal.shape_of-work_starts
+shape_of-work_starts c =
+    let args = c.args in length_front c.all_paths.new.begins c.stage_counts.new.work_starts (length args.work_starts.now / 8) c.stage_counts.auto.work_starts ∙ c.all_paths.auto.begins
 
-pub shape_of-chopped-in-Both : goal.shape_of-chopped-in-Both
-shape_of-chopped-in-Both c =
-    c.stage_counts.auto.chopped ∙ c.all_paths-c.auto.chopped
+pub shape_of-chopped : goal.shape_of-chopped
+shape_of-chopped c =
+    c.stage_counts.auto.chopped ∙ c.all_paths.auto.chopped
 
-pub shape_of-chopped_starts-in-Both : goal.shape_of-chopped_starts-in-Both
-shape_of-chopped_starts-in-Both c =
-    c.stage_counts.auto.chopped_starts ∙ c.all_paths-c.auto.chopped_starts
+pub shape_of-chopped_starts : goal.shape_of-chopped_starts
+shape_of-chopped_starts c =
+    c.stage_counts.auto.chopped_starts ∙ c.all_paths.auto.chopped_starts
 
-pub returns-in-Both : goal.returns-in-Both
-returns-in-Both c =
+pub returns : goal.returns
+returns c =
     let args = c.args in sheet-counted args.threshold args.view _ _ args.chopped.now args.chopped_starts.now args.node_boxes.now args.node_marks.now args.order.now (blank args.out) (blank_starts args.begins)
     args.numbers.now args.inverses.now args.marks.now args.points.now args.starts.now args.owners.now (box_at args.boxes.now) (take args.count args.listed.now)
-    c.args-2.ensures c.all_paths-c.new.work c.all_paths-c.new.begins c.all_paths-c.ensures c.in-Both.is
-    (omega (arith, c.all_paths-c.auto.work)) (omega (arith, c.all_paths-c.auto.begins)) c.all_paths-c.new.chopped c.all_paths-c.new.chopped_starts c.all_paths-c.auto.chopped c.all_paths-c.auto.chopped_starts c.stage_counts.ensures
+    c.args-2.ensures c.all_paths.new.work c.all_paths.new.begins c.all_paths.ensures c.in_ok-n.was
+    (omega (arith, c.all_paths.auto.work)) (omega (arith, c.all_paths.auto.begins)) c.all_paths.new.chopped c.all_paths.new.chopped_starts c.all_paths.auto.chopped c.all_paths.auto.chopped_starts c.stage_counts.ensures

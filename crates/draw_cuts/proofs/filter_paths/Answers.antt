@@ -1,13 +1,9 @@
-use Rattle.paths.proofs.Stages.{Staging, staging-start, staging-turn, staging-refused, staging-end}
+use Rattle.std.proofs.lemmas.Result.{err_from_is_err_and}
+use Rattle.paths.proofs.Stages.{staging-start, staging-turn, staging-refused, staging-end}
 use Rattle.paths.proofs.Parts.{range-fits}
-use Rattle.scene_shape.specs.Shapes.{decode}
 use Rattle.path_filter.specs.Filter.{path_filter}
-use Rattle.draw_cuts.specs.Cuts.{cut_filter}
-use lib.ListN.{length}
 use Prim.Native.Nat.{◌-◌}
 use mathlib.Core.Path.{◌∙◌}
-use native.Mathlib.Omega.{arith}
-use borrow.Author.Rules.{rules}
 use Rattle.draw_cuts.proofs.filter_paths.Goals as goal
 
 pub loop-i-init : goal.loop-i-init
@@ -18,34 +14,26 @@ pub range_of-p-requires : goal.range_of-p-requires
 range_of-p-requires c =
     c.loop-i-test.true
 
-pub path_filter-r-requires : goal.path_filter-r-requires
-path_filter-r-requires c =
+pub path_filter-requires : goal.path_filter-requires
+path_filter-requires c =
     let args = c.args in let w = range-fits args.path.now args.starts.now c.loop-i.i c.range_of-p.result c.range_of-p.ensures in
     (w.0, w.1, c.loop-i.invariant.fits, c.loop-i.invariant.fits-starts)
 
-pub shape_of-out-in-Refused : goal.shape_of-out-in-Refused
-shape_of-out-in-Refused c =
-    c.path_filter-r.auto.out ∙ c.loop-i.invariant.same
+pub shape_of-out-in_err-n : goal.shape_of-out-in_err-n
+shape_of-out-in_err-n c =
+    c.path_filter.auto.out ∙ c.loop-i.invariant.same
 
-pub shape_of-begins-in-Refused : goal.shape_of-begins-in-Refused
-shape_of-begins-in-Refused c =
-    c.path_filter-r.auto.begins ∙ c.loop-i.invariant.same-starts
+pub shape_of-begins-in_err-n : goal.shape_of-begins-in_err-n
+shape_of-begins-in_err-n c =
+    c.path_filter.auto.begins ∙ c.loop-i.invariant.same-starts
 
-pub returns-in-Refused : goal.returns-in-Refused
-returns-in-Refused c =
-    staging-refused _ _ _ _ _ _ _ _ _ _ c.loop-i.invariant c.loop-i-test.true _ c.range_of-p.ensures _ _ c.path_filter-r.ensures c.in-Refused.is
-
-pub overflow_add-i : goal.overflow_add-i
-overflow_add-i c =
-    let good = c.well_formed in omega (arith, c.loop-i-test.true, good.1.1.1.1.1.1.0)
-
-pub loop-i-smaller : goal.loop-i-smaller
-loop-i-smaller c =
-    omega (arith, c.loop-i-test.true)
+pub returns-in_err-n : goal.returns-in_err-n
+returns-in_err-n c =
+    let p = err_from_is_err_and c.from_residual.result c.from_residual.ensures.1 in rw (p.1, p.2) (staging-refused _ _ _ _ _ _ _ _ _ _ c.loop-i.invariant c.loop-i-test.true _ c.range_of-p.ensures _ _ c.path_filter.ensures c.in_err-n.was)
 
 pub loop-i-preserved : goal.loop-i-preserved
 loop-i-preserved c =
-    staging-turn _ _ _ _ _ _ _ _ _ _ c.loop-i.invariant c.loop-i-test.true _ c.range_of-p.ensures _ _ c.path_filter-r.ensures c.path_filter-r.auto.out c.path_filter-r.auto.begins c.in-Both.is
+    staging-turn _ _ _ _ _ _ _ _ _ _ c.loop-i.invariant c.loop-i-test.true _ c.range_of-p.ensures _ _ c.path_filter.ensures c.path_filter.auto.out c.path_filter.auto.begins c.in_ok-n.was
 
 pub shape_of-out : goal.shape_of-out
 shape_of-out c =

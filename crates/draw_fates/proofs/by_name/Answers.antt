@@ -1,17 +1,18 @@
+use Rattle.std.proofs.lemmas.Result.{err_from_is_err_and}
 use Rattle.draw_fates.specs.Fates.{by_name}
 use Rattle.draw_fates.proofs.by_name.Goals as goal
 
-pub returns-in-Clear : goal.returns-in-Clear
+pub returns-in-None : goal.returns-in-None
 unfolding by_name
-returns-in-Clear c =
-    rw c.in-Clear.is
+returns-in-None c =
+    rw (c.in_ok-o.was, c.in-None.is)
 
-pub returns-in-Hidden : goal.returns-in-Hidden
+pub returns-in-Some : goal.returns-in-Some
 unfolding by_name
-returns-in-Hidden c =
-    rw c.in-Hidden.is
+returns-in-Some c =
+    rw (c.in_ok-o.was, c.in-Some.is)
 
-pub returns-in-Refused : goal.returns-in-Refused
+pub returns-in_err-o : goal.returns-in_err-o
 unfolding by_name
-returns-in-Refused c =
-    rw c.in-Refused.is
+returns-in_err-o c =
+    let p = err_from_is_err_and c.from_residual.result c.from_residual.ensures.1 in rw (p.1, p.2) (rw c.in_err-o.was)

@@ -10,6 +10,3 @@ use Rattle.draw_fates.proofs.tell.Given as goal
 
 abbrev pub invariant-loop-k : goal.invariant-loop-k
 invariant-loop-k l = Copied (padded 0 (length l.initial.told) (words_by l.matrix (hides (λ (r : Ray). walk_rows (entry_hit l.numbers l.inverses l.marks r) r l.node_boxes l.node_marks l.order) l.eye) l.n l.tested)) l.initial.told (length l.initial.told) l.told l.k
-
-abbrev pub decreases-loop-k : goal.decreases-loop-k
-decreases-loop-k l = length l.initial.told - l.k

@@ -7,22 +7,22 @@ pub overflow_add-result : goal.overflow_add-result
 overflow_add-result c =
     omega (arith, word_fits _ _ c.number-n.ensures)
 
-pub returns-in-Clipped : goal.returns-in-Clipped
+pub returns-in-Ok-Clipped : goal.returns-in-Ok-Clipped
 unfolding fate_word
-returns-in-Clipped c =
-    rw c.in-Clipped.is
+returns-in-Ok-Clipped c =
+    let a = c.in-Ok-Clipped in rw (a.is, rw a.is at a.field-0-is)
 
-pub returns-in-Visible : goal.returns-in-Visible
+pub returns-in-Ok-Visible : goal.returns-in-Ok-Visible
 unfolding fate_word
-returns-in-Visible c =
-    rw c.in-Visible.is
+returns-in-Ok-Visible c =
+    let a = c.in-Ok-Visible in rw (a.is, rw a.is at a.field-0-is)
 
-pub returns-in-Hidden : goal.returns-in-Hidden
+pub returns-in-Ok-Hidden : goal.returns-in-Ok-Hidden
 unfolding fate_word
-returns-in-Hidden c =
-    rw c.in-Hidden.is
+returns-in-Ok-Hidden c =
+    let a = c.in-Ok-Hidden in rw (a.is, rw a.is at a.field-0-is)
 
-pub returns-in-Refused : goal.returns-in-Refused
+pub returns-in-Err : goal.returns-in-Err
 unfolding fate_word
-returns-in-Refused c =
-    rw (c.in-Refused.is, c.number-n.ensures)
+returns-in-Err c =
+    rw (c.in-Err.is, c.number-n.ensures)

@@ -1,17 +1,9 @@
-use Rattle.draw_lines.proofs.Adding.{Adding, adding-start, adding-turn, adding-refused, adding-end}
-use Rattle.draw_lines.proofs.Owning.{ownLeft, own_turn, own-end}
+use Rattle.draw_lines.proofs.Adding.{Adding}
+use Rattle.draw_lines.proofs.Owning.{ownLeft}
 use Rattle.draw_lines.specs.Lines.{own_paths}
 use Rattle.paths.specs.Paths.{paths_of}
 use Rattle.paths.specs.Ends.{all_points}
-use lib.ListN.{length}
-use mathlib.Core.Path.{refl, ◌∙◌}
-use Prim.Native.Nat.{◌-◌}
-use native.Mathlib.Omega.{arith}
-use borrow.Author.Rules.{rules}
 use Rattle.draw_lines.proofs.handed_paths.Given as goal
 
 abbrev pub invariant-loop-j : goal.invariant-loop-j
 invariant-loop-j l = Adding (own_paths l.i (paths_of (all_points l.points) l.starts) l.owners) l.initial.out l.initial.begins l.n l.m (ownLeft l.i (all_points l.points) l.starts l.owners l.j) l.out l.begins l.p l.q
-
-abbrev pub decreases-loop-j : goal.decreases-loop-j
-decreases-loop-j l = length l.starts - l.j

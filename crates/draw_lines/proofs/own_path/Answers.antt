@@ -5,7 +5,6 @@ use Rattle.paths.specs.Ends.{all_points}
 use mathlib.Core.Path.{sym, ap, ◌∙◌}
 use mathlib.Core.List.{List, [], ◌∷◌}
 use Rattle.geometry.specs.declared.vector.Vector.{Vector}
-use borrow.Author.Rules.{rules}
 use Rattle.draw_lines.proofs.own_path.Goals as goal
 
 pub returns-then-not-owned : goal.returns-then-not-owned

@@ -1,6 +1,5 @@
 use borrow.Author.Tests.{lt-ltb, le-ltb}
 use Rattle.draw_lines.specs.Lines.{owned_by}
-use borrow.Author.Rules.{rules}
 use Rattle.draw_lines.proofs.owned.Goals as goal
 
 pub returns-then-j-owners : goal.returns-then-j-owners

@@ -1,14 +1,8 @@
-use Rattle.draw_lines.proofs.Adding.{Adding, adding-start, adding-turn, adding-refused, adding-last}
-use Rattle.draw_lines.proofs.Stripes.{stripes_left, stripes-start, stripes-turn, stripes-last}
+use Rattle.draw_lines.proofs.Adding.{Adding}
+use Rattle.draw_lines.proofs.Stripes.{stripes_left}
 use Rattle.draw_lines.specs.Cubes.{paths_striped}
-use mathlib.Core.Path.{◌∙◌}
-use Prim.Native.Nat.{◌-◌, ◌≤◌}
-use native.Mathlib.Omega.{arith}
-use borrow.Author.Rules.{rules}
+use Prim.Native.Nat.{◌≤◌}
 use Rattle.draw_lines.proofs.paths_striped.Given as goal
 
 abbrev pub invariant-loop-i : goal.invariant-loop-i
 invariant-loop-i l = Adding (paths_striped l.min l.max l.stripes) l.initial.out l.initial.begins l.n l.m (stripes_left l.min l.max l.stripes l.i) l.out l.begins l.p l.q × (l.i ≤ l.stripes)
-
-abbrev pub decreases-loop-i : goal.decreases-loop-i
-decreases-loop-i l = l.stripes - l.i

@@ -1,7 +1,6 @@
 use Rattle.draw_lines.proofs.Adding.{adds_then, adds-as}
 use mathlib.Core.Path.{◌∙◌}
 use Rattle.draw_lines.specs.Cubes.{sides}
-use borrow.Author.Rules.{rules}
 use Rattle.draw_lines.proofs.sides.Goals as goal
 
 pub line-c1-requires : goal.line-c1-requires

@@ -1,10 +1,9 @@
 use Rattle.draw_lines.proofs.Adding.{adds_then, fit-both}
 use mathlib.Core.Path.{◌∙◌}
 use borrow.Author.Tests.{eq-eqb, ne_eqb}
-use Rattle.paths.specs.declared.Counts.TheVariants.{Both}
 use Rattle.draw_lines.specs.Cubes.{stripe}
-use borrow.Author.Rules.{rules}
 use Rattle.draw_lines.proofs.stripe.Goals as goal
+use Rattle.std.specs.Prelude.{Ok}
 
 pub sides-c-requires : goal.sides-c-requires
 sides-c-requires c =
@@ -25,7 +24,7 @@ shape_of-begins-then-i-stripes c =
 pub returns-then-i-stripes : goal.returns-then-i-stripes
 unfolding stripe
 returns-then-i-stripes c =
-    let args = c.args in rw (ne_eqb _ _ c.if-i-stripes.true, ← c.stripe_at-s.ensures) (adds_then _ _ (Both args.n args.m) args.out.now args.begins.now _ _ _ _ c.sides-c.ensures c.sides-c.auto.out c.sides-c.auto.begins c.faces.ensures).ends
+    let args = c.args in rw (ne_eqb _ _ c.if-i-stripes.true, ← c.stripe_at-s.ensures) (adds_then _ _ (Ok (args.n, args.m)) args.out.now args.begins.now _ _ _ _ c.sides-c.ensures c.sides-c.auto.out c.sides-c.auto.begins c.faces.ensures).ends
 
 pub faces-requires-2 : goal.faces-requires-2
 faces-requires-2 c =

@@ -1,6 +1,5 @@
 use mathlib.Core.Path.{refl}
 use Rattle.draw_lines.specs.Cubes.{stripe_at}
-use borrow.Author.Rules.{rules}
 use Rattle.draw_lines.proofs.stripe_at.Goals as goal
 
 pub returns : goal.returns

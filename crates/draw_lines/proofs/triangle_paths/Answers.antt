@@ -3,7 +3,6 @@ use mathlib.Core.Path.{refl}
 use mathlib.Core.List.{[], ◌∷◌}
 use Rattle.rows.specs.Rows.{view}
 use Rattle.draw_lines.specs.Lines.{triangle_paths}
-use borrow.Author.Rules.{rules}
 use Rattle.draw_lines.proofs.triangle_paths.Goals as goal
 
 pub returns : goal.returns

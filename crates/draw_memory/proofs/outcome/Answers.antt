@@ -1,17 +1,17 @@
 use Rattle.draw_memory.specs.Memory.{outcome_of}
 use Rattle.draw_memory.proofs.outcome.Goals as goal
 
-pub returns-in-Keep : goal.returns-in-Keep
+pub returns-in-Ok-Some : goal.returns-in-Ok-Some
 unfolding outcome_of
-returns-in-Keep c =
-    rw c.in-Keep.is
+returns-in-Ok-Some c =
+    let a = c.in-Ok-Some in rw (a.is, rw a.is at a.field-0-is)
 
-pub returns-in-Drop : goal.returns-in-Drop
+pub returns-in-Ok-None : goal.returns-in-Ok-None
 unfolding outcome_of
-returns-in-Drop c =
-    rw c.in-Drop.is
+returns-in-Ok-None c =
+    let a = c.in-Ok-None in rw (a.is, rw a.is at a.field-0-is)
 
-pub returns-in-Refused : goal.returns-in-Refused
+pub returns-in-Err : goal.returns-in-Err
 unfolding outcome_of
-returns-in-Refused c =
-    rw c.in-Refused.is
+returns-in-Err c =
+    rw c.in-Err.is

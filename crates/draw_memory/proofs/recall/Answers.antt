@@ -11,25 +11,9 @@ pub read_point-requires : goal.read_point-requires
 read_point-requires c =
     let pre = c.requires in omega (arith, c.loop-k-test.true, pre.0)
 
-pub offset_bounds-known-k : goal.offset_bounds-known-k
-offset_bounds-known-k c =
-    let pre = c.requires in omega (arith, c.loop-k-test.true, pre.1)
-
-pub bounds-known-k : goal.bounds-known-k
-bounds-known-k c =
-    let pre = c.requires in omega (arith, c.loop-k-test.true, pre.1)
-
 pub returns-then-same_point : goal.returns-then-same_point
 returns-then-same_point c =
     record { value = recall-found _ _ _ _ c.loop-k.invariant.1 c.loop-k-test.true _ c.read_point.ensures _ c.same_point.ensures.value c.if-same_point.true; recalled = λ h. record { place = c.loop-k.k; there = c.loop-k-test.true; same = sym c.read_point.ensures ∙ c.same_point.ensures.a_value c.if-same_point.true; is = refl } }
-
-pub overflow_add-k : goal.overflow_add-k
-overflow_add-k c =
-    omega (arith, c.loop-k-test.true)
-
-pub loop-k-smaller : goal.loop-k-smaller
-loop-k-smaller c =
-    omega (arith, c.loop-k-test.true)
 
 pub loop-k-preserved : goal.loop-k-preserved
 loop-k-preserved c =

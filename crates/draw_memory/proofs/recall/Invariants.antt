@@ -5,6 +5,3 @@ use Rattle.draw_memory.proofs.recall.Given as goal
 
 abbrev pub invariant-loop-k : goal.invariant-loop-k
 invariant-loop-k l = (l.k ≤ 8) × (recalled_from l.ends l.known l.v (8 - l.k) l.k ≡ recalled l.ends l.known l.v)
-
-abbrev pub decreases-loop-k : goal.decreases-loop-k
-decreases-loop-k l = 8 - l.k

@@ -1,7 +1,6 @@
 use Rattle.draw_arcs.specs.Stances.{placement_of}
 use Rattle.draw_lines.proofs.Adding.{adds_then, adds-as}
 use Rattle.draw_outlines.specs.Outlines.{cone_outline}
-use borrow.Author.Rules.{rules}
 use Rattle.draw_outlines.proofs.cone_outline.Goals as goal
 
 pub returns-then-e-k : goal.returns-then-e-k

@@ -2,7 +2,6 @@ use Rattle.draw_arcs.specs.Stances.{placement_of}
 use Rattle.draw_lines.proofs.Adding.{adds_then, adds-as}
 use mathlib.Core.Path.{◌∙◌}
 use Rattle.draw_outlines.specs.Outlines.{cylinder_outline}
-use borrow.Author.Rules.{rules}
 use Rattle.draw_outlines.proofs.cylinder_outline.Goals as goal
 
 pub returns-then-e-r : goal.returns-then-e-r

@@ -3,7 +3,6 @@ use Rattle.draw_lines.proofs.Adding.{adds-as}
 use Rattle.draw_arcs.proofs.Pushing.{adds_none}
 use mathlib.Core.List.{[]}
 use Rattle.draw_outlines.specs.Outlines.{outline_of}
-use borrow.Author.Rules.{rules}
 use Rattle.draw_outlines.proofs.outline.Goals as goal
 
 pub returns-in-Sphere : goal.returns-in-Sphere

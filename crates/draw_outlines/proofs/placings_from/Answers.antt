@@ -1,6 +1,5 @@
-use Rattle.draw_outlines.proofs.Reading.{Reading, reading-start, reading-turn, reading-end}
+use Rattle.draw_outlines.proofs.Reading.{reading-start, reading-turn, reading-end}
 use native.Mathlib.Omega.{arith}
-use borrow.Author.Rules.{rules}
 use Rattle.draw_outlines.proofs.placings_from.Goals as goal
 
 pub loop-k-init : goal.loop-k-init

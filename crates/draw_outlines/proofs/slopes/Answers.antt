@@ -1,6 +1,5 @@
 use Rattle.draw_lines.proofs.Adding.{adds_then, adds-as}
 use Rattle.draw_outlines.specs.Outlines.{slopes}
-use borrow.Author.Rules.{rules}
 use Rattle.draw_outlines.proofs.slopes.Goals as goal
 
 pub returns : goal.returns

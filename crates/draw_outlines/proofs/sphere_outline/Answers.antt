@@ -3,7 +3,6 @@ use Rattle.draw_lines.proofs.Adding.{adds-as}
 use Rattle.draw_arcs.proofs.Pushing.{adds_none}
 use mathlib.Core.List.{[]}
 use Rattle.draw_outlines.specs.Outlines.{sphere_outline}
-use borrow.Author.Rules.{rules}
 use Rattle.draw_outlines.proofs.sphere_outline.Goals as goal
 
 pub returns-then-r-h : goal.returns-then-r-h

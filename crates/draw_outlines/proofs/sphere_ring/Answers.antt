@@ -1,5 +1,4 @@
 use Rattle.draw_rings.specs.Spheres.{sphere_ring}
-use borrow.Author.Rules.{rules}
 use Rattle.draw_outlines.proofs.sphere_ring.Goals as goal
 
 pub returns : goal.returns

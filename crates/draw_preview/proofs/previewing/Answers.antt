@@ -1,3 +1,4 @@
+use Rattle.std.proofs.lemmas.Result.{err_from_is_err_and}
 use mathlib.Core.List.{[]}
 use Prim.Native.Nat.{◌*◌, ◌/◌}
 use lib.ListN.{length}
@@ -11,31 +12,31 @@ pub returns-then-not-is_ok : goal.returns-then-not-is_ok
 returns-then-not-is_ok c =
     let args = c.args in let s = scene_of args.numbers.now args.marks.now args.points.now args.starts.now args.owners.now in
     let w = places_for (length args.work.now / 24 * 3) (length args.work_starts.now / 8) args.chopped.now args.chopped_starts.now args.node_boxes.now args.node_marks.now args.order.now args.out args.begins in
-    refusal-counted (view-refused args.threshold s _ c.check-v.ensures.verdict args.view w c.in-Accepted.is c.is_ok.ensures c.if-not-is_ok.true [] [])
+    refusal-counted (view-refused args.threshold s _ c.check.ensures.verdict args.view w c.in_ok-n.was c.is_ok.ensures c.if-not-is_ok.true [] [])
 
 pub returns-then-not-threshold_ok : goal.returns-then-not-threshold_ok
 returns-then-not-threshold_ok c =
     let args = c.args in let s = scene_of args.numbers.now args.marks.now args.points.now args.starts.now args.owners.now in
     let w = places_for (length args.work.now / 24 * 3) (length args.work_starts.now / 8) args.chopped.now args.chopped_starts.now args.node_boxes.now args.node_marks.now args.order.now args.out args.begins in
-    refusal-counted (threshold-refused args.threshold s _ c.check-v.ensures.verdict args.view w c.in-Accepted.is c.is_ok.ensures c.if-not-is_ok.false c.threshold_ok.ensures c.if-not-threshold_ok.true [] [])
+    refusal-counted (threshold-refused args.threshold s _ c.check.ensures.verdict args.view w c.in_ok-n.was c.is_ok.ensures c.if-not-is_ok.false c.threshold_ok.ensures c.if-not-threshold_ok.true [] [])
 
 pub render_counts-requires : goal.render_counts-requires
 render_counts-requires c =
     let args = c.args in let s = scene_of args.numbers.now args.marks.now args.points.now args.starts.now args.owners.now in
     let w = places_for (length args.work.now / 24 * 3) (length args.work_starts.now / 8) args.chopped.now args.chopped_starts.now args.node_boxes.now args.node_marks.now args.order.now args.out args.begins in (
       threshold-fine args.threshold c.threshold_ok.ensures c.if-not-threshold_ok.false,
-      scene-listed args.threshold s _ c.check-v.ensures.verdict args.view w c.in-Accepted.is 6144 1024 c.check-v.new.boxes c.check-v.ensures.boxes_are c.check-v.new.drawn c.check-v.ensures.drawn_are,
+      scene-listed args.threshold s _ c.check.ensures.verdict args.view w c.in_ok-n.was 6144 1024 c.check.new.boxes c.check.ensures.boxes_are c.check.new.drawn c.check.ensures.drawn_are,
     )
 
-pub returns-in-Refused : goal.returns-in-Refused
-returns-in-Refused c =
-    let args = c.args in let s = scene_of args.numbers.now args.marks.now args.points.now args.starts.now args.owners.now in
+pub returns-in_err-n : goal.returns-in_err-n
+returns-in_err-n c =
+    let p = err_from_is_err_and c.from_residual.result c.from_residual.ensures.1 in rw (p.1, p.2) (let args = c.args in let s = scene_of args.numbers.now args.marks.now args.points.now args.starts.now args.owners.now in
     let w = places_for (length args.work.now / 24 * 3) (length args.work_starts.now / 8) args.chopped.now args.chopped_starts.now args.node_boxes.now args.node_marks.now args.order.now args.out args.begins in
-    refusal-counted (scene-refused args.threshold s _ c.check-v.ensures.verdict args.view w c.in-Refused.is [] [])
+    refusal-counted (scene-refused args.threshold s _ c.check.ensures.verdict args.view w c.in_err-n.was [] []))
 
-pub returns-else-not-threshold_ok : goal.returns-else-not-threshold_ok
-returns-else-not-threshold_ok c =
+pub returns : goal.returns
+returns c =
     let args = c.args in let s = scene_of args.numbers.now args.marks.now args.points.now args.starts.now args.owners.now in
     let w = places_for (length args.work.now / 24 * 3) (length args.work_starts.now / 8) args.chopped.now args.chopped_starts.now args.node_boxes.now args.node_marks.now args.order.now args.out args.begins in
-    as-counted (drawn-as args.threshold s _ c.check-v.ensures.verdict args.view w c.in-Accepted.is 6144 1024 c.check-v.new.boxes c.check-v.ensures.boxes_are c.check-v.new.drawn c.check-v.ensures.drawn_are
-    16384 c.check-v.new.inverses c.check-v.ensures.inverses_are c.is_ok.ensures c.if-not-is_ok.false c.threshold_ok.ensures c.if-not-threshold_ok.false) c.render_counts.ensures
+    as-counted (drawn-as args.threshold s _ c.check.ensures.verdict args.view w c.in_ok-n.was 6144 1024 c.check.new.boxes c.check.ensures.boxes_are c.check.new.drawn c.check.ensures.drawn_are
+    16384 c.check.new.inverses c.check.ensures.inverses_are c.is_ok.ensures c.if-not-is_ok.false c.threshold_ok.ensures c.if-not-threshold_ok.false) c.render_counts.ensures

@@ -1,4 +1,4 @@
-use borrow.Author.Tests.{eq-eqb, ne_eqb, lt-ltb, le-ltb}
+use borrow.Author.Tests.{eq-eqb, ne_eqb}
 use Rattle.draw_shown.specs.Shown.{no_stripes}
 use Rattle.draw_shown.proofs.no_stripes.Goals as goal
 

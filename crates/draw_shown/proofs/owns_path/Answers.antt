@@ -1,8 +1,5 @@
-use Rattle.draw_shown.proofs.Showing.{Owning, owning-start, owning-turn, owning-found, owning-none}
-use lib.ListN.{length}
-use Prim.Native.Nat.{◌-◌}
+use Rattle.draw_shown.proofs.Showing.{owning-start, owning-turn, owning-found, owning-none}
 use native.Mathlib.Omega.{arith}
-use borrow.Author.Rules.{rules}
 use Rattle.draw_shown.proofs.owns_path.Goals as goal
 
 pub loop-j-init : goal.loop-j-init
@@ -12,10 +9,6 @@ loop-j-init c =
 pub returns-then-owned : goal.returns-then-owned
 returns-then-owned c =
     let args = c.args in owning-found args.starts.now args.owners.now args.i c.loop-j.j c.loop-j.invariant c.loop-j-test.true c.owned.ensures c.if-owned.true
-
-pub overflow_add-j : goal.overflow_add-j
-overflow_add-j c =
-    omega (arith, c.loop-j-test.true, c.well_formed)
 
 pub loop-j-smaller : goal.loop-j-smaller
 loop-j-smaller c =

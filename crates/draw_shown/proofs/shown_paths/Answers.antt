@@ -3,7 +3,6 @@ use Rattle.draw_shown.proofs.Showing.{shows-own, shows-striped, shows-outline}
 use Rattle.paths.specs.Paths.{paths_of}
 use Rattle.paths.specs.Ends.{all_points}
 use Rattle.draw_lines.specs.Lines.{own_paths}
-use borrow.Author.Rules.{rules}
 use Rattle.draw_shown.proofs.shown_paths.Goals as goal
 
 pub returns-then-owns_path : goal.returns-then-owns_path

@@ -1,5 +1,3 @@
-use borrow.Author.Rules.{rules}
-use mathlib.Core.Path.{refl}
 use Rattle.draw_shown.specs.Shown.{stripeless}
 use Rattle.draw_shown.proofs.stripeless.Goals as goal
 

@@ -2,7 +2,6 @@ use Rattle.draw_lines.proofs.Adding.{add_nothing}
 use Rattle.draw_solids.proofs.Spacing.{uncounted, too_many, counted, step-one}
 use native.Mathlib.Nat.{div-le_self}
 use native.Mathlib.Omega.{arith}
-use borrow.Author.Rules.{rules}
 use Rattle.draw_solids.proofs.round_striped.Goals as goal
 
 pub returns-then-count-eq0 : goal.returns-then-count-eq0

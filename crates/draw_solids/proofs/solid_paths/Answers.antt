@@ -1,5 +1,4 @@
 use Rattle.draw_solids.specs.Lines.{solid_paths}
-use borrow.Author.Rules.{rules}
 use Rattle.draw_solids.proofs.solid_paths.Goals as goal
 
 pub returns-in-Sphere : goal.returns-in-Sphere

@@ -1,12 +1,8 @@
-use Rattle.draw_lines.proofs.Adding.{Adding, adding-start, adding-turn, adding-refused, adding-end}
-use Rattle.draw_solids.proofs.Spacing.{stripes_left, left-turns, stripes-end}
-use Rattle.draw_solids.specs.Stripes.{degrees_from, stripe_by}
-use Rattle.degrees.specs.Degrees.{cosine_of, sine_of}
-use mathlib.Core.List.{map}
+use Rattle.std.proofs.lemmas.Result.{err_from_is_err_and}
+use Rattle.draw_lines.proofs.Adding.{adding-start, adding-turn, adding-refused, adding-end}
+use Rattle.draw_solids.proofs.Spacing.{left-turns, stripes-end}
 use mathlib.Core.Path.{refl, ◌∙◌}
-use Prim.Native.Nat.{◌-◌}
 use native.Mathlib.Omega.{arith}
-use borrow.Author.Rules.{rules}
 use Rattle.draw_solids.proofs.spaced.Goals as goal
 
 pub loop-a-init : goal.loop-a-init
@@ -33,22 +29,22 @@ pub offset_bounds-table-a-in-loop-a : goal.offset_bounds-table-a-in-loop-a
 offset_bounds-table-a-in-loop-a c =
     omega (arith, c.loop-a-test.true)
 
-pub stripe-r-requires : goal.stripe-r-requires
-stripe-r-requires c =
+pub stripe-requires : goal.stripe-requires
+stripe-requires c =
     (c.loop-a.invariant.fits, c.loop-a.invariant.fits-starts)
 
-pub shape_of-out-in-Refused : goal.shape_of-out-in-Refused
-shape_of-out-in-Refused c =
-    c.stripe-r.auto.out ∙ c.loop-a.invariant.same
+pub shape_of-out-in_err-p : goal.shape_of-out-in_err-p
+shape_of-out-in_err-p c =
+    c.stripe.auto.out ∙ c.loop-a.invariant.same
 
-pub shape_of-begins-in-Refused : goal.shape_of-begins-in-Refused
-shape_of-begins-in-Refused c =
-    c.stripe-r.auto.begins ∙ c.loop-a.invariant.same-starts
+pub shape_of-begins-in_err-p : goal.shape_of-begins-in_err-p
+shape_of-begins-in_err-p c =
+    c.stripe.auto.begins ∙ c.loop-a.invariant.same-starts
 
-pub returns-in-Refused : goal.returns-in-Refused
-returns-in-Refused c =
-    let args = c.args in let pre = c.requires in adding-refused _ _ _ _ _ _ _ _ _ _ c.loop-a.invariant _ _
-    (left-turns args.flank _ args.step pre.0 pre.1 c.loop-a.a c.loop-a-test.true) _ _ c.stripe-r.ensures c.in-Refused.is
+pub returns-in_err-p : goal.returns-in_err-p
+returns-in_err-p c =
+    let p = err_from_is_err_and c.from_residual.result c.from_residual.ensures.1 in rw (p.1, p.2) (let args = c.args in let pre = c.requires in adding-refused _ _ _ _ _ _ _ _ _ _ c.loop-a.invariant _ _
+    (left-turns args.flank _ args.step pre.0 pre.1 c.loop-a.a c.loop-a-test.true) _ _ c.stripe.ensures c.in_err-p.was)
 
 pub overflow_add-a-in-loop-a : goal.overflow_add-a-in-loop-a
 overflow_add-a-in-loop-a c =
@@ -61,7 +57,7 @@ loop-a-smaller c =
 pub loop-a-preserved : goal.loop-a-preserved
 loop-a-preserved c =
     let args = c.args in let pre = c.requires in adding-turn _ _ _ _ _ _ _ _ _ _ c.loop-a.invariant _ _
-    (left-turns args.flank _ args.step pre.0 pre.1 c.loop-a.a c.loop-a-test.true) _ _ c.stripe-r.ensures c.stripe-r.auto.out c.stripe-r.auto.begins c.in-Both.is
+    (left-turns args.flank _ args.step pre.0 pre.1 c.loop-a.a c.loop-a-test.true) _ _ c.stripe.ensures c.stripe.auto.out c.stripe.auto.begins c.in_ok-p.was
 
 pub shape_of-out : goal.shape_of-out
 shape_of-out c =

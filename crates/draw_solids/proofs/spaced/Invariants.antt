@@ -1,12 +1,9 @@
-use Rattle.draw_lines.proofs.Adding.{Adding, adding-start, adding-turn, adding-refused, adding-end}
-use Rattle.draw_solids.proofs.Spacing.{stripes_left, left-turns, stripes-end}
+use Rattle.draw_lines.proofs.Adding.{Adding}
+use Rattle.draw_solids.proofs.Spacing.{stripes_left}
 use Rattle.draw_solids.specs.Stripes.{degrees_from, stripe_by}
 use Rattle.degrees.specs.Degrees.{cosine_of, sine_of}
 use mathlib.Core.List.{map}
-use mathlib.Core.Path.{refl, ◌∙◌}
 use Prim.Native.Nat.{◌-◌}
-use native.Mathlib.Omega.{arith}
-use borrow.Author.Rules.{rules}
 use Rattle.draw_solids.proofs.spaced.Given as goal
 
 abbrev pub invariant-loop-a : goal.invariant-loop-a

@@ -1,7 +1,6 @@
 use Rattle.draw_lines.proofs.Adding.{adds-as, fit-both}
 use Rattle.draw_solids.specs.Stripes.{stripe_by}
 use mathlib.Core.List.{[], ◌∷◌}
-use borrow.Author.Rules.{rules}
 use Rattle.draw_solids.proofs.stripe.Goals as goal
 
 pub line-requires : goal.line-requires

@@ -1,5 +1,5 @@
+use Rattle.std.proofs.lemmas.Result.{err_from_is_err_and}
 use mathlib.Core.Path.{sym, ◌∙◌}
-use native.Mathlib.Omega.{arith}
 use Rattle.paths.proofs.Parts.{range-fits}
 use Rattle.draw_tally.proofs.Telling.{filtered-told}
 use Rattle.draw_tally.proofs.Turning.{counting-start, counting-turn, counting-refused, counting-end, filter-points}
@@ -9,26 +9,18 @@ pub loop-i-init : goal.loop-i-init
 loop-i-init c =
     counting-start _ _ _ _
 
-pub tally_path-r-requires : goal.tally_path-r-requires
-tally_path-r-requires c =
+pub tally_path-requires : goal.tally_path-requires
+tally_path-requires c =
     let args = c.args in let w = range-fits args.path.now args.starts.now c.loop-i.i c.range_of-p.result c.range_of-p.ensures in
     (w.0, w.1, c.loop-i.invariant.fits)
 
-pub returns-in-Refused : goal.returns-in-Refused
-returns-in-Refused c =
-    counting-refused _ _ _ _ _ _ _ c.loop-i.invariant c.loop-i-test.true _ c.range_of-p.ensures c.tally_path-r.ensures c.in-Refused.is ∙ sym (filtered-told _ _ _ _ _)
-
-pub overflow_add-i : goal.overflow_add-i
-overflow_add-i c =
-    let good = c.well_formed in omega (arith, c.loop-i-test.true, good.1.1.1.1.1.1.1.1.1.0)
-
-pub loop-i-smaller : goal.loop-i-smaller
-loop-i-smaller c =
-    omega (arith, c.loop-i-test.true)
+pub returns-in_err-n : goal.returns-in_err-n
+returns-in_err-n c =
+    let p = err_from_is_err_and c.from_residual.result c.from_residual.ensures.1 in rw (p.1, p.2) (counting-refused _ _ _ _ _ _ _ c.loop-i.invariant c.loop-i-test.true _ c.range_of-p.ensures c.tally_path.ensures c.in_err-n.was ∙ sym (filtered-told _ _ _ _ _))
 
 pub loop-i-preserved : goal.loop-i-preserved
 loop-i-preserved c =
-    counting-turn _ _ _ _ _ _ _ c.loop-i.invariant c.loop-i-test.true _ c.range_of-p.ensures c.tally_path-r.ensures (λ e. filter-points _ _ _ _ _ _ c.loop-i.invariant.fits e) c.in-Both.is
+    counting-turn _ _ _ _ _ _ _ c.loop-i.invariant c.loop-i-test.true _ c.range_of-p.ensures c.tally_path.ensures (λ e. filter-points _ _ _ _ _ _ c.loop-i.invariant.fits e) c.in_ok-n.was
 
 pub returns : goal.returns
 returns c =

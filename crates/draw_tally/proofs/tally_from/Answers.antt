@@ -1,3 +1,4 @@
+use Rattle.std.proofs.lemmas.Result.{err_from_is_err_and}
 use native.Mathlib.Omega.{arith}
 use Rattle.draw_tally.proofs.Turning.{tallying-start, tallying-turn, tallying-refused, tallying-end}
 use Rattle.draw_tally.proofs.tally_from.Goals as goal
@@ -10,25 +11,17 @@ pub read_point-v-requires : goal.read_point-v-requires
 read_point-v-requires c =
     omega (arith, c.loop-i.invariant.inside, c.loop-i-test.true)
 
-pub tally_step-r-requires : goal.tally_step-r-requires
-tally_step-r-requires c =
+pub tally_step-requires : goal.tally_step-requires
+tally_step-requires c =
     (c.loop-i.invariant.within.points, c.loop-i.invariant.within.before)
 
-pub returns-in-Refused : goal.returns-in-Refused
-returns-in-Refused c =
-    tallying-refused _ _ _ _ _ _ _ _ _ _ _ _ _ c.loop-i.invariant c.loop-i-test.true _ _ c.read_point-v.ensures c.clip_filter-t.ensures c.tally_step-r.ensures c.in-Refused.is
-
-pub overflow_add-i : goal.overflow_add-i
-overflow_add-i c =
-    let fits = c.ranges in omega (arith, c.loop-i-test.true, fits.end)
-
-pub loop-i-smaller : goal.loop-i-smaller
-loop-i-smaller c =
-    omega (arith, c.loop-i-test.true)
+pub returns-in_err-a : goal.returns-in_err-a
+returns-in_err-a c =
+    let p = err_from_is_err_and c.from_residual.result c.from_residual.ensures.1 in rw (p.1, p.2) (tallying-refused _ _ _ _ _ _ _ _ _ _ _ _ _ c.loop-i.invariant c.loop-i-test.true _ _ c.read_point-v.ensures c.clip_filter-t.ensures c.tally_step.ensures c.in_err-a.was)
 
 pub loop-i-preserved : goal.loop-i-preserved
 loop-i-preserved c =
-    tallying-turn _ _ _ _ _ _ _ _ _ _ _ _ _ c.loop-i.invariant c.loop-i-test.true _ _ c.read_point-v.ensures c.clip_filter-t.ensures c.tally_step-r.ensures c.in-So.is
+    tallying-turn _ _ _ _ _ _ _ _ _ _ _ _ _ c.loop-i.invariant c.loop-i-test.true _ _ c.read_point-v.ensures c.clip_filter-t.ensures c.tally_step.ensures c.in_ok-a.was
 
 pub returns : goal.returns
 returns c =

@@ -4,11 +4,11 @@ use Rattle.host.specs.Calls.{box_numbers}
 use Rattle.host.proofs.Calls.{box-is, no-box}
 use Rattle.host.proofs.larnt_solid_box.Goals as goal
 
-pub returns-in-Is : goal.returns-in-Is
-returns-in-Is c =
-    record { answer = (box-is _ _ _ (c.simple_of.ensures ∙ ap (simple_of _) c.sixteen.ensures) c.in-Is.is _ c.bounding_box-x.ensures).0; lent = (box-is _ _ _ (c.simple_of.ensures ∙ ap (simple_of _) c.sixteen.ensures) c.in-Is.is _ c.bounding_box-x.ensures).1 }
+pub returns-in-Some : goal.returns-in-Some
+returns-in-Some c =
+    record { answer = (box-is _ _ _ (c.simple_of.ensures ∙ ap (simple_of _) c.sixteen.ensures) c.in-Some.is _ c.bounding_box-x.ensures).0; lent = (box-is _ _ _ (c.simple_of.ensures ∙ ap (simple_of _) c.sixteen.ensures) c.in-Some.is _ c.bounding_box-x.ensures).1 }
 
-pub returns-in-Other : goal.returns-in-Other
+pub returns-in-None : goal.returns-in-None
 unfolding box_numbers
-returns-in-Other c =
-    record { answer = (no-box _ _ (c.simple_of.ensures ∙ ap (simple_of _) c.sixteen.ensures) c.in-Other.is).0; lent = (no-box _ _ (c.simple_of.ensures ∙ ap (simple_of _) c.sixteen.ensures) c.in-Other.is).1 }
+returns-in-None c =
+    record { answer = (no-box _ _ (c.simple_of.ensures ∙ ap (simple_of _) c.sixteen.ensures) c.in-None.is).0; lent = (no-box _ _ (c.simple_of.ensures ∙ ap (simple_of _) c.sixteen.ensures) c.in-None.is).1 }

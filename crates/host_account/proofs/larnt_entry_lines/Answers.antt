@@ -5,4 +5,4 @@ use Rattle.host_account.proofs.larnt_entry_lines.Goals as goal
 
 pub returns-clause-paths_told : goal.returns-clause-paths_told
 returns-clause-paths_told c =
-    let args = c.args in lines-so _ _ (take args.many (drop args.first (drawn args.marks.now))) _ _ c.view_from.ensures c.entry_lines-c.ensures.finished c.counts_number.ensures c.point_count.ensures c.path_count.ensures
+    let args = c.args in lines-so _ _ (take args.many (drop args.first (drawn args.marks.now))) _ _ c.view_from.ensures c.entry_lines-c.ensures.finished c.answer_number.ensures c.point_count.ensures c.path_count.ensures

@@ -3,4 +3,4 @@ use Rattle.host_account.proofs.larnt_fates.Goals as goal
 
 pub returns : goal.returns
 returns c =
-    fates-so c.view_from.ensures c.fates-b.ensures c.batch_number.ensures
+    fates-so c.view_from.ensures c.fates-b.ensures c.answer_number.ensures

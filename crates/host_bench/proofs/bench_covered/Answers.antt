@@ -1,9 +1,8 @@
 use Rattle.host_bench.proofs.Walks.{covered-so}
-use borrow.Author.Rules.{rules}
 use Rattle.host_bench.proofs.bench_covered.Goals as goal
 
 pub returns : goal.returns
 returns c =
     covered-so _ _ _ _ _ _ c.covered-s.ensures c.point.ensures c.point-2.ensures
-    c.sight_number.ensures
+    c.answer_number.ensures
     c.in_sight.ensures

@@ -1,13 +1,12 @@
 use Rattle.host_merge.specs.MergeCalls.{merged_entries}
-use borrow.Author.Rules.{rules}
 use Rattle.host_merge.proofs.entries_told.Goals as goal
 
-pub returns-in-Into : goal.returns-in-Into
+pub returns-in-Ok : goal.returns-in-Ok
 unfolding merged_entries
-returns-in-Into c =
-    rw c.in-Into.is
+returns-in-Ok c =
+    rw c.in-Ok.is
 
-pub returns-in-Refused : goal.returns-in-Refused
+pub returns-in-Err : goal.returns-in-Err
 unfolding merged_entries
-returns-in-Refused c =
-    rw c.in-Refused.is
+returns-in-Err c =
+    rw c.in-Err.is

@@ -1,13 +1,12 @@
 use Rattle.host_text.specs.TextCalls.{bytes_told}
-use borrow.Author.Rules.{rules}
 use Rattle.host_text.proofs.byte_count.Goals as goal
 
-pub returns-in-At : goal.returns-in-At
+pub returns-in-Ok : goal.returns-in-Ok
 unfolding bytes_told
-returns-in-At c =
-    rw c.in-At.is
+returns-in-Ok c =
+    rw c.in-Ok.is
 
-pub returns-in-Refused : goal.returns-in-Refused
+pub returns-in-Err : goal.returns-in-Err
 unfolding bytes_told
-returns-in-Refused c =
-    rw c.in-Refused.is
+returns-in-Err c =
+    rw c.in-Err.is

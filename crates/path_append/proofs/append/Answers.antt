@@ -1,7 +1,6 @@
 use Rattle.path_append.proofs.Joining.{low-movable, starts-full, points-full, joined}
 use native.Mathlib.Omega.{arith}
 use lib.ListN.{length, take, drop}
-use borrow.Author.Rules.{rules}
 use Rattle.path_append.proofs.append.Goals as goal
 
 pub returns-then-many-m : goal.returns-then-many-m

@@ -1,7 +1,5 @@
 use lib.Ieee.{Float, nan}
-use Rattle.path_append.proofs.Copying.{Copying, copying-start, copying-turn, copied-end}
-use Prim.Native.Nat.{◌-◌}
-use borrow.Author.Rules.{rules}
+use Rattle.path_append.proofs.Copying.{copying-start, copying-turn, copied-end}
 use Rattle.path_append.proofs.copy.Goals as goal
 
 pub loop-j-init : goal.loop-j-init

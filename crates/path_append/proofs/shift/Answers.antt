@@ -1,6 +1,5 @@
-use Rattle.path_append.proofs.Copying.{Copying, copying-start, copying-turn, copying-end, shift_fits}
-use Prim.Native.Nat.{ℕ, ◌+◌, ◌-◌}
-use borrow.Author.Rules.{rules}
+use Rattle.path_append.proofs.Copying.{copying-start, copying-turn, copying-end, shift_fits}
+use Prim.Native.Nat.{ℕ, ◌+◌}
 use Rattle.path_append.proofs.shift.Goals as goal
 
 pub loop-j-init : goal.loop-j-init

@@ -1,4 +1,3 @@
-use borrow.Author.Rules.{rules}
 use Rattle.path_chop.proofs.Halving.{done_none, done-some}
 use Rattle.path_chop.proofs.done.Goals as goal
 

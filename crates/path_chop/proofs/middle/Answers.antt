@@ -1,6 +1,5 @@
 use Rattle.path_chop.specs.Chop as Chop
 use mathlib.Core.Path.{◌∙◌}
-use borrow.Author.Rules.{rules}
 use Rattle.path_chop.proofs.middle.Goals as goal
 
 pub returns : goal.returns

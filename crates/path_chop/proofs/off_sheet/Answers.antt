@@ -1,5 +1,4 @@
 use Rattle.path_chop.specs.Chop as Chop
-use borrow.Author.Rules.{rules}
 use Rattle.path_chop.proofs.off_sheet.Goals as goal
 
 pub returns-then-both_below : goal.returns-then-both_below

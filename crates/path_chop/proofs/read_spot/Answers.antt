@@ -1,4 +1,3 @@
-use borrow.Author.Rules.{rules}
 use Rattle.path_chop.proofs.read_spot.Goals as goal
 
 pub returns : goal.returns

@@ -1,5 +1,4 @@
 use Rattle.path_chop.specs.Chop as Chop
-use borrow.Author.Rules.{rules}
 use Rattle.path_chop.proofs.stops.Goals as goal
 
 pub returns-then-off_sheet : goal.returns-then-off_sheet

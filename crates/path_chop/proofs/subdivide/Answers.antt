@@ -1,9 +1,8 @@
-use Rattle.path_chop.proofs.Halving.{Subdividing, some_left, subdividing-start, subdividing-room, subdividing-less, subdividing-halved, subdividing-refused, subdividing-end, subdividing-next}
-use Rattle.path_chop.proofs.Waiting.{waiting, turns, turns_of, turns_next}
-use Prim.Native.Nat.{◌+◌}
+use Rattle.std.proofs.lemmas.Result.{err_from_is_err_and}
+use Rattle.path_chop.proofs.Halving.{some_left, subdividing-start, subdividing-room, subdividing-less, subdividing-halved, subdividing-refused, subdividing-end, subdividing-next}
+use Rattle.path_chop.proofs.Waiting.{turns_next}
 use mathlib.Core.Path.{◌∙◌}
 use native.Mathlib.Omega.{arith}
-use borrow.Author.Rules.{rules}
 use Rattle.path_chop.proofs.subdivide.Goals as goal
 
 pub loop-left-init : goal.loop-left-init
@@ -30,25 +29,25 @@ pub loop-left-preserved-then-not-done : goal.loop-left-preserved-then-not-done
 loop-left-preserved-then-not-done c =
     subdividing-halved _ _ _ _ _ _ _ _ _ _ _ _ _ c.loop-left.invariant _ c.done.ensures c.if-not-done.true c.wait-arg-1.given.0.1 c.wait-arg-then-not-done-1.given.0.1 _ _ c.wait.ensures.0 c.wait.ensures.1 _ (cc)
 
-pub push-r-requires : goal.push-r-requires
-push-r-requires c =
+pub push-requires : goal.push-requires
+push-requires c =
     c.loop-left.invariant.fits
 
-pub shape_of-out-in-Refused : goal.shape_of-out-in-Refused
-shape_of-out-in-Refused c =
-    c.push-r.auto.out ∙ c.loop-left.invariant.same
+pub shape_of-out-in_err-m : goal.shape_of-out-in_err-m
+shape_of-out-in_err-m c =
+    c.push.auto.out ∙ c.loop-left.invariant.same
 
-pub returns-in-Refused : goal.returns-in-Refused
-returns-in-Refused c =
-    subdividing-refused _ _ _ _ _ _ _ _ _ _ _ _ _ c.loop-left.invariant _ c.done.ensures c.if-not-done.false _ c.push-r.ensures c.in-Refused.is
+pub returns-in_err-m : goal.returns-in_err-m
+returns-in_err-m c =
+    let p = err_from_is_err_and c.from_residual.result c.from_residual.ensures.1 in rw (p.1, p.2) (subdividing-refused _ _ _ _ _ _ _ _ _ _ _ _ _ c.loop-left.invariant _ c.done.ensures c.if-not-done.false _ c.push.ensures c.in_err-m.was)
 
 pub shape_of-out-then-k-eq0 : goal.shape_of-out-then-k-eq0
 shape_of-out-then-k-eq0 c =
-    c.push-r.auto.out ∙ c.loop-left.invariant.same
+    c.push.auto.out ∙ c.loop-left.invariant.same
 
 pub returns-then-k-eq0 : goal.returns-then-k-eq0
 returns-then-k-eq0 c =
-    subdividing-end _ _ _ _ _ _ _ _ _ _ _ _ _ c.loop-left.invariant _ c.done.ensures c.if-not-done.false _ c.push-r.ensures c.in-At.is c.if-k-eq0.true
+    subdividing-end _ _ _ _ _ _ _ _ _ _ _ _ _ c.loop-left.invariant _ c.done.ensures c.if-not-done.false _ c.push.ensures c.in_ok-m.was c.if-k-eq0.true
 
 pub read_spot-to-requires : goal.read_spot-to-requires
 read_spot-to-requires c =
@@ -68,4 +67,4 @@ loop-left-smaller c =
 
 pub loop-left-preserved : goal.loop-left-preserved
 loop-left-preserved c =
-    subdividing-next _ _ _ _ _ _ _ _ _ _ _ _ _ c.loop-left.invariant _ c.done.ensures c.if-not-done.false _ c.push-r.ensures c.in-At.is _ c.read_spot-to.ensures (omega (arith, c.if-k-eq0.false)) c.push-r.auto.out
+    subdividing-next _ _ _ _ _ _ _ _ _ _ _ _ _ c.loop-left.invariant _ c.done.ensures c.if-not-done.false _ c.push.ensures c.in_ok-m.was _ c.read_spot-to.ensures (omega (arith, c.if-k-eq0.false)) c.push.auto.out

@@ -1,10 +1,6 @@
-use Rattle.path_chop.proofs.Halving.{Subdividing, some_left, subdividing-start, subdividing-room, subdividing-less, subdividing-halved, subdividing-refused, subdividing-end, subdividing-next}
-use Rattle.path_chop.proofs.Waiting.{waiting, turns, turns_of, turns_next}
-use borrow.Author.Tests.{not-true, not-false}
+use Rattle.path_chop.proofs.Halving.{Subdividing}
+use Rattle.path_chop.proofs.Waiting.{waiting, turns, turns_of}
 use Prim.Native.Nat.{◌+◌}
-use mathlib.Core.Path.{◌∙◌}
-use native.Mathlib.Omega.{arith}
-use borrow.Author.Rules.{rules}
 use Rattle.path_chop.proofs.subdivide.Given as goal
 
 abbrev pub invariant-loop-left : goal.invariant-loop-left

@@ -1,13 +1,11 @@
-use Rattle.path_rdp.proofs.Scanning.{Scanning, scanning-start, scanning-turn, scanning-end, root-start}
+use Rattle.path_rdp.proofs.Scanning.{scanning-start, scanning-turn, scanning-end, root-start}
 use Rattle.path_rdp.specs.Rdp.{vertex}
 use Rattle.paths.proofs.Parts.{part_length, part_at, part-first, part-last}
 use Rattle.paths.specs.Ends.{all_points}
 use native.Mathlib.Omega.{arith}
 use lib.Seq.{slice}
-use Rattle.sqrt.specs.Root.{sqrt_of}
-use mathlib.Core.Path.{◌≡◌, ◌∙◌, sym, ap}
+use mathlib.Core.Path.{◌∙◌, sym, ap}
 use Prim.Native.Nat.{ℕ, ◌-◌}
-use borrow.Author.Rules.{rules}
 use Rattle.path_rdp.proofs.farthest.Goals as goal
 
 pub loop-i-init : goal.loop-i-init

@@ -1,4 +1,4 @@
-use Rattle.path_rdp.proofs.Scanning.{Peaking, peaking-start, peaking-stays, peaking-turn, peaking-end}
+use Rattle.path_rdp.proofs.Scanning.{peaking-start, peaking-stays, peaking-turn, peaking-end}
 use Rattle.path_rdp.specs.Rdp.{vertex}
 use Rattle.paths.proofs.Parts.{part_length, part_at, part-first, part-last}
 use Rattle.paths.specs.Ends.{all_points}
@@ -6,7 +6,6 @@ use native.Mathlib.Omega.{arith}
 use lib.Seq.{slice}
 use mathlib.Core.Path.{◌∙◌, sym, ap}
 use Prim.Native.Nat.{ℕ, ◌-◌}
-use borrow.Author.Rules.{rules}
 use Rattle.path_rdp.proofs.greatest_square.Goals as goal
 
 pub loop-i-init : goal.loop-i-init

@@ -1,5 +1,4 @@
 use Rattle.path_rdp.specs.Rdp.{threshold_ok}
-use borrow.Author.Rules.{rules}
 use Rattle.path_rdp.proofs.threshold_ok.Goals as goal
 
 pub returns-then-not-is_finite : goal.returns-then-not-is_finite

@@ -1,8 +1,6 @@
-use Rattle.path_simplify.proofs.Thinning.{Thinning, thinning-short, thinning-none, thinning-start, thinning-back, thinning-place, thinning-number, thinning-below, thinning-inside, thinning-split, thinning-full, thinning-write, thinning-end}
+use Rattle.path_simplify.proofs.Thinning.{thinning-short, thinning-none, thinning-start, thinning-back, thinning-place, thinning-number, thinning-below, thinning-inside, thinning-split, thinning-full, thinning-write, thinning-end}
 use mathlib.Core.Path.{◌∙◌}
 use native.Mathlib.Omega.{arith}
-use Prim.Native.Nat.{◌-◌, ◌*◌}
-use borrow.Author.Rules.{rules}
 use Rattle.path_simplify.proofs.path_simplify.Goals as goal
 
 pub shape_of-out-then-end-from-lt2 : goal.shape_of-out-then-end-from-lt2

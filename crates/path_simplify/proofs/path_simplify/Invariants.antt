@@ -1,8 +1,5 @@
-use Rattle.path_simplify.proofs.Thinning.{Thinning, thinning-short, thinning-none, thinning-start, thinning-back, thinning-place, thinning-number, thinning-below, thinning-inside, thinning-split, thinning-full, thinning-write, thinning-end}
-use mathlib.Core.Path.{◌∙◌}
-use native.Mathlib.Omega.{arith}
+use Rattle.path_simplify.proofs.Thinning.{Thinning}
 use Prim.Native.Nat.{◌-◌, ◌*◌}
-use borrow.Author.Rules.{rules}
 use Rattle.path_simplify.proofs.path_simplify.Given as goal
 
 abbrev pub invariant-loop-w : goal.invariant-loop-w

@@ -2,7 +2,6 @@ use native.Mathlib.Omega.{arith}
 use mathlib.Core.Path.{refl}
 use Rattle.path_rdp.proofs.Scanning.{peak-low}
 use Rattle.path_simplify.proofs.Thinning.{split-short, split-not, split_at, split-inside}
-use borrow.Author.Rules.{rules}
 use Rattle.path_simplify.proofs.split.Goals as goal
 
 pub returns-then-b-a-lt2 : goal.returns-then-b-a-lt2

@@ -1,6 +1,5 @@
 use native.Mathlib.Omega.{arith}
 use Rattle.floats.proofs.Patterns.{no-nan-bits}
-use borrow.Author.Rules.{rules}
 use Rattle.path_simplify.proofs.wait.Goals as goal
 
 pub float_from_bits-out : goal.float_from_bits-out

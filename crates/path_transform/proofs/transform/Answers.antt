@@ -1,6 +1,4 @@
-use Rattle.path_transform.proofs.Moving.{Moving, moving-start, moving-turn, moving-end}
-use Prim.Native.Nat.{◌-◌}
-use borrow.Author.Rules.{rules}
+use Rattle.path_transform.proofs.Moving.{moving-start, moving-turn, moving-end}
 use Rattle.path_transform.proofs.transform.Goals as goal
 
 pub loop-i-init : goal.loop-i-init

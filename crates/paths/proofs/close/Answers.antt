@@ -1,6 +1,5 @@
 use Rattle.paths.proofs.Verbs.{close-none, close-gone, close-stays}
 use native.Mathlib.Omega.{arith}
-use borrow.Author.Rules.{rules}
 use Rattle.paths.proofs.close.Goals as goal
 
 pub returns-then-m-eq0 : goal.returns-then-m-eq0

@@ -1,5 +1,4 @@
 use Rattle.paths.proofs.Judging.{judged-2, judged-4, judged-8, judged-none, judged-9, judged-fine}
-use borrow.Author.Rules.{rules}
 use Rattle.paths.proofs.judge.Goals as goal
 
 pub returns-then-path-ne0 : goal.returns-then-path-ne0

@@ -1,5 +1,4 @@
 use Rattle.paths.proofs.Verbs.{new-at, new-full}
-use borrow.Author.Rules.{rules}
 use Rattle.paths.proofs.new_path.Goals as goal
 
 pub returns-then-m-starts : goal.returns-then-m-starts

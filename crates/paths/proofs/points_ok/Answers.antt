@@ -1,6 +1,4 @@
-use Rattle.paths.proofs.Judging.{Checking, checking-start, checking-turn, checking-bad, checking-end}
-use Prim.Native.Nat.{◌-◌}
-use borrow.Author.Rules.{rules}
+use Rattle.paths.proofs.Judging.{checking-start, checking-turn, checking-bad, checking-end}
 use Rattle.paths.proofs.points_ok.Goals as goal
 
 pub loop-i-init : goal.loop-i-init

@@ -1,5 +1,4 @@
 use Rattle.paths.proofs.Verbs.{push_at, push-full}
-use borrow.Author.Rules.{rules}
 use Rattle.paths.proofs.push.Goals as goal
 
 pub returns-then-n-out : goal.returns-then-n-out

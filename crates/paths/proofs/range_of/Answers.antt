@@ -1,5 +1,4 @@
 use Rattle.paths.specs.Ranges.{range_of}
-use borrow.Author.Rules.{rules}
 use Rattle.paths.proofs.range_of.Goals as goal
 
 pub returns : goal.returns

@@ -1,8 +1,4 @@
-use borrow.Author.Tests.{not-true, not-false}
-use Rattle.plotter_pens.proofs.Finite.{Looking, looking-start, looking-turn, looking-bad, looking-end}
-use lib.ListN.{length}
-use Prim.Native.Nat.{◌-◌}
-use borrow.Author.Rules.{rules}
+use Rattle.plotter_pens.proofs.Finite.{looking-start, looking-turn, looking-bad, looking-end}
 use Rattle.plotter_pens.proofs.all_finite.Goals as goal
 
 pub loop-i-init : goal.loop-i-init

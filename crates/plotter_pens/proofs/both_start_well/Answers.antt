@@ -1,6 +1,4 @@
 use Rattle.plotter_pens.specs.Pens.{both_start_well}
-use borrow.Author.Tests.{not-true, not-false}
-use borrow.Author.Rules.{rules}
 use Rattle.plotter_pens.proofs.both_start_well.Goals as goal
 
 pub returns-then-not-good_starts : goal.returns-then-not-good_starts

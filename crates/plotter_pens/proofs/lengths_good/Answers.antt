@@ -1,5 +1,4 @@
 use Rattle.plotter_pens.proofs.Answers.{lengths-yard, lengths-lines, lengths-few, lengths-last}
-use borrow.Author.Rules.{rules}
 use Rattle.plotter_pens.proofs.lengths_good.Goals as goal
 
 pub returns-then-yard-ne0 : goal.returns-then-yard-ne0

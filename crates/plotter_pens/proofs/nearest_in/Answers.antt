@@ -1,10 +1,7 @@
 use Rattle.plotter_pens.proofs.Scans.{scan-start, scan-more, scan-done}
-use Rattle.plotter_pens.specs.Pens.{lent_drawing, nearest_in}
-use lib.ListN.{length}
+use Rattle.plotter_pens.specs.Pens.{nearest_in}
 use native.Mathlib.Omega.{arith}
-use mathlib.Core.Path.{◌≡◌, sym, ap, ◌∙◌}
-use Prim.Native.Nat.{◌≤◌, ◌-◌}
-use borrow.Author.Rules.{rules}
+use mathlib.Core.Path.{sym, ap, ◌∙◌}
 use Rattle.plotter_pens.proofs.nearest_in.Goals as goal
 
 pub loop-k-init : goal.loop-k-init

@@ -1,6 +1,4 @@
 use Rattle.plotter_pens.specs.Pens.{numbers_finite}
-use borrow.Author.Tests.{not-true, not-false}
-use borrow.Author.Rules.{rules}
 use Rattle.plotter_pens.proofs.numbers_finite.Goals as goal
 
 pub returns-then-not-point_finite : goal.returns-then-not-point_finite

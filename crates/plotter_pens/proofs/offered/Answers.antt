@@ -1,5 +1,4 @@
 use Rattle.plotter_pens.proofs.Answers.{offered-drawn, offered-empty, offered-near, first-there}
-use borrow.Author.Rules.{rules}
 use Rattle.plotter_pens.proofs.offered.Goals as goal
 
 pub returns-then-marks-place-ne0 : goal.returns-then-marks-place-ne0

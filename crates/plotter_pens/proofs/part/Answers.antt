@@ -1,7 +1,6 @@
 use Rattle.plotter_pens.proofs.Answers.{part_slice}
 use native.Mathlib.Omega.{arith}
 use Prim.Native.Nat.{◌*◌}
-use borrow.Author.Rules.{rules}
 use Rattle.plotter_pens.proofs.part.Goals as goal
 
 pub returns : goal.returns

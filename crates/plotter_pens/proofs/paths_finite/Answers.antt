@@ -1,6 +1,5 @@
 use Rattle.plotter_pens.specs.Pens.{paths_finite}
 use borrow.Author.Tests.{eq-eqb, ne_eqb}
-use borrow.Author.Rules.{rules}
 use Rattle.plotter_pens.proofs.paths_finite.Goals as goal
 
 pub returns-then-starts-eq0 : goal.returns-then-starts-eq0

@@ -1,9 +1,7 @@
 use Rattle.plotter_pens.proofs.Answers.{pick-2, pick-4, pick-9, pick-near, places-marked, both-scanned, both-there}
-use borrow.Author.Tests.{not-true, not-false}
 use native.Mathlib.Omega.{arith}
 use mathlib.Core.Path.{ap, ◌∙◌}
 use Rattle.plotter_pens.specs.Pens.{picked_from}
-use borrow.Author.Rules.{rules}
 use Rattle.plotter_pens.proofs.pick.Goals as goal
 
 pub returns-then-not-lengths_good : goal.returns-then-not-lengths_good

@@ -1,7 +1,6 @@
 use Rattle.plotter_pens.proofs.Answers.{from-none, from-yard, from-lines}
 use borrow.Author.Tests.{not-true, not-false}
 use native.Mathlib.Omega.{arith}
-use borrow.Author.Rules.{rules}
 use Rattle.plotter_pens.proofs.picked_from.Goals as goal
 
 pub returns-then-not-best : goal.returns-then-not-best

@@ -1,5 +1,4 @@
 use Rattle.plotter_pens.specs.Pens.{point_finite}
-use borrow.Author.Rules.{rules}
 use Rattle.plotter_pens.proofs.point_finite.Goals as goal
 
 pub returns-then-is_finite-2 : goal.returns-then-is_finite-2

@@ -1,13 +1,12 @@
 use Rattle.query_cover.specs.Covered.{if_answered}
-use borrow.Author.Rules.{rules}
 use Rattle.query_cover.proofs.answered.Goals as goal
 
-pub returns-in-Answered : goal.returns-in-Answered
+pub returns-in-Ok : goal.returns-in-Ok
 unfolding if_answered
-returns-in-Answered c =
-    rw c.in-Answered.is
+returns-in-Ok c =
+    rw c.in-Ok.is
 
-pub returns-in-Refused : goal.returns-in-Refused
+pub returns-in-Err : goal.returns-in-Err
 unfolding if_answered
-returns-in-Refused c =
-    rw c.in-Refused.is
+returns-in-Err c =
+    rw c.in-Err.is

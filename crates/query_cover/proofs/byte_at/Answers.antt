@@ -1,6 +1,5 @@
 use native.Mathlib.Omega.{arith}
 use Rattle.query_cover.proofs.Answers.{byte-after, byte-is}
-use borrow.Author.Rules.{rules}
 use Rattle.query_cover.proofs.byte_at.Goals as goal
 
 pub returns-then-k-n : goal.returns-then-k-n

@@ -1,6 +1,5 @@
 use mathlib.Core.Path.{◌∙◌}
 use Rattle.query_cover.proofs.Answers.{batch-fits, all_told}
-use borrow.Author.Rules.{rules}
 use Rattle.query_cover.proofs.covered_all.Goals as goal
 
 pub tell-requires : goal.tell-requires

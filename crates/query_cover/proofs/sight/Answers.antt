@@ -1,6 +1,4 @@
-use borrow.Author.Tests.{not-true, not-false}
 use Rattle.query_cover.proofs.Answers.{past-refused, past_is}
-use borrow.Author.Rules.{rules}
 use Rattle.query_cover.proofs.sight.Goals as goal
 
 pub returns-then-not-within_point : goal.returns-then-not-within_point

@@ -1,7 +1,6 @@
 use Rattle.query_merge.proofs.Answers.{room_for, filled_is}
 use mathlib.Core.Path.{refl}
 use native.Mathlib.Omega.{arith}
-use borrow.Author.Rules.{rules}
 use Rattle.query_merge.proofs.fill.Goals as goal
 
 pub overflow_cast-by : goal.overflow_cast-by

@@ -1,5 +1,4 @@
 use Rattle.query_merge.specs.Merging.{fits, both_sizes}
-use borrow.Author.Rules.{rules}
 use Rattle.query_merge.proofs.fit.Goals as goal
 
 pub returns-then-not-holds_both : goal.returns-then-not-holds_both

@@ -1,6 +1,5 @@
 use Rattle.query_merge.proofs.Answers.{given-none, given-some}
 use native.Mathlib.Omega.{arith}
-use borrow.Author.Rules.{rules}
 use Rattle.query_merge.proofs.given.Goals as goal
 
 pub returns-then-starts-eq0 : goal.returns-then-starts-eq0

@@ -1,6 +1,4 @@
 use Rattle.query_merge.specs.Merging.{given_sizes}
-use mathlib.Core.Path.{sym}
-use borrow.Author.Rules.{rules}
 use Rattle.query_merge.proofs.given_sizes.Goals as goal
 
 pub returns : goal.returns

@@ -1,5 +1,4 @@
 use Rattle.query_merge.proofs.Answers.{both-none, both_is}
-use borrow.Author.Rules.{rules}
 use Rattle.query_merge.proofs.holds_both.Goals as goal
 
 pub returns-then-room-a : goal.returns-then-room-a

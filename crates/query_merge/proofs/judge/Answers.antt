@@ -1,7 +1,6 @@
 use Rattle.query_merge.proofs.Answers.{judge-many, judge-short, judge-fits, judge-room}
 use Rattle.query_merge.specs.Merging.{both_sizes}
 use native.Mathlib.Omega.{arith}
-use borrow.Author.Rules.{rules}
 use Rattle.query_merge.proofs.judge.Goals as goal
 
 pub returns-then-n-gt1024 : goal.returns-then-n-gt1024

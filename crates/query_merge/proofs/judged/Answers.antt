@@ -1,5 +1,4 @@
 use Rattle.query_merge.proofs.Answers.{judged-is}
-use borrow.Author.Rules.{rules}
 use Rattle.query_merge.proofs.judged.Goals as goal
 
 pub returns : goal.returns

@@ -1,4 +1,3 @@
-use borrow.Author.Rules.{rules}
 use Rattle.rows.proofs.Starts.{end-next, end-last}
 use Rattle.rows.proofs.end_of.Goals as goal
 

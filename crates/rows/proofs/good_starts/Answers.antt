@@ -1,4 +1,3 @@
-use borrow.Author.Rules.{rules}
 use mathlib.Core.Path.{◌∙◌}
 use Rattle.rows.proofs.Starts.{good_none, good-late, good-from-zero}
 use Rattle.rows.proofs.good_starts.Goals as goal

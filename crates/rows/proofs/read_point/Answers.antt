@@ -1,5 +1,4 @@
 use mathlib.Core.Path.{sym, ap}
-use borrow.Author.Rules.{rules}
 use lib.Ieee.{nan}
 use Rattle.rows.specs.Points.{point_of}
 use Rattle.rows.proofs.Rows.{row-cells}

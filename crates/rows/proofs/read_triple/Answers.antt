@@ -1,5 +1,4 @@
 use mathlib.Core.Path.{sym, ap}
-use borrow.Author.Rules.{rules}
 use Rattle.rows.specs.Entries.{triple_of}
 use Rattle.rows.proofs.Rows.{row-cells}
 use Rattle.rows.proofs.read_triple.Goals as goal

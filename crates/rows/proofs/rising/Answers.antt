@@ -1,7 +1,4 @@
-use Prim.Native.Nat.{◌-◌}
-use borrow.Author.Rules.{rules}
-use lib.ListN.{length}
-use Rattle.rows.proofs.Starts.{Rising, rising-start, rising-turn, rising-falls, rising-end}
+use Rattle.rows.proofs.Starts.{rising-start, rising-turn, rising-falls, rising-end}
 use Rattle.rows.proofs.rising.Goals as goal
 
 pub returns-then-end-starts : goal.returns-then-end-starts

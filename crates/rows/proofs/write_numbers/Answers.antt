@@ -1,7 +1,6 @@
 use mathlib.Core.Path.{refl}
 use mathlib.Core.List.{List, [], ◌∷◌, ◌++◌}
 use Prim.Native.Nat.{◌*◌}
-use borrow.Author.Rules.{rules}
 use lib.Ieee.{Float}
 use Rattle.rows.proofs.Rows.{sets_more}
 use Rattle.rows.proofs.write_numbers.Goals as goal

@@ -4,11 +4,8 @@ use Prim.Native.Nat.{◌-◌, ◌/◌}
 use mathlib.Core.Path.{refl}
 use Rattle.scene_merge.proofs.Raising.{mark-second, mark-past, raisable-as}
 use Rattle.scene_merge.proofs.Laying.{in-first}
-use Rattle.scene_merge.specs.MergedScenes.{MarksRaisable}
-use Rattle.rows.specs.declared.Marks.{Marks}
-use mathlib.Core.Path.{refl, subst}
+use mathlib.Core.Path.{refl}
 use native.Mathlib.Omega.{arith}
-use borrow.Author.Rules.{rules}
 use Rattle.scene_merge.proofs.mark_at.Goals as goal
 
 pub returns-then-k-first : goal.returns-then-k-first

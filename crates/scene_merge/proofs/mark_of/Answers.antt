@@ -1,8 +1,4 @@
 use Rattle.scene_merge.proofs.Raising.{mark-last}
-use Prim.Native.Nat.{ℕ}
-use native.Mathlib.Omega.{arith}
-use mathlib.Core.Path.{◌≡◌, refl}
-use borrow.Author.Rules.{rules}
 use Rattle.scene_merge.proofs.mark_of.Goals as goal
 
 pub returns : goal.returns

@@ -1,7 +1,6 @@
 use Rattle.scene_merge.proofs.Laying.{number-first, number-second, number_past}
 use Rattle.floats.specs.Arith.{zero_f}
 use lib.Ieee.{nan}
-use borrow.Author.Rules.{rules}
 use Rattle.scene_merge.proofs.number_at.Goals as goal
 
 pub returns-then-k-n : goal.returns-then-k-n

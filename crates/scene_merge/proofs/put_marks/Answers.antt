@@ -1,11 +1,7 @@
 use Rattle.scene_merge.proofs.Raising.{all-length}
-use Rattle.scene_merge.proofs.Laying.{Laid, laid-start, laid-turn, laid_end}
-use Rattle.scene_merge.specs.MergedScenes.{raised_marks}
+use Rattle.scene_merge.proofs.Laying.{laid-start, laid-turn, laid_end}
 use native.Mathlib.Omega.{arith}
 use lib.ListN.{length}
-use mathlib.Core.List.{◌++◌}
-use Prim.Native.Nat.{◌-◌}
-use borrow.Author.Rules.{rules}
 use Rattle.scene_merge.proofs.put_marks.Goals as goal
 
 pub loop-k-init : goal.loop-k-init
@@ -16,30 +12,10 @@ pub mark_at-requires : goal.mark_at-requires
 mark_at-requires c =
     let pre = c.requires in pre.0
 
-pub offset_bounds-out-k : goal.offset_bounds-out-k
-offset_bounds-out-k c =
-    omega (arith, c.loop-k-test.true)
-
-pub bounds-out-k : goal.bounds-out-k
-bounds-out-k c =
-    omega (arith, c.loop-k-test.true)
-
-pub overflow_add-k : goal.overflow_add-k
-overflow_add-k c =
-    omega (arith, c.loop-k-test.true)
-
-pub loop-k-smaller : goal.loop-k-smaller
-loop-k-smaller c =
-    omega (arith, c.loop-k-test.true, c.loop-k.invariant.same)
-
 pub loop-k-preserved : goal.loop-k-preserved
 loop-k-preserved c =
-    let args = c.args in let pre = c.requires in laid-turn _ _ _ (all-length args.by args.second.now args.first.now (length args.out.now) pre.1) _ _ c.loop-k.invariant c.loop-k-test.true _ c.mark_at.ensures
-
-pub shape_of-out : goal.shape_of-out
-shape_of-out c =
-    c.loop-k.invariant.same
+    let args = c.args in let pre = c.requires in laid-turn _ _ _ (all-length args.by args.second.now args.first.now (length args.out.now) pre.1) _ _ c.loop-k.invariant (omega arith) _ c.mark_at.ensures
 
 pub returns : goal.returns
 returns c =
-    let args = c.args in let pre = c.requires in laid_end _ _ _ (all-length args.by args.second.now args.first.now (length args.out.now) pre.1) _ _ c.loop-k.invariant c.loop-k-test.false
+    let args = c.args in let pre = c.requires in laid_end _ _ _ (all-length args.by args.second.now args.first.now (length args.out.now) pre.1) _ _ c.loop-k.invariant (omega arith)

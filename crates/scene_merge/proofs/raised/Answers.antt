@@ -1,9 +1,8 @@
 use Rattle.scene_merge.proofs.Raising.{raised-six, raised-seven}
 use borrow.Author.Tests.{ne_eqb}
 use Rattle.scene_merge.specs.MergedScenes.{raised}
-use borrow.Author.Tests.{eq-eqb, ne_eqb}
+use borrow.Author.Tests.{ne_eqb}
 use native.Mathlib.Omega.{arith}
-use borrow.Author.Rules.{rules}
 use Rattle.scene_merge.proofs.raised.Goals as goal
 
 pub overflow_add-result : goal.overflow_add-result

@@ -4,7 +4,6 @@ use Prim.Native.Nat.{◌-◌}
 use Rattle.scene_merge.proofs.Raising.{raised-second, raised-past}
 use Rattle.scene_merge.proofs.Laying.{in-first}
 use native.Mathlib.Omega.{arith}
-use borrow.Author.Rules.{rules}
 use Rattle.scene_merge.proofs.start_at.Goals as goal
 
 pub returns-then-k-first : goal.returns-then-k-first

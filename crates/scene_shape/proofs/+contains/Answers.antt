@@ -44,23 +44,25 @@ entry_contains-parts_at-e-requires t c = marks-fit _ _ _ _ c.is_there.ensures c.
 pub entry_contains-matrix_at-v-requires : goal.entry_contains-matrix_at-v-requires
 entry_contains-matrix_at-v-requires t c = inverse-fits _ _ _ _ c.is_there.ensures c.if-not-is_there.false
 
-pub entry_contains-returns-in-Is : goal.entry_contains-returns-in-Is
+pub entry_contains-returns-in-Some : goal.entry_contains-returns-in-Some
 unfolding shape_of shape_contains
-entry_contains-returns-in-Is t c =
-    rw (decode_is _ _ _ _ _ c.if-depth-eq0.false (entry-simple _ _ _ _ c.is_there.ensures c.if-not-is_there.false c.simple_at-s.ensures c.in-Is.is)) c.contains.ensures
+entry_contains-returns-in-Some t c =
+    rw (decode_is _ _ _ _ _ c.if-depth-eq0.false (entry-simple _ _ _ _ c.is_there.ensures c.if-not-is_there.false c.simple_at-s.ensures c.in-Some.is)) c.contains.ensures
 
-pub entry_contains-returns-in-Placed : goal.entry_contains-returns-in-Placed
+pub entry_contains-returns-in-Some-Placed : goal.entry_contains-returns-in-Some-Placed
 unfolding shape_of shape_contains
-entry_contains-returns-in-Placed t c =
-    rw (decode_is _ _ _ _ _ c.if-depth-eq0.false (entry-parts _ _ _ _ c.is_there.ensures c.if-not-is_there.false c.simple_at-s.ensures c.in-Other.is c.parts_at-e.ensures), c.in-Placed.is)
-    (c.entry_contains.ensures ∙ ap (λ (q : Vector). shape_contains (decode (c.args.depth - 1) c.args.numbers.now c.args.inverses.now c.args.marks.now c.in-Placed.k) q c.args.f) (c.mul_position.ensures ∙ ap (λ (m : Matrix). mul_position m c.args.p) c.matrix_at-v.ensures))
+entry_contains-returns-in-Some-Placed t c =
+    let e = rw c.in-Some-Placed.is at c.in-Some-Placed.field-0-is in
+    rw (decode_is _ _ _ _ _ c.if-depth-eq0.false (entry-parts _ _ _ _ c.is_there.ensures c.if-not-is_there.false c.simple_at-s.ensures c.in-None.is c.parts_at-e.ensures), c.in-Some-Placed.is, e)
+    (c.entry_contains.ensures ∙ ap (λ (q : Vector). shape_contains (decode (c.args.depth - 1) c.args.numbers.now c.args.inverses.now c.args.marks.now c.in-Some-Placed.k) q c.args.f) (c.mul_position.ensures ∙ ap (λ (m : Matrix). mul_position m c.args.p) c.matrix_at-v.ensures))
 
-pub entry_contains-returns-in-Cut : goal.entry_contains-returns-in-Cut
+pub entry_contains-returns-in-Some-Cut : goal.entry_contains-returns-in-Some-Cut
 unfolding shape_of shape_contains
-entry_contains-returns-in-Cut t c =
-    rw (decode_is _ _ _ _ _ c.if-depth-eq0.false (entry-parts _ _ _ _ c.is_there.ensures c.if-not-is_there.false c.simple_at-s.ensures c.in-Other.is c.parts_at-e.ensures), c.in-Cut.is) c.cut_contains.ensures
+entry_contains-returns-in-Some-Cut t c =
+    let e = rw c.in-Some-Cut.is at c.in-Some-Cut.field-0-is in
+    rw (decode_is _ _ _ _ _ c.if-depth-eq0.false (entry-parts _ _ _ _ c.is_there.ensures c.if-not-is_there.false c.simple_at-s.ensures c.in-None.is c.parts_at-e.ensures), c.in-Some-Cut.is, e) c.cut_contains.ensures
 
-pub entry_contains-returns-in-None : goal.entry_contains-returns-in-None
+pub entry_contains-returns-in-None-e : goal.entry_contains-returns-in-None-e
 unfolding shape_of shape_contains
-entry_contains-returns-in-None t c =
-    rw (decode_is _ _ _ _ _ c.if-depth-eq0.false (entry-parts _ _ _ _ c.is_there.ensures c.if-not-is_there.false c.simple_at-s.ensures c.in-Other.is c.parts_at-e.ensures), c.in-None.is)
+entry_contains-returns-in-None-e t c =
+    rw (decode_is _ _ _ _ _ c.if-depth-eq0.false (entry-parts _ _ _ _ c.is_there.ensures c.if-not-is_there.false c.simple_at-s.ensures c.in-None.is c.parts_at-e.ensures), c.in-None-e.is)

@@ -3,28 +3,30 @@ use Rattle.scene.proofs.Parts.{entry-none, entry-simple, entry-parts, numbers_fi
 use Rattle.solids.specs.Solids.{hit_of}
 use Rattle.scene_shape.proofs.Shapes.{decode_is, falls_below, met-below, met-hit, cut-refused, cut-missed, cut_inside, cut-spent, cut_again}
 use Rattle.scene_shape.specs.Shapes.{read, shape_of, shape_hit}
-use Rattle.scene_shape.specs.declared.Struck.TheVariants.{At}
+use Rattle.std.specs.Prelude.{Ok, Err, Some}
+use Rattle.std.proofs.lemmas.Result.{err_from_is_err_and}
 use Rattle.scene_shape.proofs.+hit.Goals as goal
 
 pub cut_hit-returns-then-not-is_ok : goal.cut_hit-returns-then-not-is_ok
 cut_hit-returns-then-not-is_ok t c =
-    c.by_fields.ensures ∙ cut-missed _ _ _ _ _ _ _ (c.entry_hit-ha.ensures ∙ ap (shape_hit _) c.again.ensures) (c.entry_hit-hb.ensures ∙ ap (shape_hit _) c.again-2.ensures) c.both-n.ensures c.in-At.is c.is_ok.ensures c.if-not-is_ok.true c.tell_of.ensures
+    c.by_fields.ensures ∙ cut-missed _ _ _ _ _ _ _ (c.entry_hit-ha.ensures ∙ ap (shape_hit _) c.again.ensures) (c.entry_hit-hb.ensures ∙ ap (shape_hit _) c.again-2.ensures) c.both.ensures c.in_ok-h.was c.is_ok.ensures c.if-not-is_ok.true c.tell_of.ensures
 
 pub cut_hit-returns-then-cut_contains : goal.cut_hit-returns-then-cut_contains
 cut_hit-returns-then-cut_contains t c =
-    c.by_fields-then-cut_contains.ensures ∙ cut_inside _ _ _ _ _ _ _ (c.entry_hit-ha.ensures ∙ ap (shape_hit _) c.again.ensures) (c.entry_hit-hb.ensures ∙ ap (shape_hit _) c.again-2.ensures) c.both-n.ensures c.in-At.is c.is_ok.ensures c.if-not-is_ok.false c.position.ensures c.cut_contains.ensures c.if-cut_contains.true c.tell_of-then-cut_contains.ensures
+    c.by_fields-then-cut_contains.ensures ∙ cut_inside _ _ _ _ _ _ _ (c.entry_hit-ha.ensures ∙ ap (shape_hit _) c.again.ensures) (c.entry_hit-hb.ensures ∙ ap (shape_hit _) c.again-2.ensures) c.both.ensures c.in_ok-h.was c.is_ok.ensures c.if-not-is_ok.false c.position.ensures c.cut_contains.ensures c.if-cut_contains.true c.tell_of-then-cut_contains.ensures
 
 pub cut_hit-returns-then-restarts-eq0 : goal.cut_hit-returns-then-restarts-eq0
 cut_hit-returns-then-restarts-eq0 t c =
-    cut-spent _ _ _ _ _ _ _ (c.entry_hit-ha.ensures ∙ ap (shape_hit _) c.again.ensures) (c.entry_hit-hb.ensures ∙ ap (shape_hit _) c.again-2.ensures) c.both-n.ensures c.in-At.is c.is_ok.ensures c.if-not-is_ok.false c.position.ensures c.cut_contains.ensures c.if-restarts-eq0.true c.if-cut_contains.false
+    cut-spent _ _ _ _ _ _ _ (c.entry_hit-ha.ensures ∙ ap (shape_hit _) c.again.ensures) (c.entry_hit-hb.ensures ∙ ap (shape_hit _) c.again-2.ensures) c.both.ensures c.in_ok-h.was c.is_ok.ensures c.if-not-is_ok.false c.position.ensures c.cut_contains.ensures c.if-restarts-eq0.true c.if-cut_contains.false
 
-pub cut_hit-returns-in-Refused : goal.cut_hit-returns-in-Refused
-cut_hit-returns-in-Refused t c =
-    cut-refused _ _ _ _ _ _ _ (c.entry_hit-ha.ensures ∙ ap (shape_hit _) c.again.ensures) (c.entry_hit-hb.ensures ∙ ap (shape_hit _) c.again-2.ensures) c.both-n.ensures c.in-Refused.is
+pub cut_hit-returns-in_err-h : goal.cut_hit-returns-in_err-h
+cut_hit-returns-in_err-h t c =
+    let p = err_from_is_err_and c.from_residual.result c.from_residual.ensures.1 in
+    p.1 ∙ ap Err p.2 ∙ cut-refused _ _ _ _ _ _ _ (c.entry_hit-ha.ensures ∙ ap (shape_hit _) c.again.ensures) (c.entry_hit-hb.ensures ∙ ap (shape_hit _) c.again-2.ensures) c.both.ensures c.in_err-h.was
 
-pub cut_hit-returns-else-restarts-eq0 : goal.cut_hit-returns-else-restarts-eq0
-cut_hit-returns-else-restarts-eq0 t c =
-    c.by_fields-in-At.ensures ∙ c.cut_hit.ensures ∙ rw c.restarted.ensures (cut_again _ _ _ _ _ _ _ (c.entry_hit-ha.ensures ∙ ap (shape_hit _) c.again.ensures) (c.entry_hit-hb.ensures ∙ ap (shape_hit _) c.again-2.ensures) c.both-n.ensures c.in-At.is c.is_ok.ensures c.if-not-is_ok.false c.position.ensures c.cut_contains.ensures c.if-restarts-eq0.false c.if-cut_contains.false)
+pub cut_hit-returns : goal.cut_hit-returns
+cut_hit-returns t c =
+    c.by_fields-2.ensures ∙ c.cut_hit.ensures ∙ rw c.restarted.ensures (cut_again _ _ _ _ _ _ _ (c.entry_hit-ha.ensures ∙ ap (shape_hit _) c.again.ensures) (c.entry_hit-hb.ensures ∙ ap (shape_hit _) c.again-2.ensures) c.both.ensures c.in_ok-h.was c.is_ok.ensures c.if-not-is_ok.false c.position.ensures c.cut_contains.ensures c.if-restarts-eq0.false c.if-cut_contains.false)
 
 pub entry_hit-returns-then-depth-eq0 : goal.entry_hit-returns-then-depth-eq0
 unfolding read shape_hit
@@ -65,20 +67,22 @@ part_hit-parts_at-e-requires t c = marks-fit _ _ _ _ c.is_there.ensures c.if-not
 
 pub part_hit-entry_hit-requires : goal.part_hit-entry_hit-requires
 part_hit-entry_hit-requires t c =
-    let below : c.args.depth < c.args.above = falls_below c.requires (sym c.parts_at-e.ensures ∙ c.in-Placed.is) in
+    let e = rw c.in-Some-Placed.is at c.in-Some-Placed.field-0-is in
+    let below : c.args.depth < c.args.above = falls_below c.requires (sym c.parts_at-e.ensures ∙ c.in-Some-Placed.is ∙ ap Some e) in
     (omega arith, tt)
 
-pub part_hit-returns-in-Is : goal.part_hit-returns-in-Is
+pub part_hit-returns-in-Some : goal.part_hit-returns-in-Some
 unfolding shape_of shape_hit
-part_hit-returns-in-Is t c =
-    rw (decode_is _ _ _ _ _ c.if-depth-eq0.false (entry-simple _ _ _ _ c.is_there.ensures c.if-not-is_there.false c.simple_at-s.ensures c.in-Is.is)) (ap At (c.intersect.ensures ∙ ap (hit_of _) c.again.ensures))
+part_hit-returns-in-Some t c =
+    rw (decode_is _ _ _ _ _ c.if-depth-eq0.false (entry-simple _ _ _ _ c.is_there.ensures c.if-not-is_there.false c.simple_at-s.ensures c.in-Some.is)) (ap Ok (c.intersect.ensures ∙ ap (hit_of _) c.again.ensures))
 
-pub part_hit-returns-in-Cut : goal.part_hit-returns-in-Cut
+pub part_hit-returns-in-Some-Cut : goal.part_hit-returns-in-Some-Cut
 unfolding shape_of shape_hit
-part_hit-returns-in-Cut t c =
-    rw (decode_is _ _ _ _ _ c.if-depth-eq0.false (entry-parts _ _ _ _ c.is_there.ensures c.if-not-is_there.false c.simple_at-s.ensures c.in-Other.is c.parts_at-e.ensures), c.in-Cut.is, ← c.again-in-Cut.ensures) c.cut_hit.ensures
+part_hit-returns-in-Some-Cut t c =
+    let e = rw c.in-Some-Cut.is at c.in-Some-Cut.field-0-is in
+    rw (decode_is _ _ _ _ _ c.if-depth-eq0.false (entry-parts _ _ _ _ c.is_there.ensures c.if-not-is_there.false c.simple_at-s.ensures c.in-None.is c.parts_at-e.ensures), c.in-Some-Cut.is, e, ← c.again-in-Some-Cut.ensures) c.cut_hit.ensures
 
-pub part_hit-returns-in-None : goal.part_hit-returns-in-None
+pub part_hit-returns-in-None-e : goal.part_hit-returns-in-None-e
 unfolding shape_of shape_hit
-part_hit-returns-in-None t c =
-    rw (decode_is _ _ _ _ _ c.if-depth-eq0.false (entry-parts _ _ _ _ c.is_there.ensures c.if-not-is_there.false c.simple_at-s.ensures c.in-Other.is c.parts_at-e.ensures), c.in-None.is, c.no_hit-in-None.ensures)
+part_hit-returns-in-None-e t c =
+    rw (decode_is _ _ _ _ _ c.if-depth-eq0.false (entry-parts _ _ _ _ c.is_there.ensures c.if-not-is_there.false c.simple_at-s.ensures c.in-None.is c.parts_at-e.ensures), c.in-None-e.is, c.no_hit-in-None-e.ensures)

@@ -4,6 +4,3 @@ use Rattle.test_degrees.proofs.main.Given as goal
 
 abbrev pub invariant-loop-a : goal.invariant-loop-a
 invariant-loop-a l = l.a ≤ 360
-
-abbrev pub decreases-loop-a : goal.decreases-loop-a
-decreases-loop-a l = 360 - l.a

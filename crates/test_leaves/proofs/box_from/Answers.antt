@@ -1,4 +1,3 @@
-use borrow.Author.Rules.{rules}
 use Rattle.test_leaves.specs.Inputs.{box_from}
 use Rattle.test_leaves.proofs.box_from.Goals as goal
 

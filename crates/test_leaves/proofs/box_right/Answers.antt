@@ -1,4 +1,3 @@
-use borrow.Author.Rules.{rules}
 use Rattle.test_leaves.specs.Records.{box_right}
 use Rattle.test_leaves.proofs.box_right.Goals as goal
 

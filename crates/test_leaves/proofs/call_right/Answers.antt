@@ -1,5 +1,4 @@
 use borrow.Author.Tests.{eq-eqb, ne_eqb}
-use borrow.Author.Rules.{rules}
 use Rattle.test_leaves.specs.Records.{call_right}
 use Rattle.test_leaves.proofs.call_right.Goals as goal
 

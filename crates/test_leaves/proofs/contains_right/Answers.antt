@@ -1,4 +1,3 @@
-use borrow.Author.Rules.{rules}
 use Rattle.test_leaves.specs.Records.{contains_right}
 use Rattle.test_leaves.proofs.contains_right.Goals as goal
 

@@ -1,4 +1,3 @@
-use borrow.Author.Rules.{rules}
 use Rattle.test_leaves.specs.Records.{distance_right}
 use Rattle.test_leaves.proofs.distance_right.Goals as goal
 

@@ -1,4 +1,3 @@
-use borrow.Author.Rules.{rules}
 use Rattle.test_leaves.specs.Records.{hit_right}
 use Rattle.test_leaves.proofs.hit_right.Goals as goal
 

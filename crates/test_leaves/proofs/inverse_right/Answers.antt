@@ -1,4 +1,3 @@
-use borrow.Author.Rules.{rules}
 use Rattle.scene.specs.Entries.{matrix_numbers}
 use Rattle.test_leaves.specs.Records.{inverse_right}
 use Rattle.test_leaves.proofs.inverse_right.Goals as goal

@@ -1,4 +1,3 @@
-use borrow.Author.Rules.{rules}
 use Rattle.test_leaves.specs.Records.{length_right}
 use Rattle.test_leaves.proofs.length_right.Goals as goal
 

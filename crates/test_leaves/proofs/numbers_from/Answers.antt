@@ -1,5 +1,4 @@
 use mathlib.Core.Path.{ap, ◌∙◌}
-use borrow.Author.Rules.{rules}
 use Rattle.rows.specs.Entries.{numbers_of}
 use Rattle.test_leaves.specs.Inputs.{numbers_from}
 use Rattle.test_leaves.proofs.numbers_from.Goals as goal

@@ -1,4 +1,3 @@
-use borrow.Author.Rules.{rules}
 use Rattle.test_leaves.specs.Records.{projection_right}
 use Rattle.test_leaves.proofs.projection_right.Goals as goal
 

@@ -1,13 +1,12 @@
-use borrow.Author.Rules.{rules}
 use Rattle.test_leaves.specs.Answers.{told_contains}
 use Rattle.test_leaves.proofs.simple_contains.Goals as goal
 
-pub returns-in-Is : goal.returns-in-Is
+pub returns-in-Some : goal.returns-in-Some
 unfolding told_contains
-returns-in-Is c =
-    rw c.in-Is.is c.contains.ensures
+returns-in-Some c =
+    rw c.in-Some.is c.contains.ensures
 
-pub returns-in-Other : goal.returns-in-Other
+pub returns-in-None : goal.returns-in-None
 unfolding told_contains
-returns-in-Other c =
-    rw c.in-Other.is
+returns-in-None c =
+    rw c.in-None.is

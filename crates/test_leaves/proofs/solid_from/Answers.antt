@@ -4,12 +4,11 @@ use native.Mathlib.Omega.{arith}
 use borrow.Author.Tests.{ne_eqb}
 use Rattle.rows.specs.declared.Numbers.{Numbers}
 use Rattle.scene.specs.Entries.{closed_of, simple_of}
-use Rattle.scene.specs.declared.entry.Simple.TheVariants.{Other}
-use borrow.Author.Rules.{rules}
 use Rattle.test_leaves.specs.Inputs.{solid_from}
 use Rattle.test_leaves.proofs.solid_from.Goals as goal
+use Rattle.std.specs.Prelude.{None}
 
-beyond : (w : ℕ) (n : Numbers) → 9 < w → Other ≡ simple_of w n
+beyond : (w : ℕ) (n : Numbers) → 9 < w → None ≡ simple_of w n
 unfolding simple_of closed_of
 beyond w n h =
     rw (

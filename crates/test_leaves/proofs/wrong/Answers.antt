@@ -1,7 +1,4 @@
-use Prim.Native.Nat.{◌-◌, ◌*◌}
-use borrow.Author.Rules.{rules}
-use Rattle.test_words.proofs.Counting.{Counted, counted_start, counted-turn, counted-end}
-use Rattle.test_leaves.specs.Records.{call_right}
+use Rattle.test_words.proofs.Counting.{counted_start, counted-turn, counted-end}
 use Rattle.test_leaves.proofs.wrong.Goals as goal
 
 pub loop-i-preserved : goal.loop-i-preserved

@@ -1,7 +1,6 @@
 use Rattle.test_queries.proofs.Counts.{sums}
 use Rattle.test_queries.specs.Questions.{eye_asked}
 use native.Mathlib.Omega.{arith}
-use borrow.Author.Rules.{rules}
 use Rattle.test_queries.proofs.ask_eye.Goals as goal
 
 pub returns : goal.returns

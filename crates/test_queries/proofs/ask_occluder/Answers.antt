@@ -1,7 +1,6 @@
 use Rattle.test_queries.proofs.Counts.{two}
 use Rattle.test_queries.specs.Questions.{unequal, name_code}
 use mathlib.Core.Path.{ap, ◌∙◌}
-use borrow.Author.Rules.{rules}
 use Rattle.test_queries.proofs.ask_occluder.Goals as goal
 
 pub returns : goal.returns

@@ -1,6 +1,5 @@
 use Rattle.test_queries.proofs.Counts.{hit-alike, hit-apart}
 use native.Mathlib.Omega.{arith}
-use borrow.Author.Rules.{rules}
 use Rattle.test_queries.proofs.differ_hit.Goals as goal
 
 pub returns-then-g-h : goal.returns-then-g-h

@@ -1,7 +1,6 @@
 use borrow.Author.Tests.{eq-eqb, ne_eqb}
 use Rattle.test_queries.proofs.Counts.{nearest-alike, nearest-apart}
 use native.Mathlib.Omega.{arith}
-use borrow.Author.Rules.{rules}
 use Rattle.test_queries.proofs.differ_nearest.Goals as goal
 
 pub returns-then-a-b : goal.returns-then-a-b

@@ -1,19 +1,17 @@
 use Rattle.test_queries.specs.Questions.{name_code}
-use mathlib.Core.Path.{sym, ap, ◌∙◌}
-use borrow.Author.Rules.{rules}
 use Rattle.test_queries.proofs.name_code.Goals as goal
 
-pub returns-in-Clear : goal.returns-in-Clear
+pub returns-in-Ok-None : goal.returns-in-Ok-None
 unfolding name_code
-returns-in-Clear c =
-    sym (ap name_code c.in-Clear.is)
+returns-in-Ok-None c =
+    let a = c.in-Ok-None in rw (a.is, (rw a.is at a.field-0-is))
 
-pub returns-in-Hidden : goal.returns-in-Hidden
+pub returns-in-Ok-Some : goal.returns-in-Ok-Some
 unfolding name_code
-returns-in-Hidden c =
-    sym (ap name_code c.in-Hidden.is)
+returns-in-Ok-Some c =
+    let a = c.in-Ok-Some in rw (a.is, (rw a.is at a.field-0-is))
 
-pub returns-in-Refused : goal.returns-in-Refused
+pub returns-in-Err : goal.returns-in-Err
 unfolding name_code
-returns-in-Refused c =
-    c.number.ensures ∙ sym (ap name_code c.in-Refused.is)
+returns-in-Err c =
+    rw c.in-Err.is c.number.ensures

@@ -2,7 +2,6 @@ use Rattle.test_queries.proofs.Counts.{missed-asked}
 use Rattle.test_queries.specs.Questions.{solids_only}
 use Rattle.tree_nodes.specs.Nodes.{places_of}
 use native.Mathlib.Omega.{arith}
-use borrow.Author.Rules.{rules}
 use Rattle.test_queries.proofs.one_missed.Goals as goal
 
 pub returns : goal.returns

@@ -2,7 +2,6 @@ use Rattle.test_queries.specs.Questions.{one_short}
 use Rattle.tree_nodes.specs.Nodes.{places_of}
 use Rattle.test_queries.proofs.Counts.{sums}
 use native.Mathlib.Omega.{arith}
-use borrow.Author.Rules.{rules}
 use Rattle.test_queries.proofs.one_short.Goals as goal
 
 pub overflow_add-result : goal.overflow_add-result

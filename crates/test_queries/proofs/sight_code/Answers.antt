@@ -1,19 +1,17 @@
 use Rattle.test_queries.specs.Questions.{sight_code}
-use mathlib.Core.Path.{sym, ap, ◌∙◌}
-use borrow.Author.Rules.{rules}
 use Rattle.test_queries.proofs.sight_code.Goals as goal
 
-pub returns-in-Hidden : goal.returns-in-Hidden
+pub returns-in-Ok-Hidden : goal.returns-in-Ok-Hidden
 unfolding sight_code
-returns-in-Hidden c =
-    sym (ap sight_code c.in-Hidden.is)
+returns-in-Ok-Hidden c =
+    let a = c.in-Ok-Hidden in rw (a.is, (rw a.is at a.field-0-is))
 
-pub returns-in-Visible : goal.returns-in-Visible
+pub returns-in-Ok-Visible : goal.returns-in-Ok-Visible
 unfolding sight_code
-returns-in-Visible c =
-    sym (ap sight_code c.in-Visible.is)
+returns-in-Ok-Visible c =
+    let a = c.in-Ok-Visible in rw (a.is, (rw a.is at a.field-0-is))
 
-pub returns-in-Refused : goal.returns-in-Refused
+pub returns-in-Err : goal.returns-in-Err
 unfolding sight_code
-returns-in-Refused c =
-    c.number.ensures ∙ sym (ap sight_code c.in-Refused.is)
+returns-in-Err c =
+    rw c.in-Err.is c.number.ensures

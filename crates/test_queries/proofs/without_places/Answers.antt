@@ -2,7 +2,6 @@ use Rattle.test_queries.proofs.Counts.{sums}
 use Rattle.test_queries.specs.Questions.{without_places}
 use Rattle.tree_nodes.specs.Nodes.{places_of}
 use native.Mathlib.Omega.{arith}
-use borrow.Author.Rules.{rules}
 use Rattle.test_queries.proofs.without_places.Goals as goal
 
 pub returns : goal.returns

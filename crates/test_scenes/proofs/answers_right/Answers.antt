@@ -1,6 +1,4 @@
 use Rattle.test_scenes.specs.Records.{answers_right}
-use borrow.Author.Tests.{not-true, not-false}
-use borrow.Author.Rules.{rules}
 use Rattle.test_scenes.proofs.answers_right.Goals as goal
 
 pub returns-then-not-check_right : goal.returns-then-not-check_right

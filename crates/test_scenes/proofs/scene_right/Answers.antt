@@ -3,8 +3,6 @@ use lib.Seq.{length-take-le}
 use Rattle.test_scenes.proofs.Slices.{room, scene-right-is}
 use Rattle.test_scenes.specs.Records.{scene_right}
 use native.Mathlib.Omega.{arith}
-use borrow.Author.Tests.{not-true, not-false}
-use borrow.Author.Rules.{rules}
 use Rattle.test_scenes.proofs.scene_right.Goals as goal
 
 pub returns-then-not-slices_fit : goal.returns-then-not-slices_fit

@@ -1,7 +1,6 @@
 use Rattle.test_scenes.proofs.Slices.{slices-fit-is}
 use Rattle.test_scenes.specs.Records.{slices_fit}
 use borrow.Author.Tests.{le-leb, lt-leb}
-use borrow.Author.Rules.{rules}
 use Rattle.test_scenes.proofs.slices_fit.Goals as goal
 
 pub returns-then-word-gt16416 : goal.returns-then-word-gt16416

@@ -2,9 +2,7 @@ use mathlib.Core.Path.{◌≡◌, ap, ◌∙◌}
 use Prim.Native.Nat.{ℕ, ◌+◌, ◌-◌, ◌*◌}
 use lib.ListN.{take, drop}
 use native.Mathlib.Omega.{arith}
-use borrow.Author.Rules.{rules}
-use Rattle.test_words.proofs.Counting.{Counted, counted_start, counted-turn, counted-end}
-use Rattle.rows.specs.Rows.{row}
+use Rattle.test_words.proofs.Counting.{counted_start, counted-turn, counted-end}
 use Rattle.test_scenes.specs.Records.{scene_right}
 use Rattle.test_scenes.proofs.wrong.Goals as goal
 

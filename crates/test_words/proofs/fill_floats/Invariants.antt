@@ -10,6 +10,3 @@ use Rattle.test_words.proofs.fill_floats.Given as goal
 
 abbrev pub invariant-loop-j : goal.invariant-loop-j
 invariant-loop-j l = Filled (λ i. float_at l.s (l.k + i % l.period)) (length l.initial.xs) l.n l.j l.xs
-
-abbrev pub decreases-loop-j : goal.decreases-loop-j
-decreases-loop-j l = l.n - l.j

@@ -1,6 +1,5 @@
 use native.Mathlib.Omega.{arith}
 use Rattle.test_yard.proofs.Texts.{short, too_many, so-many}
-use borrow.Author.Rules.{rules}
 use Rattle.test_yard.proofs.count.Goals as goal
 
 pub returns-then-s-lt16 : goal.returns-then-s-lt16

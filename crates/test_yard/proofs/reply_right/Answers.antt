@@ -1,7 +1,6 @@
 use mathlib.Core.Path.{sym}
 use lib.Seq.{length-take-le}
 use Rattle.test_yard.proofs.Texts.{reply-right-is}
-use borrow.Author.Rules.{rules}
 use Rattle.test_yard.proofs.reply_right.Goals as goal
 
 pub slice_bounds-same_word-end : goal.slice_bounds-same_word-end

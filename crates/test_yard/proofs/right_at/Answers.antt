@@ -1,5 +1,4 @@
 use Rattle.test_yard.proofs.Texts.{first-falls, second-falls, over, between}
-use borrow.Author.Rules.{rules}
 use Rattle.test_yard.proofs.right_at.Goals as goal
 
 pub returns-then-a-b : goal.returns-then-a-b

@@ -1,9 +1,8 @@
 use Prim.Native.Nat.{◌-◌}
 use mathlib.Core.Path.{ap, ◌∙◌}
 use native.Mathlib.Omega.{arith}
-use borrow.Author.Rules.{rules}
 use Rattle.test_words.specs.Counts.{wrong_upto}
-use Rattle.test_words.proofs.Counting.{Counted, counted_start, counted-turn, counted-end}
+use Rattle.test_words.proofs.Counting.{counted_start, counted-turn, counted-end}
 use Rattle.test_yard.specs.Records.{right_at}
 use Rattle.test_yard.proofs.wrong.Goals as goal
 

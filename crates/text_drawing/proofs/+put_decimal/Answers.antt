@@ -1,5 +1,4 @@
 use Rattle.text_drawing.proofs.Digits.{decimal-done, decimal-first, decimal-last}
-use mathlib.Core.Path.{◌∙◌}
 use native.Mathlib.Omega.{arith}
 use Rattle.text_drawing.proofs.+put_decimal.Goals as goal
 

@@ -1,7 +1,4 @@
-use Rattle.rows.proofs.Rows.{Filled, filled-start, filled-turn, filled-end}
-use lib.ListN.{length}
-use Prim.Native.Nat.{◌-◌}
-use borrow.Author.Rules.{rules}
+use Rattle.rows.proofs.Rows.{filled-start, filled-turn, filled-end}
 use Rattle.text_drawing.proofs.clear.Goals as goal
 
 pub loop-i-init : goal.loop-i-init
@@ -10,7 +7,7 @@ loop-i-init c =
 
 pub loop-i-preserved : goal.loop-i-preserved
 loop-i-preserved c =
-    filled-turn 0 _ _ _ _ c.loop-i.invariant c.loop-i-test.true
+    filled-turn 0 _ _ _ _ c.loop-i.invariant (rw c.loop-i.invariant.same c.loop-i-test.true)
 
 pub shape_of-text : goal.shape_of-text
 shape_of-text c =
@@ -18,4 +15,4 @@ shape_of-text c =
 
 pub returns : goal.returns
 returns c =
-    filled-end 0 _ _ _ _ c.loop-i.invariant c.loop-i-test.false
+    filled-end 0 _ _ _ _ c.loop-i.invariant (rw c.loop-i.invariant.same c.loop-i-test.false)

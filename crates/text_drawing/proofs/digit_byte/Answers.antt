@@ -1,4 +1,3 @@
-use borrow.Author.Rules.{rules}
 use borrow.Author.Tests.{lt-ltb, le-ltb}
 use Rattle.text_drawing.specs.Numbers.{digit_byte}
 use Rattle.text_drawing.proofs.digit_byte.Goals as goal

@@ -1,6 +1,5 @@
 use mathlib.Core.Path.{◌∙◌}
 use Rattle.text_drawing.proofs.Texts.{number_put}
-use borrow.Author.Rules.{rules}
 use Rattle.text_drawing.proofs.put_number.Goals as goal
 
 pub put_byte-d-requires : goal.put_byte-d-requires

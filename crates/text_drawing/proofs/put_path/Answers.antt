@@ -1,6 +1,5 @@
 use mathlib.Core.Path.{◌∙◌}
 use Rattle.text_drawing.proofs.Texts.{path-put}
-use borrow.Author.Rules.{rules}
 use Rattle.text_drawing.proofs.put_path.Goals as goal
 
 pub put_word-d-requires : goal.put_word-d-requires

@@ -1,13 +1,6 @@
 use Rattle.text_drawing.proofs.Texts.{paths-turn, paths_end}
-use Rattle.text_drawing.proofs.Adding.{Writing, writing_start}
-use Rattle.text_drawing.specs.Drawings.{path_text}
+use Rattle.text_drawing.proofs.Adding.{writing_start}
 use Rattle.paths.proofs.Parts.{range-fits}
-use Rattle.paths.specs.Ends.{all_points}
-use Rattle.paths.specs.Paths.{paths_of}
-use Rattle.rows.specs.Rows.{flat}
-use lib.ListN.{length, drop}
-use Prim.Native.Nat.{◌-◌}
-use borrow.Author.Rules.{rules}
 use Rattle.text_drawing.proofs.put_paths.Goals as goal
 
 pub loop-i-init : goal.loop-i-init

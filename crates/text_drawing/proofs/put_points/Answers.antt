@@ -1,12 +1,6 @@
 use Rattle.text_drawing.proofs.Texts.{points-turn, points-end}
-use Rattle.text_drawing.proofs.Adding.{Writing, writing_start}
-use Rattle.text_drawing.specs.Drawings.{point_text}
-use Rattle.paths.specs.Ends.{all_points}
-use Rattle.rows.specs.Rows.{flat}
+use Rattle.text_drawing.proofs.Adding.{writing_start}
 use native.Mathlib.Omega.{arith}
-use lib.Seq.{slice}
-use Prim.Native.Nat.{◌-◌, ◌≤◌}
-use borrow.Author.Rules.{rules}
 use Rattle.text_drawing.proofs.put_points.Goals as goal
 
 pub loop-i-init : goal.loop-i-init

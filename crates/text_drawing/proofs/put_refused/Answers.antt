@@ -1,7 +1,6 @@
 use mathlib.Core.Path.{◌∙◌}
 use Rattle.text_drawing.proofs.Ends.{within_none}
 use Rattle.text_drawing.proofs.Texts.{refused-put}
-use borrow.Author.Rules.{rules}
 use Rattle.text_drawing.proofs.put_refused.Goals as goal
 
 pub put_word-c-requires : goal.put_word-c-requires

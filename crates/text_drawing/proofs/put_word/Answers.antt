@@ -1,7 +1,4 @@
-use Rattle.text_drawing.proofs.Adding.{Writing, writing_start, word-turn, word_end}
-use lib.ListN.{length, drop}
-use Prim.Native.Nat.{◌-◌}
-use borrow.Author.Rules.{rules}
+use Rattle.text_drawing.proofs.Adding.{writing_start, word-turn, word_end}
 use Rattle.text_drawing.proofs.put_word.Goals as goal
 
 pub loop-i-init : goal.loop-i-init

@@ -1,6 +1,5 @@
 use mathlib.Core.Path.{◌∙◌}
 use Rattle.text_drawing.proofs.Ends.{all-answered, all_laid}
-use borrow.Author.Rules.{rules}
 use Rattle.text_drawing.proofs.write_drawing.Goals as goal
 
 pub finish-requires : goal.finish-requires

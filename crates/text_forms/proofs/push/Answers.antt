@@ -1,6 +1,5 @@
 use Rattle.text_forms.proofs.Entries.{numbers_more, marks-more}
 use native.Mathlib.Omega.{arith}
-use borrow.Author.Rules.{rules}
 use Rattle.text_forms.proofs.push.Goals as goal
 
 pub write_numbers-requires : goal.write_numbers-requires

@@ -3,7 +3,6 @@ use lib.ListN.{length-set}
 use native.Mathlib.Omega.{arith}
 use mathlib.Core.List.{[], ◌∷◌}
 use Prim.Native.Nat.{◌*◌}
-use borrow.Author.Rules.{rules}
 use Rattle.text_forms.proofs.put_marks.Goals as goal
 
 pub bounds-marks-at-2 : goal.bounds-marks-at-2

@@ -1,7 +1,6 @@
 use Rattle.text_forms.proofs.Entries.{round-full, round-enters}
 use Rattle.text_heads.specs.Cursors.{WithinNext}
 use native.Mathlib.Omega.{arith}
-use borrow.Author.Rules.{rules}
 use Rattle.text_forms.proofs.round.Goals as goal
 
 pub returns-then-c-ge512 : goal.returns-then-c-ge512

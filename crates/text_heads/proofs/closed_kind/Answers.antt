@@ -1,5 +1,4 @@
 use Rattle.text_heads.specs.Heads.{closed_kind}
-use borrow.Author.Rules.{rules}
 use Rattle.text_heads.proofs.closed_kind.Goals as goal
 
 pub returns-then-same_word : goal.returns-then-same_word

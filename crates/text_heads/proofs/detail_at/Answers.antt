@@ -1,7 +1,6 @@
 use Rattle.text_heads.specs.Heads.{detail_in}
 use Rattle.text_tokens.specs.Seen.{counted_as}
 use borrow.Author.Tests.{eq-eqb, ne_eqb}
-use borrow.Author.Rules.{rules}
 use Rattle.text_heads.proofs.detail_at.Goals as goal
 
 pub returns-then-kind-eq4 : goal.returns-then-kind-eq4

@@ -1,5 +1,4 @@
 use Rattle.text_heads.specs.Heads.{kind_of}
-use borrow.Author.Rules.{rules}
 use Rattle.text_heads.proofs.kind_of.Goals as goal
 
 pub returns-then-same_word : goal.returns-then-same_word

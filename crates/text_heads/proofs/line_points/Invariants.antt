@@ -1,8 +1,5 @@
-use Rattle.text_heads.proofs.Lines.{Dotted, dotted-start, dotted-end, dotted-full, dotted-stray, dotted-turn}
-use Rattle.text_heads.specs.Cursors.{WithinRun}
-use native.Mathlib.Omega.{arith}
+use Rattle.text_heads.proofs.Lines.{Dotted}
 use Prim.Native.Nat.{◌-◌}
-use borrow.Author.Rules.{rules}
 use Rattle.text_heads.proofs.line_points.Given as goal
 
 abbrev pub invariant-loop-n : goal.invariant-loop-n

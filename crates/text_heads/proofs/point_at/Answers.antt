@@ -2,25 +2,24 @@ use Rattle.text_heads.specs.Cursors.{spot_as}
 use Rattle.text_heads.specs.Heads.{point_in}
 use Rattle.text_tokens.specs.Seen.{found_as}
 use Rattle.text_tokens.specs.Tokens.{and_then}
-use borrow.Author.Rules.{rules}
 use Rattle.text_heads.proofs.point_at.Goals as goal
 
-pub returns-in_default : goal.returns-in_default
+pub returns-in_err-x : goal.returns-in_err-x
 unfolding point_in and_then found_as spot_as
-returns-in_default c =
-    rw (← c.number_at-a.ensures, c.in_default.is)
+returns-in_err-x c =
+    rw (c.from_residual.ensures, ← c.number_at.ensures, c.in_err-x.was)
 
-pub returns-in_default-b : goal.returns-in_default-b
+pub returns-in_err-y : goal.returns-in_err-y
 unfolding point_in and_then found_as spot_as
-returns-in_default-b c =
-    rw (← c.number_at-a.ensures, c.in-Real.is, ← c.number_at-b.ensures, c.in_default-b.is)
+returns-in_err-y c =
+    rw (c.from_residual-in_err-y.ensures, ← c.number_at.ensures, c.in_ok-x.was, ← c.number_at-2.ensures, c.in_err-y.was)
 
-pub returns-in_default-c : goal.returns-in_default-c
+pub returns-in_err-z : goal.returns-in_err-z
 unfolding point_in and_then found_as spot_as
-returns-in_default-c c =
-    rw (← c.number_at-a.ensures, c.in-Real.is, ← c.number_at-b.ensures, c.in-Real-b.is, ← c.number_at-c.ensures, c.in_default-c.is)
+returns-in_err-z c =
+    rw (c.from_residual-in_err-z.ensures, ← c.number_at.ensures, c.in_ok-x.was, ← c.number_at-2.ensures, c.in_ok-y.was, ← c.number_at-3.ensures, c.in_err-z.was)
 
 pub returns : goal.returns
 unfolding point_in and_then found_as spot_as
 returns c =
-    rw (← c.number_at-a.ensures, c.in-Real.is, ← c.number_at-b.ensures, c.in-Real-b.is, ← c.number_at-c.ensures, c.in-Real-c.is)
+    rw (← c.number_at.ensures, c.in_ok-x.was, ← c.number_at-2.ensures, c.in_ok-y.was, ← c.number_at-3.ensures, c.in_ok-z.was)

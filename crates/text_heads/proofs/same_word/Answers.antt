@@ -1,8 +1,5 @@
-use Rattle.text_heads.proofs.Words.{same-lengths, Alike, alike-start, alike-turn, alike-falls, alike_end}
+use Rattle.text_heads.proofs.Words.{same-lengths, alike-start, alike-turn, alike-falls, alike_end}
 use native.Mathlib.Omega.{arith}
-use Prim.Native.Nat.{◌-◌}
-use lib.ListN.{length}
-use borrow.Author.Rules.{rules}
 use Rattle.text_heads.proofs.same_word.Goals as goal
 
 pub returns-then-w-v : goal.returns-then-w-v

@@ -1,6 +1,5 @@
 use Rattle.text_heads.specs.Heads.{stripes_in}
 use Rattle.text_tokens.specs.Seen.{counted_as}
-use borrow.Author.Rules.{rules}
 use Rattle.text_heads.proofs.stripes_at.Goals as goal
 
 pub returns-then-is_striped : goal.returns-then-is_striped

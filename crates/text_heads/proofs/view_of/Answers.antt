@@ -1,6 +1,5 @@
 use Rattle.text_heads.proofs.Numbers.{rest-row}
 use Rattle.text_heads.specs.Heads.{view_of}
-use borrow.Author.Rules.{rules}
 use Rattle.text_heads.proofs.view_of.Goals as goal
 
 pub returns : goal.returns

@@ -11,6 +11,3 @@ use Rattle.text_items.proofs.put_lines.Given as goal
 
 abbrev pub invariant-loop-j : goal.invariant-loop-j
 invariant-loop-j l = Writing (flat line_text (ownLeft l.i (all_points l.points) l.starts l.owners 0)) l.initial.text l.initial.d l.text l.d (flat line_text (ownLeft l.i (all_points l.points) l.starts l.owners l.j))
-
-abbrev pub decreases-loop-j : goal.decreases-loop-j
-decreases-loop-j l = length l.starts - l.j

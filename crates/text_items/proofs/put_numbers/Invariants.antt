@@ -10,6 +10,3 @@ use Rattle.text_items.proofs.put_numbers.Given as goal
 
 abbrev pub invariant-loop-i : goal.invariant-loop-i
 invariant-loop-i l = Writing (flat hex_text l.xs) l.initial.text l.initial.d l.text l.d (flat hex_text (drop l.i l.xs))
-
-abbrev pub decreases-loop-i : goal.decreases-loop-i
-decreases-loop-i l = length l.xs - l.i

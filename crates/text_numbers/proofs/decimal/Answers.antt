@@ -1,9 +1,5 @@
-use borrow.Author.Rules.{rules}
-use Prim.Native.Nat.{◌≤◌, ◌-◌}
-use mathlib.Core.Path.{◌≡◌, sym, ◌∙◌}
-use lib.ListN.{length, drop}
+use mathlib.Core.Path.{sym, ◌∙◌}
 use native.Mathlib.Omega.{arith}
-use Rattle.text_numbers.specs.Numerals.{decimal_of, decimal_from}
 use Rattle.text_numbers.proofs.Digits.{decimal-more, decimal-stray, decimal-over, decimal-end, nothing, something}
 use Rattle.text_numbers.proofs.decimal.Goals as goal
 

@@ -1,10 +1,7 @@
-use borrow.Author.Rules.{rules}
-use Prim.Native.Nat.{◌≤◌, ◌<◌, ◌-◌, ◌^◌}
-use mathlib.Core.Path.{◌≡◌, sym, ◌∙◌}
-use lib.ListN.{length, drop}
+use mathlib.Core.Path.{sym, ◌∙◌}
 use native.Mathlib.Omega.{arith}
 use borrow.Author.Tests.{eq-eqb, ne_eqb}
-use Rattle.text_numbers.specs.Numerals.{hex_of, hex_from}
+use Rattle.text_numbers.specs.Numerals.{hex_of}
 use Rattle.text_numbers.proofs.Digits.{hex-more, hex-stray, hex-end, hex-below, hex-fits}
 use Rattle.text_numbers.proofs.hexadecimal.Goals as goal
 

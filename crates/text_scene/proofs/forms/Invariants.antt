@@ -1,11 +1,6 @@
-use Rattle.text_scene.proofs.Texts.{Formed, formed-start, formed-end, formed-no, formed-more, formed-turn, line-lies}
-use Rattle.text_forms.proofs.Forms.{within-next, sized-kept}
-use Rattle.text_heads.specs.Cursors.{WithinNext}
+use Rattle.text_scene.proofs.Texts.{Formed}
 use lib.ListN.{length}
-use native.Mathlib.Omega.{arith}
-use mathlib.Core.Path.{◌∙◌}
 use Prim.Native.Nat.{◌+◌, ◌-◌}
-use borrow.Author.Rules.{rules}
 use Rattle.text_scene.proofs.forms.Given as goal
 
 abbrev pub invariant-loop-a : goal.invariant-loop-a

@@ -1,7 +1,7 @@
-use Rattle.text_scene.proofs.Texts.{Running, running-start, running-turn, running-feed, running-end}
+use Rattle.text_scene.proofs.Texts.{running-start, running-turn, running-feed, running-end}
 use lib.ListN.{length}
-use Prim.Native.Nat.{◌-◌}
-use borrow.Author.Rules.{rules}
+use mathlib.Core.Path.{◌≡◌}
+use native.Mathlib.Omega.{arith}
 use Rattle.text_scene.proofs.line_end.Goals as goal
 
 pub loop-i-init : goal.loop-i-init
@@ -18,4 +18,5 @@ loop-i-preserved c =
 
 pub returns : goal.returns
 returns c =
-    (c.loop-i.invariant.from, (c.loop-i.invariant.upto, running-end _ _ _ c.loop-i.invariant c.loop-i-test.false))
+    let e : c.loop-i.i ≡ length c.args.text.now = omega (arith, c.loop-i.invariant.upto) in
+    (omega (arith, c.loop-i.invariant.from), (omega arith, rw e at (running-end _ _ _ c.loop-i.invariant c.loop-i-test.false)))

@@ -1,9 +1,6 @@
-use Rattle.text_scene.proofs.Texts.{Skipped, skipped-start, skipped-turn, skipped-line, skipped-over}
-use Rattle.text_scene.specs.Readings.{LineWithin}
+use Rattle.text_scene.proofs.Texts.{Skipped}
 use lib.ListN.{length}
-use native.Mathlib.Omega.{arith}
 use Prim.Native.Nat.{◌+◌, ◌-◌}
-use borrow.Author.Rules.{rules}
 use Rattle.text_scene.proofs.next_line.Given as goal
 
 abbrev pub invariant-loop-a : goal.invariant-loop-a

@@ -1,10 +1,6 @@
-use borrow.Author.Rules.{rules}
-use Prim.Native.Nat.{◌-◌}
-use mathlib.Core.Path.{◌≡◌, refl, ◌∙◌}
-use lib.ListN.{length}
+use mathlib.Core.Path.{refl, sym, ◌∙◌}
 use native.Mathlib.Omega.{arith}
-use Rattle.text_tokens.specs.Tokens.{left}
-use Rattle.text_tokens.proofs.Tokens.{left-space}
+use Rattle.text_tokens.proofs.Tokens.{left-space, left_over}
 use Rattle.text_tokens.proofs.skip.Goals as goal
 
 pub loop-i-init : goal.loop-i-init
@@ -21,4 +17,4 @@ loop-i-preserved c =
 
 pub returns : goal.returns
 returns c =
-    (c.loop-i.invariant, λ l. absurd (omega (arith, l, c.loop-i-test.false)))
+    (c.loop-i.invariant ∙ left_over _ _ c.loop-i-test.false ∙ sym (left_over _ _ (omega arith)), λ l. absurd (omega (arith, l)))

@@ -2,7 +2,6 @@ use Rattle.text_tokens.proofs.Tokens.{left_over, left-opens, left-closes, is_wor
 use Rattle.text_tokens.specs.Seen.{seen, TokenWithin}
 use mathlib.Core.Path.{sym, ◌∙◌}
 use native.Mathlib.Omega.{arith}
-use borrow.Author.Rules.{rules}
 use Rattle.text_tokens.proofs.token.Goals as goal
 
 pub returns-then-i-text : goal.returns-then-i-text

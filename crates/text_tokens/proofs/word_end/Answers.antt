@@ -1,9 +1,6 @@
-use borrow.Author.Rules.{rules}
-use Prim.Native.Nat.{◌≤◌, ◌<◌, ◌-◌}
 use mathlib.Core.Path.{◌≡◌}
-use lib.ListN.{length, drop}
+use lib.ListN.{length}
 use native.Mathlib.Omega.{arith}
-use Rattle.text_tokens.specs.Tokens.{left, part, tokens_from}
 use Rattle.text_tokens.proofs.Tokens.{word_first, word_more, word-closed, word_over}
 use Rattle.text_tokens.proofs.word_end.Goals as goal
 
@@ -21,4 +18,5 @@ loop-i-preserved c =
 
 pub returns : goal.returns
 returns c =
-    (omega (arith, c.loop-i.invariant.0), omega arith, word_over _ _ _ c.loop-i.invariant.0 c.loop-i.invariant.1 c.loop-i.invariant.2 c.loop-i-test.false)
+    let e : c.loop-i.i ≡ length c.args.text.now = omega arith in
+    (omega (arith, c.loop-i.invariant.0), omega arith, rw e at (word_over _ _ _ c.loop-i.invariant.0 c.loop-i.invariant.1 c.loop-i.invariant.2 c.loop-i-test.false))

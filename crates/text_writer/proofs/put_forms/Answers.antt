@@ -1,14 +1,10 @@
-use lib.ListN.{length, drop}
-use Prim.Native.Nat.{◌-◌}
-use Rattle.rows.specs.Rows.{flat}
 use Rattle.scene.specs.Scenes.{scene_of}
 use Rattle.lists.proofs.Properties.{each_at}
 use Rattle.text_canonical.specs.Forms.{form_at}
 use Rattle.text_entries.specs.Entries.{Formed}
-use Rattle.text_drawing.proofs.Adding.{Writing, writing_start}
-use Rattle.text_writer.proofs.Yards.{line_of, lines-turn, lines_end}
+use Rattle.text_drawing.proofs.Adding.{writing_start}
+use Rattle.text_writer.proofs.Yards.{lines-turn, lines_end}
 use Rattle.text_writer.proofs.Written.{formed-as}
-use borrow.Author.Rules.{rules}
 use Rattle.text_writer.proofs.put_forms.Goals as goal
 
 pub loop-k-init : goal.loop-k-init

@@ -1,7 +1,6 @@
 use mathlib.Core.Path.{◌∙◌}
 use Rattle.scene.specs.Entries.{matrix_numbers}
 use Rattle.text_writer.proofs.Yards.{view-put}
-use borrow.Author.Rules.{rules}
 use Rattle.text_writer.proofs.put_view.Goals as goal
 
 pub put_word-a-requires : goal.put_word-a-requires

@@ -1,7 +1,6 @@
 use mathlib.Core.Path.{◌∙◌}
 use Rattle.text_drawing.proofs.Ends.{within_none}
 use Rattle.text_writer.proofs.Yards.{yard-put}
-use borrow.Author.Rules.{rules}
 use Rattle.text_writer.proofs.put_yard.Goals as goal
 
 pub put_view-c-requires : goal.put_view-c-requires

@@ -1,6 +1,5 @@
 use mathlib.Core.Path.{◌∙◌}
 use Rattle.text_writer.proofs.Written.{ends_so}
-use borrow.Author.Rules.{rules}
 use Rattle.text_writer.proofs.write.Goals as goal
 
 pub finish-requires : goal.finish-requires

@@ -3,13 +3,13 @@ use mathlib.Core.Path.{subst⁻¹}
 use Rattle.tree_nodes.specs.declared.Node.{Node}
 use Rattle.tree_build.proofs.Recursion.{Planned, each-o, inside, half, length-L, length_r, short-left, full-here, full-left, built-both, built-leaf}
 use Rattle.tree_build.specs.Slices.{NodeRoom, BuiltAs}
-use Rattle.tree_build.specs.declared.Outcome.{Outcome}
 use Rattle.tree_split.specs.Build.{box_at, Fits, tree_for}
 use Rattle.tree_sort.proofs.Sorting.{second-half, second-length}
 use Rattle.lists.proofs.Properties.{each_take, each-drop}
 use Rattle.lists.specs.Lists.{Each}
 use Rattle.tree_nodes.proofs.Nodes.{node-same, node-other}
 use Rattle.tree_nodes.specs.Nodes.{node_at}
+use Rattle.std.specs.Prelude.{Option}
 use Rattle.tree_build.proofs.+build.Goals as goal
 
 pub returns-then-at-eq0 : goal.returns-then-at-eq0
@@ -48,8 +48,8 @@ slice_bounds-build-end-2 t c =
     let D : Planned (box_at a.boxes.now) a.order.now d.new.order d.result = record { some = q.some; plan = d.ensures.0; order = d.ensures.1 } in
     sym (length-L _ _ _ _ D c.if-at-eq0.false)
 
-pub build-l-requires : goal.build-l-requires
-build-l-requires t c =
+pub build-requires : goal.build-requires
+build-requires t c =
     let a = c.args in
     let q = c.requires.1 in
     let d = c.decide-p in
@@ -90,7 +90,7 @@ slice_bounds-build-count t c =
     let d = c.decide-p in
     let D : Planned (box_at a.boxes.now) a.order.now d.new.order d.result = record { some = q.some; plan = d.ensures.0; order = d.ensures.1 } in
     let z = c.if-at-eq0.false in
-    let b = c.build-l in
+    let b = c.build in
     let k : length b.new.order ≡ length (take d.result.at d.new.order) = b.auto.order in
     omega (arith, second-length d.new.order b.new.order [] d.result.at (half _ _ _ _ D z) k, half _ _ _ _ D z)
 
@@ -101,7 +101,7 @@ slice_bounds-build-start t c =
     let d = c.decide-p in
     let D : Planned (box_at a.boxes.now) a.order.now d.new.order d.result = record { some = q.some; plan = d.ensures.0; order = d.ensures.1 } in
     let z = c.if-at-eq0.false in
-    let b = c.build-l in
+    let b = c.build in
     let k : length b.new.order ≡ length (take d.result.at d.new.order) = b.auto.order in
     omega (arith, second-length d.new.order b.new.order [] d.result.at (half _ _ _ _ D z) k, half _ _ _ _ D z)
 
@@ -113,17 +113,17 @@ overflow_add-start t c =
     let D : Planned (box_at a.boxes.now) a.order.now d.new.order d.result = record { some = q.some; plan = d.ensures.0; order = d.ensures.1 } in
     omega (arith, inside _ _ _ _ D c.if-at-eq0.false, q.upto)
 
-pub build-requires : goal.build-requires
-build-requires t c =
+pub build-requires-2 : goal.build-requires-2
+build-requires-2 t c =
     let a = c.args in
     let q = c.requires.1 in
     let d = c.decide-p in
     let D : Planned (box_at a.boxes.now) a.order.now d.new.order d.result = record { some = q.some; plan = d.ensures.0; order = d.ensures.1 } in
     let z = c.if-at-eq0.false in
-    let b = c.build-l in
+    let b = c.build in
     let k : length b.new.order ≡ length (take d.result.at d.new.order) = b.auto.order in
     let w = c.write_node-2 in
-    let left = subst (λ (r : Outcome). BuiltAs r (node_at w.new.boxes w.new.marks) (node_at b.new.node_boxes b.new.node_marks) a.places a.free (a.free + 2) a.start b.new.order (tree_for (box_at a.boxes.now) (take d.result.at d.new.order))) c.in-Upto.is b.ensures in
+    let left = subst (λ (r : Option ℕ). BuiltAs r (node_at w.new.boxes w.new.marks) (node_at b.new.node_boxes b.new.node_marks) a.places a.free (a.free + 2) a.start b.new.order (tree_for (box_at a.boxes.now) (take d.result.at d.new.order))) c.in_ok-f.was b.ensures in
     let e = second-half d.new.order b.new.order [] d.result.at (half _ _ _ _ D z) k in
     let lr = length_r _ _ _ _ D z in
     let i = inside _ _ _ _ D z in
@@ -131,7 +131,7 @@ build-requires t c =
       subst⁻¹ (λ (l : List ℕ). length l < t) e (omega (arith, lr, i, z, c.decreases)),
       (
         subst⁻¹ (λ (l : List ℕ). Each (Fits a.boxes.now) l) e (each-drop (Fits a.boxes.now) d.result.at d.new.order (each-o _ _ _ _ D (Fits a.boxes.now) c.requires.0)),
-        subst⁻¹ (λ (l : List ℕ). NodeRoom b.new.node_boxes b.new.node_marks a.places (a.free + 1) c.in-Upto.f (a.start + d.result.at) (length l)) e
+        subst⁻¹ (λ (l : List ℕ). NodeRoom b.new.node_boxes b.new.node_marks a.places (a.free + 1) c.in_ok-f.f (a.start + d.result.at) (length l)) e
             (record {
               long = omega (arith, q.long, w.auto.boxes, b.auto.node_boxes);
               wide = omega (arith, q.wide, w.auto.marks, b.auto.node_marks);
@@ -146,34 +146,34 @@ build-requires t c =
       ),
     )
 
-pub returns-in-Full : goal.returns-in-Full
-returns-in-Full t c =
+pub returns-in_err-f : goal.returns-in_err-f
+returns-in_err-f t c =
     let a = c.args in
     let q = c.requires.1 in
     let d = c.decide-p in
     let D : Planned (box_at a.boxes.now) a.order.now d.new.order d.result = record { some = q.some; plan = d.ensures.0; order = d.ensures.1 } in
     let z = c.if-at-eq0.false in
-    let b = c.build-l in
+    let b = c.build in
     let k : length b.new.order ≡ length (take d.result.at d.new.order) = b.auto.order in
     let w = c.write_node-2 in
-    let left = subst (λ (r : Outcome). BuiltAs r (node_at w.new.boxes w.new.marks) (node_at b.new.node_boxes b.new.node_marks) a.places a.free (a.free + 2) a.start b.new.order (tree_for (box_at a.boxes.now) (take d.result.at d.new.order))) c.in-Full.is b.ensures in
-    full-left _ _ _ _ D z a.places a.free left
+    let left = subst (λ (r : Option ℕ). BuiltAs r (node_at w.new.boxes w.new.marks) (node_at b.new.node_boxes b.new.node_marks) a.places a.free (a.free + 2) a.start b.new.order (tree_for (box_at a.boxes.now) (take d.result.at d.new.order))) c.in_err-f.was b.ensures in
+    rw c.from_residual.ensures (full-left _ _ _ _ D z a.places a.free left)
 
-pub returns-in-Upto : goal.returns-in-Upto
-returns-in-Upto t c =
+pub returns : goal.returns
+returns t c =
     let a = c.args in
     let q = c.requires.1 in
     let d = c.decide-p in
     let D : Planned (box_at a.boxes.now) a.order.now d.new.order d.result = record { some = q.some; plan = d.ensures.0; order = d.ensures.1 } in
     let z = c.if-at-eq0.false in
-    let b = c.build-l in
+    let b = c.build in
     let k : length b.new.order ≡ length (take d.result.at d.new.order) = b.auto.order in
     let w = c.write_node-2 in
-    let left = subst (λ (r : Outcome). BuiltAs r (node_at w.new.boxes w.new.marks) (node_at b.new.node_boxes b.new.node_marks) a.places a.free (a.free + 2) a.start b.new.order (tree_for (box_at a.boxes.now) (take d.result.at d.new.order))) c.in-Upto.is b.ensures in
-    let b₂ = c.build in
+    let left = subst (λ (r : Option ℕ). BuiltAs r (node_at w.new.boxes w.new.marks) (node_at b.new.node_boxes b.new.node_marks) a.places a.free (a.free + 2) a.start b.new.order (tree_for (box_at a.boxes.now) (take d.result.at d.new.order))) c.in_ok-f.was b.ensures in
+    let b₂ = c.build-2 in
     let n : Node = record { bx = d.result.bx; first = a.free; count = 0; axis = d.result.axis } in
     built-both _ _ _ _ D z a.places a.node a.free a.start (node_at a.node_boxes.now a.node_marks.now) (node_at w.new.boxes w.new.marks)
     (node_at b.new.node_boxes b.new.node_marks) (node_at b₂.new.node_boxes b₂.new.node_marks) q.early
     (node-same a.node_boxes.now w.new.boxes a.node_marks.now w.new.marks a.node n w.ensures.boxes_after w.ensures.marks_after (omega (arith, q.long, q.early, q.within)) (omega (arith, q.wide, q.early, q.within)))
     (node-other a.node_boxes.now w.new.boxes a.node_marks.now w.new.marks a.node n w.ensures.boxes_after w.ensures.marks_after)
-    c.in-Upto.f b.new.order b₂.new.order left k b₂.result b₂.ensures
+    c.in_ok-f.f b.new.order b₂.new.order left k b₂.result b₂.ensures

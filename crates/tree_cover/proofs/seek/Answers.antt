@@ -1,3 +1,4 @@
+use Rattle.std.proofs.lemmas.Result.{err_from_is_err_and}
 use mathlib.Core.Path.{refl}
 use native.Mathlib.Omega.{arith}
 use Rattle.tree_walk.proofs.Rounds.{walking_start, walking-empty, walking-end, walking-gone, walking-box, walking-marks, walking_skip, walking-into, walking-past, walking-full, walking-down}
@@ -70,13 +71,10 @@ pub bounds-order-at : goal.bounds-order-at
 bounds-order-at c =
     omega (arith, c.loop-at.invariant.inside, c.loop-at-test.true)
 
-pub returns-in-Refused : goal.returns-in-Refused
-returns-in-Refused c =
-    leafing-refused _ _ _ _ _ _ _ _ c.loop-at.invariant c.loop-at-test.true _ _ _ refl c.index-in-loop-at.ensures.0 c.entry_hit-a.ensures _ c.in-Refused.is
-
-pub overflow_add-at : goal.overflow_add-at
-overflow_add-at c =
-    omega (arith, c.loop-at.invariant.inside, c.loop-at-test.true)
+pub returns-in_err-h : goal.returns-in_err-h
+returns-in_err-h c =
+    let p = err_from_is_err_and c.from_residual.result c.from_residual.ensures.1 in
+    rw (p.1, p.2) (leafing-refused _ _ _ _ _ _ _ _ c.loop-at.invariant c.loop-at-test.true _ _ _ refl c.index-in-loop-at.ensures.0 c.entry_hit.ensures _ c.in_err-h.was)
 
 pub loop-at-smaller : goal.loop-at-smaller
 loop-at-smaller c =
@@ -84,7 +82,7 @@ loop-at-smaller c =
 
 pub loop-at-preserved : goal.loop-at-preserved
 loop-at-preserved c =
-    leafing-turn _ _ _ _ _ _ _ _ c.loop-at.invariant c.loop-at-test.true _ _ _ refl c.index-in-loop-at.ensures.0 c.entry_hit-a.ensures _ c.in-At.is c.if-h-far.false _ c.nearer-best.ensures
+    leafing-turn _ _ _ _ _ _ _ _ c.loop-at.invariant c.loop-at-test.true _ _ _ refl c.index-in-loop-at.ensures.0 c.entry_hit.ensures _ c.in_ok-h.was c.if-h-far.false _ c.nearer-best.ensures
 
 pub walk-smaller-then-is_leaf : goal.walk-smaller-then-is_leaf
 walk-smaller-then-is_leaf c =
@@ -136,4 +134,4 @@ walk-preserved c =
 
 pub returns : goal.returns
 returns c =
-    leafing-short _ _ _ _ _ _ _ _ c.loop-at.invariant c.loop-at-test.true _ _ _ refl c.index-in-loop-at.ensures.0 c.entry_hit-a.ensures _ c.in-At.is c.if-h-far.true
+    leafing-short _ _ _ _ _ _ _ _ c.loop-at.invariant c.loop-at-test.true _ _ _ refl c.index-in-loop-at.ensures.0 c.entry_hit.ensures _ c.in_ok-h.was c.if-h-far.true

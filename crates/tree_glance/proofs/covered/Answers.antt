@@ -19,14 +19,14 @@ enters-requires c =
 
 pub returns-then-h-distance : goal.returns-then-h-distance
 returns-then-h-distance c =
-    λ h. covering _ _ _ _ _ c.if-place-eq4294967295.false (enters-before _ _ _ _ _ c.enters.ensures h) _ (sym c.entry_hit-a.ensures ∙ c.in-At.is) c.if-h-distance.true
+    λ h. covering _ _ _ _ _ c.if-place-eq4294967295.false (enters-before _ _ _ _ _ c.enters.ensures h) _ (sym c.entry_hit-a.ensures ∙ c.in-Ok.is) c.if-h-distance.true
 
 pub returns-then-place-eq4294967295 : goal.returns-then-place-eq4294967295
 returns-then-place-eq4294967295 c =
     λ h. clash h
 
-pub returns-in-Refused : goal.returns-in-Refused
-returns-in-Refused c =
+pub returns-in-Err : goal.returns-in-Err
+returns-in-Err c =
     λ h. clash h
 
 pub returns-else-h-distance : goal.returns-else-h-distance

@@ -1,4 +1,5 @@
-use mathlib.Core.Path.{refl, sym, ◌∙◌}
+use mathlib.Core.Path.{refl, ap, ◌∙◌}
+use Rattle.std.specs.Prelude.{Some}
 use native.Mathlib.Omega.{arith}
 use borrow.Author.Tests.{not-false}
 use Rattle.geometry.specs.declared.ray.Ray.{Ray}
@@ -32,46 +33,22 @@ returns-then-covered c =
       pre.4,
     )
 
-pub look-g-requires : goal.look-g-requires
-look-g-requires c =
+pub look-requires : goal.look-requires
+look-requires c =
     let args = c.args in let pre = c.requires in (pre.0, pre.1, (aimed args.eye args.point c.sub-v.result args.distance c.sub-v.ensures pre.5 c.div_scalar.result c.div_scalar.ensures c.new-r.result c.new-r.ensures c.aim-b.result c.aim-b.ensures pre.3 (not-false _ c.if-not-b.false)), length-reached args.eye args.point c.sub-v.result args.distance c.sub-v.ensures pre.5 pre.2 pre.3, pre.4)
 
 pub bounds-cover-0 : goal.bounds-cover-0
 bounds-cover-0 c =
-    omega (arith, c.look-g.ensures.1.wide)
+    omega (arith, c.look.ensures.1.wide)
 
-pub shape_of-cover-in-Unsure : goal.shape_of-cover-in-Unsure
-shape_of-cover-in-Unsure c =
-    let pre = c.requires in c.look-g.ensures.1.wide ∙ sym pre.4.wide
-
-pub shape_of-stack-in-Unsure : goal.shape_of-stack-in-Unsure
-shape_of-stack-in-Unsure c =
-    let pre = c.requires in c.look-g.ensures.1.wide_stack ∙ sym pre.4.wide_stack
-
-pub shape_of-cover-in-Hidden : goal.shape_of-cover-in-Hidden
-shape_of-cover-in-Hidden c =
-    let pre = c.requires in c.look-g.ensures.1.wide ∙ sym pre.4.wide
-
-pub shape_of-stack-in-Hidden : goal.shape_of-stack-in-Hidden
-shape_of-stack-in-Hidden c =
-    let pre = c.requires in c.look-g.ensures.1.wide_stack ∙ sym pre.4.wide_stack
-
-pub shape_of-cover-in-Visible : goal.shape_of-cover-in-Visible
-shape_of-cover-in-Visible c =
-    let pre = c.requires in (kept-none _ _ _ _ _ c.look-g.ensures.1).wide ∙ sym pre.4.wide
-
-pub shape_of-stack-in-Visible : goal.shape_of-stack-in-Visible
-shape_of-stack-in-Visible c =
-    let pre = c.requires in c.look-g.ensures.1.wide_stack ∙ sym pre.4.wide_stack
-
-pub returns-in-Unsure : goal.returns-in-Unsure
-returns-in-Unsure c =
-    (tt, c.look-g.ensures.1)
+pub returns-in_err-g : goal.returns-in_err-g
+returns-in_err-g c =
+    rw c.from_residual.ensures (tt, c.look.ensures.1)
 
 pub returns-in-Hidden : goal.returns-in-Hidden
 returns-in-Hidden c =
-    let args = c.args in let pre = c.requires in (seen_as _ _ _ c.in-Hidden.is (told-as args.eye args.point c.sub-v.result args.distance c.sub-v.ensures pre.5 c.div_scalar.result c.div_scalar.ensures c.new-r.result c.new-r.ensures c.aim-b.result c.aim-b.ensures c.if-distance.false (λ (r : Ray). walk_rows (entry_hit args.numbers.now args.inverses.now args.marks.now r) r args.node_boxes.now args.node_marks.now args.order.now) c.look-g.result c.look-g.ensures.0), c.look-g.ensures.1)
+    let args = c.args in let pre = c.requires in (seen_as _ _ _ (c.in_ok-g.was ∙ ap Some c.in-Hidden.is) (told-as args.eye args.point c.sub-v.result args.distance c.sub-v.ensures pre.5 c.div_scalar.result c.div_scalar.ensures c.new-r.result c.new-r.ensures c.aim-b.result c.aim-b.ensures c.if-distance.false (λ (r : Ray). walk_rows (entry_hit args.numbers.now args.inverses.now args.marks.now r) r args.node_boxes.now args.node_marks.now args.order.now) c.look.result c.look.ensures.0), c.look.ensures.1)
 
 pub returns-in-Visible : goal.returns-in-Visible
 returns-in-Visible c =
-    let args = c.args in let pre = c.requires in (seen_as _ _ _ c.in-Visible.is (told-as args.eye args.point c.sub-v.result args.distance c.sub-v.ensures pre.5 c.div_scalar.result c.div_scalar.ensures c.new-r.result c.new-r.ensures c.aim-b.result c.aim-b.ensures c.if-distance.false (λ (r : Ray). walk_rows (entry_hit args.numbers.now args.inverses.now args.marks.now r) r args.node_boxes.now args.node_marks.now args.order.now) c.look-g.result c.look-g.ensures.0), kept-none _ _ _ _ _ c.look-g.ensures.1)
+    let args = c.args in let pre = c.requires in (seen_as _ _ _ (c.in_ok-g.was ∙ ap Some c.in-Visible.is) (told-as args.eye args.point c.sub-v.result args.distance c.sub-v.ensures pre.5 c.div_scalar.result c.div_scalar.ensures c.new-r.result c.new-r.ensures c.aim-b.result c.aim-b.ensures c.if-distance.false (λ (r : Ray). walk_rows (entry_hit args.numbers.now args.inverses.now args.marks.now r) r args.node_boxes.now args.node_marks.now args.order.now) c.look.result c.look.ensures.0), kept-none _ _ _ _ _ c.look.ensures.1)

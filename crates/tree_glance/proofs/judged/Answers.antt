@@ -4,14 +4,14 @@ use Rattle.tree_glance.proofs.judged.Goals as goal
 pub returns-then-h-distance : goal.returns-then-h-distance
 unfolding judged_of
 returns-then-h-distance c =
-    rw (c.in-At.is, c.if-h-distance.true)
+    rw (c.in-Ok.is, c.if-h-distance.true)
 
-pub returns-in-Refused : goal.returns-in-Refused
+pub returns-in-Err : goal.returns-in-Err
 unfolding judged_of
-returns-in-Refused c =
-    rw c.in-Refused.is
+returns-in-Err c =
+    rw c.in-Err.is
 
 pub returns-else-h-distance : goal.returns-else-h-distance
 unfolding judged_of
 returns-else-h-distance c =
-    rw (c.in-At.is, c.if-h-distance.false)
+    rw (c.in-Ok.is, c.if-h-distance.false)

@@ -1,5 +1,4 @@
 use mathlib.Core.Path.{◌≡◌}
-use Prim.Native.Nat.{◌-◌}
 use lib.ListN.{length}
 use Rattle.tree_walk.specs.Walks.{entry_hit}
 use Rattle.tree_glance.proofs.Spots.{Spotting}
@@ -7,6 +6,3 @@ use Rattle.tree_glance.proofs.spot.Given as goal
 
 abbrev pub invariant-loop-k : goal.invariant-loop-k
 invariant-loop-k l = Spotting l.distance l.calm (entry_hit l.numbers l.inverses l.marks l.b.ray) l.order l.first l.count l.found l.k × (l.n ≡ length l.order)
-
-abbrev pub decreases-loop-k : goal.decreases-loop-k
-decreases-loop-k l = l.count - l.k

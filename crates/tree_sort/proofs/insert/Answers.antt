@@ -1,7 +1,8 @@
 use Rattle.tree_sort.proofs.Inserting.{inserting-start, inserting-next, inserting-turn, inserting-here, inserting-end}
 use Rattle.lists.proofs.Properties.{each_at}
 use native.Mathlib.Omega.{arith}
-use mathlib.Core.Path.{sym, ◌∙◌}
+use mathlib.Core.Path.{◌≡◌, sym, ◌∙◌}
+use lib.ListN.{length}
 use Rattle.tree_sort.proofs.insert.Goals as goal
 
 pub loop-i-init : goal.loop-i-init
@@ -16,10 +17,11 @@ pub loop-i-preserved : goal.loop-i-preserved
 loop-i-preserved c =
     inserting-turn _ _ _ _ _ _ c.loop-i.invariant c.loop-i-test.true (sym c.precedes.ensures ∙ c.if-precedes.true)
 
-pub returns-in-loop-i : goal.returns-in-loop-i
-returns-in-loop-i c =
+pub returns-else-precedes : goal.returns-else-precedes
+returns-else-precedes c =
     inserting-here _ _ _ _ _ _ c.loop-i.invariant c.loop-i-test.true (sym c.precedes.ensures ∙ c.if-precedes.false)
 
 pub returns : goal.returns
 returns c =
-    inserting-end _ _ _ _ _ _ c.loop-i.invariant c.loop-i-test.false
+    let e : length c.args.order.now ≡ c.loop-i.i = omega (arith, c.loop-i.invariant.upto) in
+    rw e (inserting-end _ _ _ _ _ _ c.loop-i.invariant c.loop-i-test.false)

@@ -4,6 +4,3 @@ use Rattle.tree_sort.proofs.insertion_sort.Given as goal
 
 abbrev pub invariant-loop-i : goal.invariant-loop-i
 invariant-loop-i l = Suffixed (by_key l.keys) l.initial.order l.order l.i
-
-abbrev pub decreases-loop-i : goal.decreases-loop-i
-decreases-loop-i l = l.i

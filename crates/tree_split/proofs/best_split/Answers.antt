@@ -1,6 +1,5 @@
-use Rattle.tree_split.proofs.Sweeps.{Besting, besting-start, besting-turn, besting-end}
+use Rattle.tree_split.proofs.Sweeps.{besting-start, besting-turn, besting-end}
 use Rattle.tree_split.specs.Build.{box_at}
-use Prim.Native.Nat.{◌-◌}
 use native.Mathlib.Omega.{arith}
 use mathlib.Core.Path.{refl}
 use borrow.Author.Rules.{rules}
@@ -17,10 +16,6 @@ bounds-right-i c =
 pub cost-c-requires : goal.cost-c-requires
 cost-c-requires c =
     let pre = c.requires in (omega (arith, pre.2, c.loop-i-test.true, c.loop-i.invariant.whole), omega (arith, pre.2, c.loop-i.invariant.whole))
-
-pub overflow_add-i : goal.overflow_add-i
-overflow_add-i c =
-    let pre = c.requires in omega (arith, c.loop-i-test.true, pre.2, c.loop-i.invariant.whole)
 
 pub loop-i-preserved : goal.loop-i-preserved
 loop-i-preserved c =

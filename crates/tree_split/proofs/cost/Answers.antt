@@ -1,5 +1,4 @@
 use Rattle.tree_split.proofs.Sweeps.{count-float}
-use borrow.Author.Rules.{rules}
 use Rattle.tree_split.proofs.cost.Goals as goal
 
 pub int_to_float-result : goal.int_to_float-result

@@ -1,8 +1,5 @@
-use Rattle.tree_split.proofs.Sweeps.{Hulled, hulled-start, hulled-turn, hulled-end}
+use Rattle.tree_split.proofs.Sweeps.{hulled-start, hulled-turn, hulled-end}
 use Rattle.tree_split.specs.Build.{box_at}
-use lib.ListN.{length}
-use Prim.Native.Nat.{◌-◌}
-use borrow.Author.Rules.{rules}
 use Rattle.tree_split.proofs.hull.Goals as goal
 
 pub loop-i-init : goal.loop-i-init

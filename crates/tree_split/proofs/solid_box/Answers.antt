@@ -1,6 +1,5 @@
 use Rattle.lists.proofs.Properties.{each_at}
 use native.Mathlib.Omega.{arith}
-use borrow.Author.Rules.{rules}
 use Rattle.tree_split.proofs.solid_box.Goals as goal
 
 pub overflow_cast-s : goal.overflow_cast-s

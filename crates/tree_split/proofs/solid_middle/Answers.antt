@@ -1,4 +1,3 @@
-use borrow.Author.Rules.{rules}
 use Rattle.tree_split.proofs.solid_middle.Goals as goal
 
 pub returns : goal.returns

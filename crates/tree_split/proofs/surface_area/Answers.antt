@@ -1,5 +1,4 @@
 use Rattle.tree_split.specs.Build.{area_of}
-use borrow.Author.Rules.{rules}
 use Rattle.tree_split.proofs.surface_area.Goals as goal
 
 pub returns : goal.returns

@@ -1,5 +1,4 @@
 use mathlib.Core.Bool.{Bool, not}
-use Prim.Native.Nat.{◌-◌}
 use lib.Dec.{eqb}
 use Rattle.rows.specs.declared.Marks.{Marks}
 use Rattle.lists.proofs.Tests.{Passed}
@@ -11,6 +10,3 @@ whole m = not (eqb m.kind 7)
 
 abbrev pub invariant-loop-i : goal.invariant-loop-i
 invariant-loop-i l = Passed (λ k. whole (marks_at l.marks k)) l.n l.i
-
-abbrev pub decreases-loop-i : goal.decreases-loop-i
-decreases-loop-i l = l.n - l.i

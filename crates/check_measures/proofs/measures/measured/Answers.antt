@@ -8,12 +8,12 @@ unfolding measured
 returns-then-m-eq6 c =
     c.within_matrix.ensures ∙ rw (eq-eqb _ _ c.if-m-eq6.true, c.matrix_of-placing.ensures)
 
-pub returns-in-Is : goal.returns-in-Is
+pub returns-in-Some : goal.returns-in-Some
 unfolding measured simple_measured
-returns-in-Is c =
-    c.solid_measured.ensures ∙ rw (ne_eqb _ _ c.if-m-eq6.false, ← c.simple_of-s.ensures, c.in-Is.is)
+returns-in-Some c =
+    c.solid_measured.ensures ∙ rw (ne_eqb _ _ c.if-m-eq6.false, ← c.simple_of-s.ensures, c.in-Some.is)
 
-pub returns-in-Other : goal.returns-in-Other
+pub returns-in-None : goal.returns-in-None
 unfolding measured simple_measured
-returns-in-Other c =
-    rw (ne_eqb _ _ c.if-m-eq6.false, ← c.simple_of-s.ensures, c.in-Other.is)
+returns-in-None c =
+    rw (ne_eqb _ _ c.if-m-eq6.false, ← c.simple_of-s.ensures, c.in-None.is)

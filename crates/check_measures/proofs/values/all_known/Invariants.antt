@@ -1,11 +1,7 @@
 use Rattle.lists.proofs.Tests.{Passed}
 use Rattle.check_measures.specs.Values.{known}
 use Rattle.scene.specs.Entries.{marks_at}
-use Prim.Native.Nat.{◌-◌}
 use Rattle.check_measures.proofs.values.all_known.Given as goal
 
 abbrev pub invariant-loop-i : goal.invariant-loop-i
 invariant-loop-i l = Passed (λ k. known (marks_at l.marks k)) l.n l.i
-
-abbrev pub decreases-loop-i : goal.decreases-loop-i
-decreases-loop-i l = l.n - l.i

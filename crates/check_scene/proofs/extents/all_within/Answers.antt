@@ -23,10 +23,6 @@ pub returns-then-not-within_box : goal.returns-then-not-within_box
 returns-then-not-within_box c =
     let args = c.args in let pre = c.requires in record { value = filling-fails _ _ _ _ _ _ _ _ c.loop-i.invariant c.loop-i-test.true (c.within_box.ensures ∙ ap within_box (formed _ _ _ pre.1 args.boxes.now c.loop-i.boxes _ c.loop-i-test.true pre.0 c.loop-i.invariant.same c.loop-i.invariant.filled c.entry_at-e.ensures c.entry_box-b.ensures)) c.if-not-within_box.true; boxes_after = never }
 
-pub overflow_add-i : goal.overflow_add-i
-overflow_add-i c =
-    omega (arith, c.loop-i-test.true)
-
 pub loop-i-smaller : goal.loop-i-smaller
 loop-i-smaller c =
     omega (arith, c.loop-i-test.true)

@@ -7,6 +7,3 @@ use Rattle.check_scene.proofs.extents.all_within.Given as goal
 
 abbrev pub invariant-loop-i : goal.invariant-loop-i
 invariant-loop-i l = Filling 6 box_of_row (own_box l.numbers l.marks) (λ k. within_box (own_box l.numbers l.marks k)) l.n l.initial.boxes l.boxes l.i
-
-abbrev pub decreases-loop-i : goal.decreases-loop-i
-decreases-loop-i l = l.n - l.i

@@ -22,10 +22,6 @@ pub returns-then-not-invert : goal.returns-then-not-invert
 returns-then-not-invert c =
     record { value = filling-fails _ _ _ _ _ _ _ _ c.loop-i.invariant c.loop-i-test.true c.invert.ensures.value c.if-not-invert.true; inverses_after = never }
 
-pub overflow_add-i : goal.overflow_add-i
-overflow_add-i c =
-    omega (arith, c.loop-i-test.true)
-
 pub loop-i-smaller : goal.loop-i-smaller
 loop-i-smaller c =
     omega (arith, c.loop-i-test.true)

@@ -1,9 +1,7 @@
-use Rattle.draw_arcs.proofs.Moving.{Moving, moving-start, moving-turn, moving-end}
+use Rattle.draw_arcs.proofs.Moving.{moving-start, moving-turn, moving-end}
 use mathlib.Core.Path.{◌≡◌}
 use lib.ListN.{length}
-use Prim.Native.Nat.{◌-◌}
 use native.Mathlib.Omega.{arith}
-use borrow.Author.Rules.{rules}
 use Rattle.draw_arcs.proofs.Placings.moved.Goals as goal
 
 pub loop-i-init : goal.loop-i-init

@@ -1,6 +1,5 @@
 use mathlib.Core.Path.{refl, ap}
 use lib.ListN.{replicate}
-use borrow.Author.Rules.{rules}
 use Rattle.draw_arcs.proofs.Placings.none.Goals as goal
 
 pub returns : goal.returns

@@ -2,7 +2,6 @@ use Rattle.draw_arcs.proofs.Moving.{one_more}
 use mathlib.Core.Path.{◌≡◌, refl}
 use lib.ListN.{length}
 use native.Mathlib.Omega.{arith}
-use borrow.Author.Rules.{rules}
 use Rattle.draw_arcs.proofs.Placings.with.Goals as goal
 
 pub returns : goal.returns

@@ -1,12 +1,12 @@
 use Rattle.host.specs.StageCalls.{paths_told}
 use Rattle.host.proofs.stages.path_count.Goals as goal
 
-pub returns-in-Both : goal.returns-in-Both
+pub returns-in-Ok : goal.returns-in-Ok
 unfolding paths_told
-returns-in-Both c =
-    rw c.in-Both.is
+returns-in-Ok c =
+    rw c.in-Ok.is
 
-pub returns-in-Refused : goal.returns-in-Refused
+pub returns-in-Err : goal.returns-in-Err
 unfolding paths_told
-returns-in-Refused c =
-    rw c.in-Refused.is
+returns-in-Err c =
+    rw c.in-Err.is

@@ -1,12 +1,12 @@
 use Rattle.host.specs.TreeCalls.{node_count}
 use Rattle.host.proofs.trees.node_count.Goals as goal
 
-pub returns-in-Nodes : goal.returns-in-Nodes
+pub returns-in-Ok : goal.returns-in-Ok
 unfolding node_count
-returns-in-Nodes c =
-    rw c.in-Nodes.is
+returns-in-Ok c =
+    rw c.in-Ok.is
 
-pub returns-in-Refused : goal.returns-in-Refused
+pub returns-in-Err : goal.returns-in-Err
 unfolding node_count
-returns-in-Refused c =
-    rw c.in-Refused.is
+returns-in-Err c =
+    rw c.in-Err.is

@@ -1,23 +1,22 @@
 use Rattle.host_plotter.specs.PenCalls.{range_told}
-use borrow.Author.Rules.{rules}
 use Rattle.host_plotter.proofs.pens.range_told.Goals as goal
 
-pub returns-in-Yard : goal.returns-in-Yard
+pub returns-in-Ok-Some-Yard : goal.returns-in-Ok-Some-Yard
 unfolding range_told
-returns-in-Yard c =
-    rw c.in-Yard.is
+returns-in-Ok-Some-Yard c =
+    let a = c.in-Ok-Some-Yard in let i = rw a.is at a.field-0-is in rw (a.is, i, (rw (a.is, i) at a.field-0-0-is))
 
-pub returns-in-Lines : goal.returns-in-Lines
+pub returns-in-Ok-Some-Lines : goal.returns-in-Ok-Some-Lines
 unfolding range_told
-returns-in-Lines c =
-    rw c.in-Lines.is
+returns-in-Ok-Some-Lines c =
+    let a = c.in-Ok-Some-Lines in let i = rw a.is at a.field-0-is in rw (a.is, i, (rw (a.is, i) at a.field-0-0-is))
 
-pub returns-in-UsedUp : goal.returns-in-UsedUp
+pub returns-in-Ok-None : goal.returns-in-Ok-None
 unfolding range_told
-returns-in-UsedUp c =
-    rw c.in-UsedUp.is
+returns-in-Ok-None c =
+    let a = c.in-Ok-None in rw (a.is, (rw a.is at a.field-0-is))
 
-pub returns-in-Refused : goal.returns-in-Refused
+pub returns-in-Err : goal.returns-in-Err
 unfolding range_told
-returns-in-Refused c =
-    rw c.in-Refused.is
+returns-in-Err c =
+    rw c.in-Err.is

@@ -5,19 +5,14 @@ use Rattle.plotter_registers.proofs.Registers.written.Goals as goal
 
 pub stored-requires : goal.stored-requires
 stored-requires c =
-    accepted-below _ _ _ (sym c.judged-answer.ensures ∙ c.in-Accepted.is)
+    accepted-below _ _ _ (sym c.judged-answer.ensures ∙ c.in-Ok.is)
 
-pub returns-in-Accepted : goal.returns-in-Accepted
+pub returns-in-Ok : goal.returns-in-Ok
 unfolding Plotter.write_of Plotter.after_write Plotter.write_number
-returns-in-Accepted c =
-    simp (← c.judged-answer.ensures, c.number-number.ensures, c.in-Accepted.is, c.stored.ensures)
+returns-in-Ok c =
+    simp (← c.judged-answer.ensures, c.write_number-number.ensures, c.in-Ok.is, c.stored.ensures)
 
-pub returns-in-ReadOnly : goal.returns-in-ReadOnly
+pub returns-in-Err : goal.returns-in-Err
 unfolding Plotter.write_of Plotter.after_write Plotter.write_number
-returns-in-ReadOnly c =
-    simp (← c.judged-answer.ensures, c.number-number.ensures, c.in-ReadOnly.is)
-
-pub returns-in-BadCommand : goal.returns-in-BadCommand
-unfolding Plotter.write_of Plotter.after_write Plotter.write_number
-returns-in-BadCommand c =
-    simp (← c.judged-answer.ensures, c.number-number.ensures, c.in-BadCommand.is)
+returns-in-Err c =
+    simp (← c.judged-answer.ensures, c.write_number-number.ensures, c.in-Err.is)

@@ -1,12 +1,12 @@
 use Rattle.query_solid.specs.Answers.{drawn_count}
 use Rattle.query_solid.proofs.answers.drawn_count.Goals as goal
 
-pub returns-in-Accepted : goal.returns-in-Accepted
+pub returns-in-Ok : goal.returns-in-Ok
 unfolding drawn_count
-returns-in-Accepted c =
-    rw c.in-Accepted.is
+returns-in-Ok c =
+    rw c.in-Ok.is
 
-pub returns-in-Refused : goal.returns-in-Refused
+pub returns-in-Err : goal.returns-in-Err
 unfolding drawn_count
-returns-in-Refused c =
-    rw c.in-Refused.is
+returns-in-Err c =
+    rw c.in-Err.is

@@ -1,12 +1,12 @@
 use Rattle.query_solid.specs.Answers.{inside}
 use Rattle.query_solid.proofs.answers.inside.Goals as goal
 
-pub returns-in-Inside : goal.returns-in-Inside
+pub returns-in-Ok : goal.returns-in-Ok
 unfolding inside
-returns-in-Inside c =
-    rw c.in-Inside.is
+returns-in-Ok c =
+    rw c.in-Ok.is
 
-pub returns-in-Refused : goal.returns-in-Refused
+pub returns-in-Err : goal.returns-in-Err
 unfolding inside
-returns-in-Refused c =
-    rw c.in-Refused.is
+returns-in-Err c =
+    rw c.in-Err.is

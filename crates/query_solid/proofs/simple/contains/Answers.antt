@@ -4,11 +4,11 @@ use mathlib.Core.Path.{refl}
 use borrow.Author.Rules.{rules}
 use Rattle.query_solid.proofs.simple.contains.Goals as goal
 
-pub returns-in-Other : goal.returns-in-Other
+pub returns-in-None : goal.returns-in-None
 unfolding simple_contains
-returns-in-Other c =
-    no-simple-inside _ c.args.n.now (search rules) c.read_numbers.ensures c.simple_of-s.ensures _ _ c.in-Other.is refl
+returns-in-None c =
+    no-simple-inside _ c.args.n.now (search rules) c.read_numbers.ensures c.simple_of-s.ensures _ _ c.in-None.is refl
 
-pub returns-in-Is : goal.returns-in-Is
-returns-in-Is c =
-    lone-contains _ _ (search rules) c.read_numbers.ensures c.simple_of-s.ensures c.in-Is.is _ _ c.entry_contains.ensures
+pub returns-in-Some : goal.returns-in-Some
+returns-in-Some c =
+    lone-contains _ _ (search rules) c.read_numbers.ensures c.simple_of-s.ensures c.in-Some.is _ _ c.entry_contains.ensures

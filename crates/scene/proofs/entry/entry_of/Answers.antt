@@ -1,12 +1,12 @@
 use Rattle.scene.specs.Entries.{simple_or, entry_of}
 use Rattle.scene.proofs.entry.entry_of.Goals as goal
 
-pub returns-in-Is : goal.returns-in-Is
+pub returns-in-Some : goal.returns-in-Some
 unfolding entry_of simple_or
-returns-in-Is c =
-    rw (← c.simple_of-s.ensures, c.in-Is.is)
+returns-in-Some c =
+    rw (← c.simple_of-s.ensures, c.in-Some.is)
 
-pub returns-in-Other : goal.returns-in-Other
+pub returns-in-None : goal.returns-in-None
 unfolding entry_of simple_or
-returns-in-Other c =
-    rw (← c.simple_of-s.ensures, c.in-Other.is) c.composite_of.ensures
+returns-in-None c =
+    rw (← c.simple_of-s.ensures, c.in-None.is) c.composite_of.ensures
