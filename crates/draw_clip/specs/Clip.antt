@@ -14,6 +14,9 @@ use Rattle.tree_sight.specs.declared.Sight.{Sight}
 use Rattle.tree_sight.specs.declared.Sight.TheVariants.{Visible, Hidden}
 use Rattle.tree_trust.specs.Trust.{Trusted, Uncut}
 use Rattle.tree_glance.specs.Glances.{LastCover}
+use Rattle.draw_memory.specs.Memory.{Remembered}
+use Rattle.draw_clip.specs.declared.ClipSheet.{ClipSheet}
+use Rattle.draw_clip.specs.declared.Memory.{Memory}
 use Rattle.paths.specs.Paths.{Paths}
 use Rattle.path_filter.specs.Filter.{filter_paths}
 use Rattle.refusals.specs.declared.Refusal.{Refusal}
@@ -41,3 +44,15 @@ pub record Prepared (numbers inverses : List Float) (marks : List ℕ) (boxes : 
   pub tree : trusted ≡ true → Trusted boxes links order × Within eye
   pub solids : calm ≡ true → Uncut numbers inverses marks
   pub kept : LastCover boxes links order cover stack
+
+-- What stands before and after each point: what is remembered of the ends of earlier paths, and what the eye test needs.
+pub record FilterReady (matrix : Matrix) (numbers inverses : List Float) (marks : List ℕ) (boxes : List Float) (links order : List ℕ) (eye : Vector) (trusted calm : Bool) (ends : List Float) (known cover stack : List ℕ) : Type 0 where
+  pub ends_told : Remembered (clip_filter matrix (seen_from numbers inverses marks boxes links order eye)) ends known
+  pub prepared : Prepared numbers inverses marks boxes links order eye trusted calm cover stack
+
+-- the filter of a sheet, and what stands before and after each point of it
+abbrev pub test_of : ClipSheet → Vector → Result (Option Vector) Refusal
+test_of s = clip_filter s.matrix (seen_from s.numbers.now s.inverses.now s.marks.now s.node_boxes.now s.node_marks.now s.order.now s.eye)
+
+abbrev pub SheetReady : ClipSheet → Memory → Type 0
+SheetReady s m = FilterReady s.matrix s.numbers.now s.inverses.now s.marks.now s.node_boxes.now s.node_marks.now s.order.now s.eye s.trusted s.calm m.ends m.known m.cover m.stack

@@ -3,12 +3,11 @@
 
 ghost use Rattle.std.specs.Prelude.{◌≡◌, not, ◌&&◌, ◌+◌, ◌*◌, ◌≤◌, ◌<◌, length, eqb, ltb};
 ghost use Rattle.std.proofs.Math.Seq.{slice};
-ghost use Rattle.draw_memory.specs.Memory.{Remembered};
 ghost use Rattle.paths.specs.Ends.{places, all_points, held, EndsBoth};
 ghost use Rattle.path_filter.specs.Filter.{filtered_from, path_filter};
 ghost use Rattle.tree_trust.specs.Trust.{is_trusted};
 ghost use Rattle.limits.specs.Limits.{within_point};
-ghost use Rattle.draw_clip.specs.Clip.{by_sight, clip_filter, clip_paths, seen_from, Prepared};
+ghost use Rattle.draw_clip.specs.Clip.{by_sight, clip_filter, clip_paths, seen_from, test_of, SheetReady};
 
 use geometry::bounding_box::BBox;
 use geometry::vector::Vector;
@@ -62,28 +61,43 @@ fn trusts(eye: Vector, node_boxes: &[f64], node_marks: &[u32]) -> bool
     false
 }
 
-// The same as `clip_filter`, with the eye test by a glance.
-fn quick_filter(
+// What the filter reads, and does not change.
+#[derive(Clone, Copy)]
+struct ClipSheet<'a> {
     matrix: Matrix,
     eye: Vector,
-    numbers: &[f64],
-    inverses: &[f64],
-    marks: &[u32],
-    node_boxes: &[f64],
-    node_marks: &[u32],
-    order: &[u32],
-    v: Vector,
+    numbers: &'a [f64],
+    inverses: &'a [f64],
+    marks: &'a [u32],
+    node_boxes: &'a [f64],
+    node_marks: &'a [u32],
+    order: &'a [u32],
     trusted: bool,
     calm: bool,
-    cover: &mut [usize],
-    stack: &mut [usize],
+}
+
+// What the filter remembers from point to point: the last ends of paths with what became of them, the solid that hid
+// the last point, and room for the walk of the glance.
+#[derive(Drop)]
+struct Memory {
+    ends: [f64; 24],
+    known: [u32; 9],
+    cover: [usize; 2],
+    stack: [usize; 64],
+}
+
+// The same as `clip_filter`, with the eye test by a glance.
+fn quick_filter(
+    sheet: &ClipSheet,
+    memory: &mut Memory,
+    v: Vector,
 ) -> Result<Option<Vector>, Refusal>
-    requires { Prepared numbers.now inverses.now marks.now node_boxes.now node_marks.now order.now eye trusted calm cover.old stack.old }
-    ensures { (result ≡ clip_filter matrix (seen_from numbers.now inverses.now marks.now node_boxes.now node_marks.now order.now eye) v) × Prepared numbers.now inverses.now marks.now node_boxes.now node_marks.now order.now eye trusted calm cover.new stack.new }
+    requires { SheetReady sheet.now memory.old }
+    ensures { (result ≡ test_of sheet.now v) × SheetReady sheet.now memory.new }
 {
     // first, so that its root goes on beside the projection
-    let distance = eye.gap(v);
-    let w = matrix.mul_position_w(v);
+    let distance = sheet.eye.gap(v);
+    let w = sheet.matrix.mul_position_w(v);
     if !BBox::clips(w) {
         return Ok(None);
     }
@@ -91,80 +105,59 @@ fn quick_filter(
         return Err(Refusal::Point);
     }
     let s = tree_glance::sight(
-        numbers, inverses, marks, node_boxes, node_marks, order, eye, v, distance, trusted, calm,
-        cover, stack,
+        sheet.numbers,
+        sheet.inverses,
+        sheet.marks,
+        sheet.node_boxes,
+        sheet.node_marks,
+        sheet.order,
+        sheet.eye,
+        v,
+        distance,
+        sheet.trusted,
+        sheet.calm,
+        &mut memory.cover,
+        &mut memory.stack,
     );
     by_sight(w, s)
 }
 
 // The filter at an end of a path: many ends are those of other paths too.
-fn end_filter(
-    matrix: Matrix,
-    eye: Vector,
-    numbers: &[f64],
-    inverses: &[f64],
-    marks: &[u32],
-    node_boxes: &[f64],
-    node_marks: &[u32],
-    order: &[u32],
-    v: Vector,
-    ends: &mut [f64],
-    known: &mut [u32],
-    trusted: bool,
-    calm: bool,
-    cover: &mut [usize],
-    stack: &mut [usize],
-) -> Result<Option<Vector>, Refusal>
-    requires { Remembered (clip_filter matrix (seen_from numbers.now inverses.now marks.now node_boxes.now node_marks.now order.now eye)) ends.old known.old × Prepared numbers.now inverses.now marks.now node_boxes.now node_marks.now order.now eye trusted calm cover.old stack.old }
-    ensures { (result ≡ clip_filter matrix (seen_from numbers.now inverses.now marks.now node_boxes.now node_marks.now order.now eye) v) × Remembered (clip_filter matrix (seen_from numbers.now inverses.now marks.now node_boxes.now node_marks.now order.now eye)) ends.new known.new × Prepared numbers.now inverses.now marks.now node_boxes.now node_marks.now order.now eye trusted calm cover.new stack.new }
+fn end_filter(sheet: &ClipSheet, memory: &mut Memory, v: Vector) -> Result<Option<Vector>, Refusal>
+    requires { SheetReady sheet.now memory.old }
+    ensures { (result ≡ test_of sheet.now v) × SheetReady sheet.now memory.new }
 {
-    let c = draw_memory::recall(ends, known, v);
+    let c = draw_memory::recall(&memory.ends, &memory.known, v);
     if c == 0 {
         return Ok(None);
     }
     if c == 1 {
-        return Ok(Some(matrix.mul_position_w(v)));
+        return Ok(Some(sheet.matrix.mul_position_w(v)));
     }
-    let t = quick_filter(
-        matrix, eye, numbers, inverses, marks, node_boxes, node_marks, order, v, trusted, calm,
-        cover, stack,
+    let t = quick_filter(sheet, memory, v);
+    draw_memory::remember(
+        &mut memory.ends,
+        &mut memory.known,
+        v,
+        draw_memory::outcome(t),
     );
-    draw_memory::remember(ends, known, v, draw_memory::outcome(t));
     t
 }
 
 // The filter of any point of a path.
 fn point_filter(
-    matrix: Matrix,
-    eye: Vector,
-    numbers: &[f64],
-    inverses: &[f64],
-    marks: &[u32],
-    node_boxes: &[f64],
-    node_marks: &[u32],
-    order: &[u32],
+    sheet: &ClipSheet,
+    memory: &mut Memory,
     v: Vector,
     inner: bool,
-    ends: &mut [f64],
-    known: &mut [u32],
-    trusted: bool,
-    calm: bool,
-    cover: &mut [usize],
-    stack: &mut [usize],
 ) -> Result<Option<Vector>, Refusal>
-    requires { Remembered (clip_filter matrix (seen_from numbers.now inverses.now marks.now node_boxes.now node_marks.now order.now eye)) ends.old known.old × Prepared numbers.now inverses.now marks.now node_boxes.now node_marks.now order.now eye trusted calm cover.old stack.old }
-    ensures { (result ≡ clip_filter matrix (seen_from numbers.now inverses.now marks.now node_boxes.now node_marks.now order.now eye) v) × Remembered (clip_filter matrix (seen_from numbers.now inverses.now marks.now node_boxes.now node_marks.now order.now eye)) ends.new known.new × Prepared numbers.now inverses.now marks.now node_boxes.now node_marks.now order.now eye trusted calm cover.new stack.new }
+    requires { SheetReady sheet.now memory.old }
+    ensures { (result ≡ test_of sheet.now v) × SheetReady sheet.now memory.new }
 {
     if inner {
-        return quick_filter(
-            matrix, eye, numbers, inverses, marks, node_boxes, node_marks, order, v, trusted, calm,
-            cover, stack,
-        );
+        return quick_filter(sheet, memory, v);
     }
-    end_filter(
-        matrix, eye, numbers, inverses, marks, node_boxes, node_marks, order, v, ends, known,
-        trusted, calm, cover, stack,
-    )
+    end_filter(sheet, memory, v)
 }
 
 // Whether i is neither the first place nor the last.
@@ -180,16 +173,8 @@ fn is_inner(from: usize, i: usize, end: usize) -> bool
 
 // Each point of a path from `from` up to `end`, after n points and m starts.
 fn filter_from(
-    matrix: Matrix,
-    eye: Vector,
-    numbers: &[f64],
-    inverses: &[f64],
-    marks: &[u32],
-    node_boxes: &[f64],
-    node_marks: &[u32],
-    order: &[u32],
-    ends: &mut [f64],
-    known: &mut [u32],
+    sheet: &ClipSheet,
+    memory: &mut Memory,
     path: &[f64],
     from: usize,
     end: usize,
@@ -197,36 +182,15 @@ fn filter_from(
     begins: &mut [usize],
     n: usize,
     m: usize,
-    trusted: bool,
-    calm: bool,
-    cover: &mut [usize],
-    stack: &mut [usize],
 ) -> Result<(usize, usize), Refusal>
-    requires { (from ≤ end) × (end * 3 ≤ length path.now) × (n * 3 ≤ length out.old) × (m ≤ length begins.old) × Remembered (clip_filter matrix (seen_from numbers.now inverses.now marks.now node_boxes.now node_marks.now order.now eye)) ends.old known.old × Prepared numbers.now inverses.now marks.now node_boxes.now node_marks.now order.now eye trusted calm cover.old stack.old }
-    ensures { (EndsBoth (filtered_from (clip_filter matrix (seen_from numbers.now inverses.now marks.now node_boxes.now node_marks.now order.now eye)) (places out.old) (length begins.old) (slice from end (all_points path.now)) (held n out.old m begins.old)) out.new begins.new result) × Remembered (clip_filter matrix (seen_from numbers.now inverses.now marks.now node_boxes.now node_marks.now order.now eye)) ends.new known.new × Prepared numbers.now inverses.now marks.now node_boxes.now node_marks.now order.now eye trusted calm cover.new stack.new }
+    requires { (from ≤ end) × (end * 3 ≤ length path.now) × (n * 3 ≤ length out.old) × (m ≤ length begins.old) × SheetReady sheet.now memory.old }
+    ensures { (EndsBoth (filtered_from (test_of sheet.now) (places out.old) (length begins.old) (slice from end (all_points path.now)) (held n out.old m begins.old)) out.new begins.new result) × SheetReady sheet.now memory.new }
 {
     let mut a = n;
     let mut b = m;
     for i in from..end {
         let v = rows::read_point(path, i);
-        let t = point_filter(
-            matrix,
-            eye,
-            numbers,
-            inverses,
-            marks,
-            node_boxes,
-            node_marks,
-            order,
-            v,
-            is_inner(from, i, end),
-            ends,
-            known,
-            trusted,
-            calm,
-            cover,
-            stack,
-        );
+        let t = point_filter(sheet, memory, v, is_inner(from, i, end));
         (a, b) = path_filter::step(t, out, begins, a, b)?;
     }
     Ok((a, b))
@@ -234,16 +198,8 @@ fn filter_from(
 
 // A path is opened and filtered, and the last path opened is closed.
 fn path_filter(
-    matrix: Matrix,
-    eye: Vector,
-    numbers: &[f64],
-    inverses: &[f64],
-    marks: &[u32],
-    node_boxes: &[f64],
-    node_marks: &[u32],
-    order: &[u32],
-    ends: &mut [f64],
-    known: &mut [u32],
+    sheet: &ClipSheet,
+    memory: &mut Memory,
     path: &[f64],
     from: usize,
     end: usize,
@@ -251,19 +207,12 @@ fn path_filter(
     begins: &mut [usize],
     n: usize,
     m: usize,
-    trusted: bool,
-    calm: bool,
-    cover: &mut [usize],
-    stack: &mut [usize],
 ) -> Result<(usize, usize), Refusal>
-    requires { (from ≤ end) × (end * 3 ≤ length path.now) × (n * 3 ≤ length out.old) × (m ≤ length begins.old) × Remembered (clip_filter matrix (seen_from numbers.now inverses.now marks.now node_boxes.now node_marks.now order.now eye)) ends.old known.old × Prepared numbers.now inverses.now marks.now node_boxes.now node_marks.now order.now eye trusted calm cover.old stack.old }
-    ensures { (EndsBoth (path_filter (clip_filter matrix (seen_from numbers.now inverses.now marks.now node_boxes.now node_marks.now order.now eye)) (places out.old) (length begins.old) (slice from end (all_points path.now)) (held n out.old m begins.old)) out.new begins.new result) × Remembered (clip_filter matrix (seen_from numbers.now inverses.now marks.now node_boxes.now node_marks.now order.now eye)) ends.new known.new × Prepared numbers.now inverses.now marks.now node_boxes.now node_marks.now order.now eye trusted calm cover.new stack.new }
+    requires { (from ≤ end) × (end * 3 ≤ length path.now) × (n * 3 ≤ length out.old) × (m ≤ length begins.old) × SheetReady sheet.now memory.old }
+    ensures { (EndsBoth (path_filter (test_of sheet.now) (places out.old) (length begins.old) (slice from end (all_points path.now)) (held n out.old m begins.old)) out.new begins.new result) × SheetReady sheet.now memory.new }
 {
     let q = paths::new_path(begins, m, n)?;
-    let (a, b) = filter_from(
-        matrix, eye, numbers, inverses, marks, node_boxes, node_marks, order, ends, known, path,
-        from, end, out, begins, n, q, trusted, calm, cover, stack,
-    )?;
+    let (a, b) = filter_from(sheet, memory, path, from, end, out, begins, n, q)?;
     let z = paths::close(begins, b, a);
     Ok((a, z))
 }
@@ -286,21 +235,29 @@ pub fn filter_paths(
     ensures { EndsBoth (clip_paths matrix (seen_from numbers.now inverses.now marks.now node_boxes.now node_marks.now order.now eye) (all_points path.now) starts.now (places out.old) (length begins.old)) out.new begins.new result }
 {
     let total = path.len() / 3;
-    let mut ends = [0.0; 24];
-    let mut known = [2u32; 9];
-    let trusted = trusts(eye, node_boxes, node_marks);
-    let calm = tree_trust::uncut(marks);
-    let mut cover = [0xffffffffusize; 2];
-    let mut stack = [0usize; 64];
+    let sheet = ClipSheet {
+        matrix,
+        eye,
+        numbers,
+        inverses,
+        marks,
+        node_boxes,
+        node_marks,
+        order,
+        trusted: trusts(eye, node_boxes, node_marks),
+        calm: tree_trust::uncut(marks),
+    };
+    let mut memory = Memory {
+        ends: [0.0; 24],
+        known: [2u32; 9],
+        cover: [0xffffffffusize; 2],
+        stack: [0usize; 64],
+    };
     let mut n = 0;
     let mut m = 0;
     for i in 0..starts.len() {
         let p = paths::range_of(starts, i, total);
-        (n, m) = path_filter(
-            matrix, eye, numbers, inverses, marks, node_boxes, node_marks, order, &mut ends,
-            &mut known, path, p.from, p.end, out, begins, n, m, trusted, calm, &mut cover,
-            &mut stack,
-        )?;
+        (n, m) = path_filter(&sheet, &mut memory, path, p.from, p.end, out, begins, n, m)?;
     }
     Ok((n, m))
 }

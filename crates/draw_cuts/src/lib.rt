@@ -29,13 +29,19 @@ pub fn cut_filter(
     Ok(None)
 }
 
-// Each point of a path from `from` up to `end`, after n points and m starts.
-fn filter_from(
-    numbers: &[f64],
-    inverses: &[f64],
-    marks: &[u32],
+// The rows in which the cut stands at entry k, and how deep it may be nested.
+#[derive(Clone, Copy)]
+struct CutRows<'a> {
+    numbers: &'a [f64],
+    inverses: &'a [f64],
+    marks: &'a [u32],
     k: usize,
     depth: usize,
+}
+
+// Each point of a path from `from` up to `end`, after n points and m starts.
+fn filter_from(
+    cut: &CutRows,
     path: &[f64],
     from: usize,
     end: usize,
@@ -45,13 +51,13 @@ fn filter_from(
     m: usize,
 ) -> Result<(usize, usize), Refusal>
     requires { (from ≤ end) × (end * 3 ≤ length path.now) × (n * 3 ≤ length out.old) × (m ≤ length begins.old) }
-    ensures { EndsBoth (filtered_from (cut_filter (decode depth numbers.now inverses.now marks.now k)) (places out.old) (length begins.old) (slice from end (all_points path.now)) (held n out.old m begins.old)) out.new begins.new result }
+    ensures { EndsBoth (filtered_from (cut_filter (decode cut.now.depth cut.now.numbers.now cut.now.inverses.now cut.now.marks.now cut.now.k)) (places out.old) (length begins.old) (slice from end (all_points path.now)) (held n out.old m begins.old)) out.new begins.new result }
 {
     let mut a = n;
     let mut b = m;
     for i in from..end {
         let v = rows::read_point(path, i);
-        let t = cut_filter(numbers, inverses, marks, k, depth, v);
+        let t = cut_filter(cut.numbers, cut.inverses, cut.marks, cut.k, cut.depth, v);
         (a, b) = path_filter::step(t, out, begins, a, b)?;
     }
     Ok((a, b))
@@ -59,11 +65,7 @@ fn filter_from(
 
 // A path is opened and filtered, and the last path opened is closed.
 fn path_filter(
-    numbers: &[f64],
-    inverses: &[f64],
-    marks: &[u32],
-    k: usize,
-    depth: usize,
+    cut: &CutRows,
     path: &[f64],
     from: usize,
     end: usize,
@@ -73,12 +75,10 @@ fn path_filter(
     m: usize,
 ) -> Result<(usize, usize), Refusal>
     requires { (from ≤ end) × (end * 3 ≤ length path.now) × (n * 3 ≤ length out.old) × (m ≤ length begins.old) }
-    ensures { EndsBoth (path_filter (cut_filter (decode depth numbers.now inverses.now marks.now k)) (places out.old) (length begins.old) (slice from end (all_points path.now)) (held n out.old m begins.old)) out.new begins.new result }
+    ensures { EndsBoth (path_filter (cut_filter (decode cut.now.depth cut.now.numbers.now cut.now.inverses.now cut.now.marks.now cut.now.k)) (places out.old) (length begins.old) (slice from end (all_points path.now)) (held n out.old m begins.old)) out.new begins.new result }
 {
     let q = paths::new_path(begins, m, n)?;
-    let (a, b) = filter_from(
-        numbers, inverses, marks, k, depth, path, from, end, out, begins, n, q,
-    )?;
+    let (a, b) = filter_from(cut, path, from, end, out, begins, n, q)?;
     let z = paths::close(begins, b, a);
     Ok((a, z))
 }
@@ -98,13 +98,18 @@ pub fn filter_paths(
     ensures { EndsBoth (cut_paths (decode depth numbers.now inverses.now marks.now k) (all_points path.now) starts.now (places out.old) (length begins.old)) out.new begins.new result }
 {
     let total = path.len() / 3;
+    let cut = CutRows {
+        numbers,
+        inverses,
+        marks,
+        k,
+        depth,
+    };
     let mut n = 0;
     let mut m = 0;
     for i in 0..starts.len() {
         let p = paths::range_of(starts, i, total);
-        (n, m) = path_filter(
-            numbers, inverses, marks, k, depth, path, p.from, p.end, out, begins, n, m,
-        )?;
+        (n, m) = path_filter(&cut, path, p.from, p.end, out, begins, n, m)?;
     }
     Ok((n, m))
 }

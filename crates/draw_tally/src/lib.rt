@@ -56,16 +56,22 @@ fn tally_step(
     }
 }
 
-// Each point of a path from `from` up to `end`, where a path was opened after n points and m paths.
-fn tally_from(
+// What the filter reads, and does not change.
+#[derive(Clone, Copy)]
+struct TallySheet<'a> {
     matrix: Matrix,
     eye: Vector,
-    numbers: &[f64],
-    inverses: &[f64],
-    marks: &[u32],
-    node_boxes: &[f64],
-    node_marks: &[u32],
-    order: &[u32],
+    numbers: &'a [f64],
+    inverses: &'a [f64],
+    marks: &'a [u32],
+    node_boxes: &'a [f64],
+    node_marks: &'a [u32],
+    order: &'a [u32],
+}
+
+// Each point of a path from `from` up to `end`, where a path was opened after n points and m paths.
+fn tally_from(
+    sheet: &TallySheet,
     path: &[f64],
     from: usize,
     end: usize,
@@ -75,7 +81,7 @@ fn tally_from(
     m: usize,
 ) -> Result<(usize, usize, usize), Refusal>
     requires { (from ≤ end) × (end * 3 ≤ length path.now) × (n ≤ room) × (m < begins) }
-    ensures { result ≡ tallied_from (clip_filter matrix (seen_from numbers.now inverses.now marks.now node_boxes.now node_marks.now order.now eye)) room begins (slice from end (all_points path.now)) n m n }
+    ensures { result ≡ tallied_from (clip_filter sheet.now.matrix (seen_from sheet.now.numbers.now sheet.now.inverses.now sheet.now.marks.now sheet.now.node_boxes.now sheet.now.node_marks.now sheet.now.order.now sheet.now.eye)) room begins (slice from end (all_points path.now)) n m n }
 {
     let mut a = n;
     let mut b = m;
@@ -83,7 +89,15 @@ fn tally_from(
     for i in from..end {
         let v = rows::read_point(path, i);
         let t = draw_clip::clip_filter(
-            matrix, eye, numbers, inverses, marks, node_boxes, node_marks, order, v,
+            sheet.matrix,
+            sheet.eye,
+            sheet.numbers,
+            sheet.inverses,
+            sheet.marks,
+            sheet.node_boxes,
+            sheet.node_marks,
+            sheet.order,
+            v,
         );
         (a, b, o) = tally_step(t, a, b, o, room, begins)?;
     }
@@ -92,14 +106,7 @@ fn tally_from(
 
 // A path is opened and filtered, and the last path opened is closed.
 fn tally_path(
-    matrix: Matrix,
-    eye: Vector,
-    numbers: &[f64],
-    inverses: &[f64],
-    marks: &[u32],
-    node_boxes: &[f64],
-    node_marks: &[u32],
-    order: &[u32],
+    sheet: &TallySheet,
     path: &[f64],
     from: usize,
     end: usize,
@@ -109,15 +116,12 @@ fn tally_path(
     m: usize,
 ) -> Result<(usize, usize), Refusal>
     requires { (from ≤ end) × (end * 3 ≤ length path.now) × (n ≤ room) }
-    ensures { result ≡ filter_tally (clip_filter matrix (seen_from numbers.now inverses.now marks.now node_boxes.now node_marks.now order.now eye)) room begins (slice from end (all_points path.now)) n m }
+    ensures { result ≡ filter_tally (clip_filter sheet.now.matrix (seen_from sheet.now.numbers.now sheet.now.inverses.now sheet.now.marks.now sheet.now.node_boxes.now sheet.now.node_marks.now sheet.now.order.now sheet.now.eye)) room begins (slice from end (all_points path.now)) n m }
 {
     if begins <= m {
         return Err(Refusal::Room);
     }
-    let (a, b, o) = tally_from(
-        matrix, eye, numbers, inverses, marks, node_boxes, node_marks, order, path, from, end,
-        room, begins, n, m,
-    )?;
+    let (a, b, o) = tally_from(sheet, path, from, end, room, begins, n, m)?;
     let l = paths_left(a, b, o);
     Ok((a, l))
 }
@@ -141,14 +145,21 @@ pub fn tally_filtered(
     ensures { result ≡ counted (clip_paths matrix (seen_from numbers.now inverses.now marks.now node_boxes.now node_marks.now order.now eye) (all_points path.now) starts.now room begins) }
 {
     let total = path.len() / 3;
+    let sheet = TallySheet {
+        matrix,
+        eye,
+        numbers,
+        inverses,
+        marks,
+        node_boxes,
+        node_marks,
+        order,
+    };
     let mut n = 0;
     let mut m = 0;
     for i in 0..starts.len() {
         let p = paths::range_of(starts, i, total);
-        (n, m) = tally_path(
-            matrix, eye, numbers, inverses, marks, node_boxes, node_marks, order, path, p.from,
-            p.end, room, begins, n, m,
-        )?;
+        (n, m) = tally_path(&sheet, path, p.from, p.end, room, begins, n, m)?;
     }
     Ok((n, m))
 }

@@ -1,12 +1,12 @@
 -- What each way through the code answers, by the definitions. Assumes nothing.
 use mathlib.Core.Path.{◌≡◌, refl, sym, ap, ◌∙◌}
-use mathlib.Core.Bool.{Bool, true, false, not}
+use mathlib.Core.Bool.{Bool, true, false}
 use mathlib.Core.List.{List, []}
 use Prim.Native.Nat.{ℕ, ◌+◌, ◌-◌, ◌*◌, ◌%◌, ◌<◌, ◌≤◌}
 use native.Mathlib.Omega.{arith}
-use borrow.Author.Tests.{not-true, not-false, eqb-true, eqb-false, eq-eqb, ne_eqb, lt-ltb, le-ltb}
+use borrow.Author.Tests.{eqb-true, eqb-false, eq-eqb, ne_eqb, lt-ltb, le-ltb}
 use lib.Dec.{eqb}
-use lib.Ieee.{Float, lt}
+use lib.Ieee.{Float}
 use lib.ListN.{length, get_or, set, take, drop}
 use lib.Seq.{slice}
 use Rattle.geometry.specs.Vectors.{distance_squared}
@@ -21,23 +21,13 @@ use Rattle.paths.proofs.Parts.{range-fits}
 use Rattle.plotter_pens.specs.declared.NearestPath.{NearestPath}
 use Rattle.plotter_pens.specs.declared.Choice.{Choice}
 use Rattle.plotter_pens.specs.declared.Choice.TheVariants.{Yard, Lines}
-use Rattle.plotter_pens.specs.Pens.{LentDrawing, range_in, has_points, waits, no_path, nearer_path, offered, nearest_in, nearest_of_both, lengths_good, both_start_well, numbers_finite, picked_from, pick_of, pick_number, marks_after, part_of, Picked, HandedBack}
+use Rattle.plotter_pens.specs.Pens.{LentDrawing, range_in, has_points, waits, nearer_path, offered, nearest_in, nearest_of_both, lengths_good, both_start_well, numbers_finite, picked_from, pick_of, pick_number, marks_after, part_of, Picked, HandedBack}
 use Rattle.plotter_pens.specs.EachOnce.{path_count}
 use Rattle.plotter_pens.proofs.Sound.{marks-count, found-waits, Found, pick-holds}
 use Rattle.std.specs.Prelude.{Err, None, Ok, Option, Result, Some}
 
--- ---- the nearer of two
-module _ (b : NearestPath) (i : ℕ) (d : Float) (found : b.found ≡ true) where
-  pub nearer-stays : lt d b.distance ≡ false → b ≡ nearer_path b i d
-  unfolding nearer_path
-  nearer-stays h = simp (found, h)
-
-  pub nearer-takes : lt d b.distance ≡ true → record { found = true; place = i; distance = d } ≡ nearer_path b i d
-  unfolding nearer_path
-  nearer-takes h = simp (found, h)
-
 -- ---- a path that is offered
-module _ (d : LentDrawing) (marks : List ℕ) (first : ℕ) (pen : Vector) (b : NearestPath) (k : ℕ) where
+module _ (d : LentDrawing) (marks : List ℕ) (first : ℕ) (pen : Vector) (b : Option NearestPath) (k : ℕ) where
   pub offered-drawn : (get_or marks (first + k) 0 ≡ 0 → ⊥) → b ≡ offered d marks first pen b k
   unfolding offered waits
   offered-drawn h = rw (ne_eqb (get_or marks (first + k) 0) 0 h)
@@ -48,7 +38,7 @@ module _ (d : LentDrawing) (marks : List ℕ) (first : ℕ) (pen : Vector) (b : 
     offered-empty h = rw (eq-eqb (get_or marks (first + k) 0) 0 undrawn, ← is, le-ltb r.from r.end h)
 
     pub offered-near : r.from < r.end → (p : Vector) → p ≡ point_of (row 3 r.from d.numbers) → (x : Float) → x ≡ distance_squared pen p
-        → (n : NearestPath) → n ≡ nearer_path b (first + k) x → n ≡ offered d marks first pen b k
+        → (n : Option NearestPath) → n ≡ nearer_path b (first + k) x → n ≡ offered d marks first pen b k
     unfolding offered waits has_points
     offered-near h p ep x ex n en = rw (eq-eqb (get_or marks (first + k) 0) 0 undrawn, ← is, lt-ltb r.from r.end h) (en ∙ rw (ex, ep))
 
@@ -58,18 +48,14 @@ first-there xs ss k r is h = let f = range-fits xs ss k r is in omega (arith, f.
 
 -- ---- what was found, in its drawing
 module _ (yard lines : LentDrawing) (b : NearestPath) where
-  pub from-none : b.found ≡ false → Ok None ≡ picked_from yard lines b
+  pub from-yard : b.place < length yard.starts → (r : Range) → r ≡ range_in yard b.place → Ok (Some (Yard b.place r)) ≡ picked_from yard lines (Some b)
   unfolding picked_from
-  from-none f = rw f
+  from-yard l r is = rw (lt-ltb b.place (length yard.starts) l, is)
 
-  pub from-yard : b.found ≡ true → b.place < length yard.starts → (r : Range) → r ≡ range_in yard b.place → Ok (Some (Yard b.place r)) ≡ picked_from yard lines b
+  pub from-lines : length yard.starts ≤ b.place → (r : Range) → r ≡ range_in lines (b.place - length yard.starts)
+      → Ok (Some (Lines (b.place - length yard.starts) r)) ≡ picked_from yard lines (Some b)
   unfolding picked_from
-  from-yard f l r is = rw (f, lt-ltb b.place (length yard.starts) l, is)
-
-  pub from-lines : b.found ≡ true → length yard.starts ≤ b.place → (r : Range) → r ≡ range_in lines (b.place - length yard.starts)
-      → Ok (Some (Lines (b.place - length yard.starts) r)) ≡ picked_from yard lines b
-  unfolding picked_from
-  from-lines f l r is = rw (f, le-ltb b.place (length yard.starts) l, is)
+  from-lines l r is = rw (le-ltb b.place (length yard.starts) l, is)
 
 module _ (yard lines : LentDrawing) (marks : List ℕ) where
   -- ---- number 2
@@ -131,13 +117,13 @@ module _ (yard lines : LentDrawing) (marks : List ℕ) where
             unfolding pick_of
             pick-near fc p ep = rw (← ea, fa, ← eb, fb, ← ec, fc) ep
 
-    pub both-scanned : (x y z : NearestPath) → x ≡ no_path → y ≡ nearest_in yard marks 0 pen (length yard.starts) 0 x
+    pub both-scanned : (y z : Option NearestPath) → y ≡ nearest_in yard marks 0 pen (length yard.starts) 0 None
         → z ≡ nearest_in lines marks (length yard.starts) pen (length lines.starts) 0 y → z ≡ nearest_of_both yard lines marks pen
     unfolding nearest_of_both
-    both-scanned x y z ex ey ez = ez ∙ rw (ey, ex)
+    both-scanned y z ey ez = ez ∙ rw ey
 
-    pub both-there : (z : NearestPath) → z ≡ nearest_of_both yard lines marks pen → z.found ≡ true → z.place < path_count yard lines
-    both-there z e f = rw e (found-waits yard lines marks pen (rw e at f)).there
+    pub both-there : (z : Option NearestPath) → z ≡ nearest_of_both yard lines marks pen → (b : NearestPath) → z ≡ Some b → b.place < path_count yard lines
+    both-there z e b f = (found-waits yard lines marks pen b (sym e ∙ f)).there
 
     -- ---- what is done with it
     module _ (p : Result (Option Choice) Refusal) (ep : p ≡ pick_of yard lines marks pen) where

@@ -19,13 +19,13 @@ use Rattle.paths.specs.Ranges.{range_of, lesser_of}
 use Rattle.paths.specs.declared.Range.{Range}
 use Rattle.refusals.specs.declared.Refusal.{Refusal}
 use Rattle.plotter_pens.specs.declared.NearestPath.{NearestPath}
-use Rattle.plotter_pens.specs.Pens.{LentDrawing, range_in, waits, no_path, nearer_path, offered, nearest_in, nearest_of_both, lengths_good, both_start_well, numbers_finite, pick_of}
+use Rattle.plotter_pens.specs.Pens.{LentDrawing, range_in, waits, nearer_path, offered, nearest_in, nearest_of_both, lengths_good, both_start_well, numbers_finite, picked_from, pick_of}
 use Rattle.plotter_pens.specs.EachOnce.{path_count}
 use Rattle.plotter_pens.specs.FirstNearest.{waits_at, path_distance, FirstOfNearest, NothingWaits, PicksFirstNearest, WholePath, PicksWholePath}
 use Rattle.plotter_pens.proofs.Scans.{true-false}
 use Rattle.plotter_pens.proofs.Sound.{yard-at, lines_at, found-waits, none_waits, Found, pick-holds}
-use Rattle.plotter_pens.proofs.Answers.{from-none, pick-2, pick-4, pick-9, pick-near}
-use Rattle.std.specs.Prelude.{Err, None, Ok}
+use Rattle.plotter_pens.proofs.Answers.{pick-2, pick-4, pick-9, pick-near}
+use Rattle.std.specs.Prelude.{Err, None, Ok, Option, Some}
 
 -- ---- the least of numbered distances, the first of those that are equal
 module _ (w : ℕ → Bool) (δ : ℕ → Float) where
@@ -36,12 +36,11 @@ module _ (w : ℕ → Bool) (δ : ℕ → Float) where
     none_before : (j : ℕ) → j < p → w j ≡ true → T (le (δ j) (δ p)) → ⊥
 
   -- what is the best after the first m
-  record Best (m : ℕ) (b : NearestPath) : Type 0 where
-    none : b.found ≡ false → (j : ℕ) → j < m → w j ≡ true → ⊥
-    at : b.found ≡ true → b.distance ≡ δ b.place
-    least : b.found ≡ true → Least m b.place
+  abbrev Best : ℕ → Option NearestPath → Type 0
+  Best m None = (j : ℕ) → j < m → w j ≡ true → ⊥
+  Best m (Some b) = (b.distance ≡ δ b.place) × Least m b.place
 
-  one_more : ℕ → NearestPath → NearestPath
+  one_more : ℕ → Option NearestPath → Option NearestPath
   one_more m b = cond (w m) (nearer_path b m (δ m)) b
 
   -- j is among the first m, or the next
@@ -52,74 +51,69 @@ module _ (w : ℕ → Bool) (δ : ℕ → Float) where
       by true e = here (eqb-true j m e)
       by false e = before (omega (arith, eqb-false j m e, h))
 
-  module _ (m : ℕ) (b : NearestPath) (old : Best m b) where
-    passed_over : w m ≡ false → Best (m + 1) b
-    passed_over e =
-        record {
-          none = λ f j h q. among j m h (λ l. old.none f j l q) (λ i. true-false (w m) (rw i at q) e);
-          at = old.at;
-          least = λ f. let l = old.least f in
-              record {
-                there = omega (arith, l.there);
-                so = l.so;
-                none_nearer = λ j h q t. among j m h (λ k. l.none_nearer j k q t) (λ i. true-false (w m) (rw i at q) e);
-                none_before = l.none_before;
-              };
-        }
-
-    stays : (f : b.found ≡ true) → (T (lt (δ m) b.distance) → ⊥) → Best (m + 1) b
-    stays f far =
-        let l = old.least f in
-        record {
-          none = λ g. true-false b.found f g;
-          at = old.at;
-          least = λ g. record {
+  module _ (m : ℕ) where
+    passed_over : (b : Option NearestPath) → Best m b → w m ≡ false → Best (m + 1) b
+    passed_over None old e = λ j h q. among j m h (λ l. old j l q) (λ i. true-false (w m) (rw i at q) e)
+    passed_over (Some b) old e =
+        let l = old.1 in (
+          old.0,
+          record {
             there = omega (arith, l.there);
             so = l.so;
-            none_nearer = λ j h q t. among j m h (λ k. l.none_nearer j k q t) (λ i. far (subst (λ (x : Float). T (lt (δ m) x)) (sym (old.at f)) (rw i at t)));
+            none_nearer = λ j h q t. among j m h (λ k. l.none_nearer j k q t) (λ i. true-false (w m) (rw i at q) e);
             none_before = l.none_before;
-          };
-        }
+          },
+        )
+
+    stays : (b : NearestPath) → Best m (Some b) → (T (lt (δ m) b.distance) → ⊥) → Best (m + 1) (Some b)
+    stays b old far =
+        let l = old.1 in (
+          old.0,
+          record {
+            there = omega (arith, l.there);
+            so = l.so;
+            none_nearer = λ j h q t. among j m h (λ k. l.none_nearer j k q t) (λ i. far (subst (λ (x : Float). T (lt (δ m) x)) (sym old.0) (rw i at t)));
+            none_before = l.none_before;
+          },
+        )
 
     -- the new one, from what is known of those before
     takes : w m ≡ true → ((j : ℕ) → j < m → w j ≡ true → T (lt (δ j) (δ m)) → ⊥) → ((j : ℕ) → j < m → w j ≡ true → T (le (δ j) (δ m)) → ⊥)
-        → Best (m + 1) (record { found = true; place = m; distance = δ m })
-    takes e nearer before =
-        record {
-          none = λ g. true-false true refl g;
-          at = λ g. refl;
-          least = λ g. record {
-            there = omega arith;
-            so = e;
-            none_nearer = λ j h q t. among j m h (λ k. nearer j k q t) (λ i. lt_irrefl (δ m) (rw i at t));
-            none_before = before;
-          };
-        }
+        → Best (m + 1) (Some (record { place = m; distance = δ m }))
+    takes e nearer before = (
+      refl,
+      record {
+        there = omega arith;
+        so = e;
+        none_nearer = λ j h q t. among j m h (λ k. nearer j k q t) (λ i. lt_irrefl (δ m) (rw i at t));
+        none_before = before;
+      },
+    )
 
-    first : w m ≡ true → b.found ≡ false → Best (m + 1) (record { found = true; place = m; distance = δ m })
-    first e f = takes e (λ j l q t. old.none f j l q) (λ j l q t. old.none f j l q)
-
-    nearer : w m ≡ true → b.found ≡ true → T (lt (δ m) b.distance) → Best (m + 1) (record { found = true; place = m; distance = δ m })
-    nearer e f t =
-        let l = old.least f in
-        let d : T (lt (δ m) (δ b.place)) = subst (λ (x : Float). T (lt (δ m) x)) (old.at f) t in
+    nearer : (b : NearestPath) → Best m (Some b) → w m ≡ true → T (lt (δ m) b.distance) → Best (m + 1) (Some (record { place = m; distance = δ m }))
+    nearer b old e t =
+        let l = old.1 in
+        let d : T (lt (δ m) (δ b.place)) = subst (λ (x : Float). T (lt (δ m) x)) old.0 t in
         takes e
         (λ j k q s. l.none_nearer j k q (lt_trans (δ j) (δ m) (δ b.place) s d))
         (λ j k q s. l.none_nearer j k q (le_lt_trans (δ j) (δ m) (δ b.place) s d))
 
-    tried : w m ≡ true → (f : Bool) → b.found ≡ f → (u : Bool) → lt (δ m) b.distance ≡ u → Best (m + 1) (nearer_path b m (δ m))
+    tried : (b : Option NearestPath) → Best m b → w m ≡ true → Best (m + 1) (nearer_path b m (δ m))
     unfolding nearer_path
-    tried e false g u h = simp g (first e g)
-    tried e true g true h = simp (g, h) (nearer e g (subst T (sym h) tt))
-    tried e true g false h = simp (g, h) (stays g (λ t. subst T h t))
-
-    turn : Best (m + 1) (one_more m b)
-    unfolding one_more
-    turn = by (w m) refl
+    tried None old e = takes e (λ j l q t. old j l q) (λ j l q t. old j l q)
+    tried (Some b) old e = by (lt (δ m) b.distance) refl
       where
-        by : (u : Bool) → w m ≡ u → Best (m + 1) (cond (w m) (nearer_path b m (δ m)) b)
-        by true e = rw e (tried e b.found refl (lt (δ m) b.distance) refl)
-        by false e = rw e (passed_over e)
+        by : (u : Bool) → lt (δ m) b.distance ≡ u → Best (m + 1) (Some (cond u (record { place = m; distance = δ m }) b))
+        by true h = nearer b old e (subst T (sym h) tt)
+        by false h = stays b old (λ t. subst T h t)
+
+    turn : (b : Option NearestPath) → Best m b → Best (m + 1) (one_more m b)
+    unfolding one_more
+    turn b old = by (w m) refl
+      where
+        by : (u : Bool) → w m ≡ u → Best (m + 1) (cond u (nearer_path b m (δ m)) b)
+        by true e = tried b old e
+        by false e = passed_over b old e
 
 -- ---- the scan of two drawings is that
 module _ (yard lines : LentDrawing) (marks : List ℕ) (pen : Vector) where
@@ -132,26 +126,26 @@ module _ (yard lines : LentDrawing) (marks : List ℕ) (pen : Vector) where
   δ : ℕ → Float
   δ i = path_distance yard lines pen i
 
-  yard-turn : (b : NearestPath) (k : ℕ) → k < n → Best w δ k b → Best w δ (k + 1) (offered yard marks 0 pen b k)
+  yard-turn : (b : Option NearestPath) (k : ℕ) → k < n → Best w δ k b → Best w δ (k + 1) (offered yard marks 0 pen b k)
   unfolding offered path_distance one_more n w δ
   yard-turn b k h old =
       let e : waits yard marks 0 k ≡ waits_at yard lines marks k = rw zero-add at (yard-at yard lines marks k h) in
       rw (e, zero-add k) (rw (lt-ltb k (length yard.starts) h) at (turn w δ k b old))
 
-  lines-turn : (b : NearestPath) (k : ℕ) → Best w δ (n + k) b → Best w δ (n + k + 1) (offered lines marks n pen b k)
+  lines-turn : (b : Option NearestPath) (k : ℕ) → Best w δ (n + k) b → Best w δ (n + k + 1) (offered lines marks n pen b k)
   unfolding offered path_distance one_more n w δ
   lines-turn b k old =
       let s : n + k - n ≡ k = omega arith in
       rw (lines_at yard lines marks k) (rw (le-ltb (n + k) n (omega arith), s) at (turn w δ (n + k) b old))
 
-  over-yard : (m k : ℕ) (b : NearestPath) → k + m ≤ n → Best w δ k b → Best w δ (k + m) (nearest_in yard marks 0 pen m k b)
+  over-yard : (m k : ℕ) (b : Option NearestPath) → k + m ≤ n → Best w δ k b → Best w δ (k + m) (nearest_in yard marks 0 pen m k b)
   unfolding nearest_in
   over-yard zero k b h old = rw (add-zero k) old
   over-yard (suc m) k b h old =
       let e : k + suc m ≡ k + 1 + m = omega arith in
       rw e (over-yard m (k + 1) (offered yard marks 0 pen b k) (omega arith) (yard-turn b k (omega arith) old))
 
-  over-lines : (m k : ℕ) (b : NearestPath) → Best w δ (n + k) b → Best w δ (n + (k + m)) (nearest_in lines marks n pen m k b)
+  over-lines : (m k : ℕ) (b : Option NearestPath) → Best w δ (n + k) b → Best w δ (n + (k + m)) (nearest_in lines marks n pen m k b)
   unfolding nearest_in
   over-lines zero k b old = rw (add-zero k) old
   over-lines (suc m) k b old =
@@ -159,33 +153,35 @@ module _ (yard lines : LentDrawing) (marks : List ℕ) (pen : Vector) where
       let f : n + k + 1 ≡ n + (k + 1) = omega arith in
       rw e (over-lines m (k + 1) (offered lines marks n pen b k) (rw f at (lines-turn b k old)))
 
-  start : Best w δ 0 no_path
-  start = record { none = λ f j h q. absurd (omega (arith, h)); at = λ f. true-false false f refl; least = λ f. true-false false f refl }
+  start : Best w δ 0 None
+  start j h q = absurd (omega (arith, h))
 
   over-both : Best w δ (path_count yard lines) (nearest_of_both yard lines marks pen)
   unfolding nearest_of_both n
   over-both =
-      let y : Best w δ (n + 0) (nearest_in yard marks 0 pen n 0 no_path) = rw (add-zero n) (rw (zero-add n) at (over-yard n 0 no_path (omega arith) start)) in
+      let y : Best w δ (n + 0) (nearest_in yard marks 0 pen n 0 None) = rw (add-zero n) (rw (zero-add n) at (over-yard n 0 None (omega arith) start)) in
       rw (zero-add (length lines.starts)) at (over-lines (length lines.starts) 0 _ y)
 
-  found_first : (i : ℕ) → (nearest_of_both yard lines marks pen).found ≡ true → (nearest_of_both yard lines marks pen).place ≡ i → FirstOfNearest yard lines marks pen i
+  found_first : (i : ℕ) (b : NearestPath) → nearest_of_both yard lines marks pen ≡ Some b → b.place ≡ i → FirstOfNearest yard lines marks pen i
   unfolding w δ
-  found_first i f e =
-      let l : Least w δ (path_count yard lines) i = rw e at (over-both.least f) in
+  found_first i b f e =
+      let o : Best w δ (path_count yard lines) (Some b) = rw f at over-both in
+      let l : Least w δ (path_count yard lines) i = rw e at o.1 in
       record { waiting = l.so; none_nearer = l.none_nearer; none_before = l.none_before }
 
   -- ---- 15
-  nothing-found : ((j : ℕ) → j < path_count yard lines → waits_at yard lines marks j ≡ false) → (nearest_of_both yard lines marks pen).found ≡ false
-  nothing-found none = by (nearest_of_both yard lines marks pen).found refl
+  nothing-found : ((j : ℕ) → j < path_count yard lines → waits_at yard lines marks j ≡ false) → nearest_of_both yard lines marks pen ≡ None
+  nothing-found none = by (nearest_of_both yard lines marks pen) refl
     where
-      by : (u : Bool) → (nearest_of_both yard lines marks pen).found ≡ u → (nearest_of_both yard lines marks pen).found ≡ false
-      by true f = let i = found-waits yard lines marks pen f in true-false _ i.so (none _ i.there)
-      by false f = f
+      by : (b : Option NearestPath) → nearest_of_both yard lines marks pen ≡ b → nearest_of_both yard lines marks pen ≡ None
+      by None f = f
+      by (Some b) f = let i = found-waits yard lines marks pen b f in true-false _ i.so (none _ i.there)
 
   used-up-so : NothingWaits yard lines marks pen → pick_of yard lines marks pen ≡ Ok None
+  unfolding picked_from
   used-up-so h =
       sym (pick-near yard lines marks pen _ refl h.lengths _ refl h.starts _ refl h.numbers (Ok None)
-      (from-none yard lines (nearest_of_both yard lines marks pen) (nothing-found h.none_waits)))
+      (sym (ap (picked_from yard lines) (nothing-found h.none_waits))))
 
   no-refusal : {A : Type 0} (x : Refusal) → Err x ≡ pick_of yard lines marks pen → pick_of yard lines marks pen ≡ Ok None → A
   no-refusal x e f = let z : ◌≡◌ {A = ℕ} 0 1 = cc in absurd (omega arith)
@@ -201,9 +197,9 @@ module _ (yard lines : LentDrawing) (marks : List ℕ) (pen : Vector) where
   pub picks-first-nearest : PicksFirstNearest yard lines marks pen
   picks-first-nearest =
       record {
-        of-yard = λ k r e. let h : Found yard lines marks pen k yard k r = rw e at (pick-holds yard lines marks pen) in found_first k h.found h.place;
+        of-yard = λ k r e. let h : Found yard lines marks pen k yard k r = rw e at (pick-holds yard lines marks pen) in found_first k h.best h.found h.place;
         of-lines = λ k r e. let h : Found yard lines marks pen (length yard.starts + k) lines k r = rw e at (pick-holds yard lines marks pen) in
-            found_first (length yard.starts + k) h.found h.place;
+            found_first (length yard.starts + k) h.best h.found h.place;
         used_up = used-up-so;
         only_then = waits-for-none _ _ _ refl refl refl;
       }

@@ -78,34 +78,34 @@ module _ (yard lines : LentDrawing) where
   Goes (Ok None) = Unit {0}
   Goes (Err x) = ⊥
 
-  from_goes : (b : NearestPath) → Goes (picked_from yard lines b)
+  from_goes : (b : Option NearestPath) → Goes (picked_from yard lines b)
   unfolding picked_from
-  from_goes b =
+  from_goes None = tt
+  from_goes (Some b) =
       let l = b.place - length yard.starts in
-      by b.found (ltb b.place (length yard.starts)) b.place l (range_in yard b.place) (range_in lines l)
+      by (ltb b.place (length yard.starts)) b.place l (range_in yard b.place) (range_in lines l)
     where
-      by : (u v : Bool) (k l : ℕ) (r s : Range) → Goes (cond u (cond v (Ok (Some (Yard k r))) (Ok (Some (Lines l s)))) (Ok None))
-      by true true k l r s = tt
-      by true false k l r s = tt
-      by false v k l r s = tt
+      by : (v : Bool) (k l : ℕ) (r s : Range) → Goes (cond v (Ok (Some (Yard k r))) (Ok (Some (Lines l s))))
+      by true k l r s = tt
+      by false k l r s = tt
 
   module _ (marks : List ℕ) (pen : Vector) where
-    waiting : (p : ℕ) → (nearest_of_both yard lines marks pen).found ≡ true → (nearest_of_both yard lines marks pen).place ≡ p → Waiting yard lines marks p
-    waiting p f e = rw e at (found-waits yard lines marks pen f)
+    waiting : (p : ℕ) (b : NearestPath) → nearest_of_both yard lines marks pen ≡ Some b → b.place ≡ p → Waiting yard lines marks p
+    waiting p b f e = rw e at (found-waits yard lines marks pen b f)
 
-    of-used-up : pick_of yard lines marks pen ≡ Ok None → (nearest_of_both yard lines marks pen).found ≡ false
+    of-used-up : pick_of yard lines marks pen ≡ Ok None → nearest_of_both yard lines marks pen ≡ None
     of-used-up e = rw e at (pick-holds yard lines marks pen)
 
   module _ (pens : ℕ → Vector) where
     yard-waits : (t k : ℕ) (marks : List ℕ) (r : Range) → pick_of yard lines marks (pens t) ≡ Ok (Some (Yard k r)) → Waiting yard lines marks k
     yard-waits t k marks r e =
         let h : Found yard lines marks (pens t) k yard k r = rw e at (pick-holds yard lines marks (pens t)) in
-        waiting marks (pens t) k h.found h.place
+        waiting marks (pens t) k h.best h.found h.place
 
     lines-wait : (t k : ℕ) (marks : List ℕ) (r : Range) → pick_of yard lines marks (pens t) ≡ Ok (Some (Lines k r)) → Waiting yard lines marks (length yard.starts + k)
     lines-wait t k marks r e =
         let h : Found yard lines marks (pens t) (length yard.starts + k) lines k r = rw e at (pick-holds yard lines marks (pens t)) in
-        waiting marks (pens t) (length yard.starts + k) h.found h.place
+        waiting marks (pens t) (length yard.starts + k) h.best h.found h.place
 
     -- ---- each path that waits is picked once, and no other
     counted : {t : ℕ} {marks is : List ℕ} → Tour yard lines pens t marks is → length marks ≡ path_count yard lines → (i : ℕ) → i < path_count yard lines

@@ -16,10 +16,10 @@ use Rattle.refusals.specs.declared.Refusal.TheVariants.{Lengths, Parts, Point}
 use Rattle.plotter_pens.specs.declared.NearestPath.{NearestPath}
 use Rattle.plotter_pens.specs.declared.Choice.{Choice}
 use Rattle.plotter_pens.specs.declared.Choice.TheVariants.{Yard, Lines}
-use Rattle.plotter_pens.specs.Pens.{LentDrawing, range_in, waits, no_path, nearest_in, nearest_of_both, lengths_good, both_start_well, numbers_finite, picked_from, pick_of}
+use Rattle.plotter_pens.specs.Pens.{LentDrawing, range_in, waits, nearest_in, nearest_of_both, lengths_good, both_start_well, numbers_finite, picked_from, pick_of}
 use Rattle.plotter_pens.specs.EachOnce.{path_count, non_empty_path}
 use Rattle.plotter_pens.specs.FirstNearest.{waits_at}
-use Rattle.plotter_pens.proofs.Scans.{true-false, scan-place, scan-none}
+use Rattle.plotter_pens.proofs.Scans.{scan-place, scan-none}
 use Rattle.std.specs.Prelude.{Err, None, Ok, Option, Result, Some}
 use Rattle.refusals.specs.declared.Refusal.{Refusal}
 
@@ -49,29 +49,28 @@ module _ (yard lines : LentDrawing) where
         eqb-true (length marks) (path_count yard lines) ((and-eq-true_iff b c).0 ((and-eq-true_iff a (b && c)).0 e).1).1
 
     module _ (pen : Vector) where
-      pub found-waits : (nearest_of_both yard lines marks pen).found ≡ true → Waiting marks (nearest_of_both yard lines marks pen).place
+      pub found-waits : (b : NearestPath) → nearest_of_both yard lines marks pen ≡ Some b → Waiting marks b.place
       unfolding nearest_of_both
-      found-waits =
+      found-waits b f =
           let n = length yard.starts in
           let m = length lines.starts in
-          scan-place lines marks n pen (Waiting marks) m (λ k l e. record { so = sym (lines_at k) ∙ e; there = omega arith }) m 0 _ (omega arith)
-          (scan-place yard marks 0 pen (Waiting marks) n (λ k l e. record { so = sym (yard-at k l) ∙ e; there = omega arith }) n 0 no_path (omega arith)
-          (λ f. true-false false f refl))
+          rw f at (scan-place lines marks n pen (Waiting marks) m (λ k l e. record { so = sym (lines_at k) ∙ e; there = omega arith }) m 0 _ (omega arith)
+          (scan-place yard marks 0 pen (Waiting marks) n (λ k l e. record { so = sym (yard-at k l) ∙ e; there = omega arith }) n 0 None (omega arith) tt))
 
-      pub none_waits : (nearest_of_both yard lines marks pen).found ≡ false → (i : ℕ) → i < path_count yard lines → waits_at yard lines marks i ≡ false
+      pub none_waits : nearest_of_both yard lines marks pen ≡ None → (i : ℕ) → i < path_count yard lines → waits_at yard lines marks i ≡ false
       unfolding nearest_of_both
       none_waits e i h = by-drawing (ltb i n) refl
         where
           n : ℕ
           n = length yard.starts
 
-          of-lines : ((nearest_in yard marks 0 pen n 0 no_path).found ≡ false) × ((j : ℕ) → 0 ≤ j → j < 0 + length lines.starts → waits lines marks n j ≡ false)
-          of-lines = scan-none lines marks n pen (length lines.starts) 0 (nearest_in yard marks 0 pen n 0 no_path) e
+          of-lines : (nearest_in yard marks 0 pen n 0 None ≡ None) × ((j : ℕ) → 0 ≤ j → j < 0 + length lines.starts → waits lines marks n j ≡ false)
+          of-lines = scan-none lines marks n pen (length lines.starts) 0 (nearest_in yard marks 0 pen n 0 None) e
 
           by-drawing : (u : Bool) → ltb i n ≡ u → waits_at yard lines marks i ≡ false
           by-drawing true t =
               let l = ltb-true i n t in
-              rw zero-add at (sym (yard-at i l) ∙ (scan-none yard marks 0 pen n 0 no_path of-lines.0).1 i (omega arith) (omega arith))
+              rw zero-add at (sym (yard-at i l) ∙ (scan-none yard marks 0 pen n 0 None of-lines.0).1 i (omega arith) (omega arith))
           by-drawing false t =
               let l = ltb-false i n t in
               let s : n + (i - n) ≡ i = omega arith in
@@ -79,8 +78,9 @@ module _ (yard lines : LentDrawing) where
 
       -- ---- an answer with what holds of it
       pub record Found (p : ℕ) (d : LentDrawing) (k : ℕ) (r : Range) : Type 0 where
-        pub found : (nearest_of_both yard lines marks pen).found ≡ true
-        pub place : (nearest_of_both yard lines marks pen).place ≡ p
+        pub best : NearestPath
+        pub found : nearest_of_both yard lines marks pen ≡ Some best
+        pub place : best.place ≡ p
         pub in-drawing : k < length d.starts
         pub has-mark : p < length marks
         pub range : r ≡ range_in d k
@@ -89,36 +89,32 @@ module _ (yard lines : LentDrawing) where
       abbrev pub Holds : Result (Option Choice) Refusal → Type 0
       Holds (Ok (Some (Yard k r))) = Found k yard k r
       Holds (Ok (Some (Lines k r))) = Found (length yard.starts + k) lines k r
-      Holds (Ok None) = (nearest_of_both yard lines marks pen).found ≡ false
+      Holds (Ok None) = nearest_of_both yard lines marks pen ≡ None
       Holds (Err x) = Unit {0}
 
       from-holds : lengths_good yard lines marks ≡ true → both_start_well yard lines ≡ true → Holds (picked_from yard lines (nearest_of_both yard lines marks pen))
       unfolding picked_from both_start_well
-      from-holds ok well = by-found b.found refl
+      from-holds ok well = by-found (nearest_of_both yard lines marks pen) refl
         where
-          b : NearestPath
-          b = nearest_of_both yard lines marks pen
-
           n : ℕ
           n = length yard.starts
 
           starts : (good_starts (places yard.numbers) yard.starts ≡ true) × (good_starts (places lines.numbers) lines.starts ≡ true)
           starts = (and-eq-true_iff (good_starts (places yard.numbers) yard.starts) (good_starts (places lines.numbers) lines.starts)).0 well
 
-          by-drawing : b.found ≡ true → (u : Bool) → ltb b.place n ≡ u
+          by-drawing : (b : NearestPath) → nearest_of_both yard lines marks pen ≡ Some b → (u : Bool) → ltb b.place n ≡ u
               → Holds (cond u (Ok (Some (Yard b.place (range_in yard b.place)))) (Ok (Some (Lines (b.place - n) (range_in lines (b.place - n))))))
-          by-drawing f true t =
-              record { found = f; place = refl; in-drawing = ltb-true b.place n t; has-mark = rw (marks-count ok) (found-waits f).there; range = refl; good = starts.0 }
-          by-drawing f false t =
+          by-drawing b f true t =
+              record { best = b; found = f; place = refl; in-drawing = ltb-true b.place n t; has-mark = rw (marks-count ok) (found-waits b f).there; range = refl; good = starts.0 }
+          by-drawing b f false t =
               let l = ltb-false b.place n t in
               let s : n + (b.place - n) ≡ b.place = omega arith in
-              let w = (found-waits f).there in
-              record { found = f; place = sym s; in-drawing = omega arith; has-mark = rw (s, marks-count ok) w; range = refl; good = starts.1 }
+              let w = (found-waits b f).there in
+              record { best = b; found = f; place = sym s; in-drawing = omega arith; has-mark = rw (s, marks-count ok) w; range = refl; good = starts.1 }
 
-          by-found : (u : Bool) → b.found ≡ u
-              → Holds (cond u (cond (ltb b.place n) (Ok (Some (Yard b.place (range_in yard b.place)))) (Ok (Some (Lines (b.place - n) (range_in lines (b.place - n)))))) (Ok None))
-          by-found true f = by-drawing f (ltb b.place n) refl
-          by-found false f = f
+          by-found : (b : Option NearestPath) → nearest_of_both yard lines marks pen ≡ b → Holds (picked_from yard lines b)
+          by-found None f = f
+          by-found (Some b) f = by-drawing b f (ltb b.place n) refl
 
       pub pick-holds : Holds (pick_of yard lines marks pen)
       unfolding pick_of

@@ -1,9 +1,8 @@
 -- Document 02's pen travel (xiii): which path of two drawings is picked, what is handed back, and how the marks are left.
-use Rattle.std.specs.Prelude.{◌≡◌, Bool, true, false, not, cond, ◌&&◌, ◌||◌, List, [], ◌∷◌, ℕ, zero, suc, ◌+◌, ◌*◌, ◌-◌, ◌%◌, eqb, ltb, Float, get_or, length, set, Err, None, Ok, Option, Result, Some}
+use Rattle.std.specs.Prelude.{◌≡◌, Bool, true, cond, ◌&&◌, ◌||◌, List, [], ◌∷◌, ℕ, zero, suc, ◌+◌, ◌*◌, ◌-◌, ◌%◌, eqb, ltb, Float, get_or, length, set, Err, None, Ok, Option, Result, Some}
 use Rattle.std.specs.Float.Ieee.{lt}
 use Rattle.std.specs.Float.Ieee.Scale.{finite}
 use Rattle.std.proofs.Math.Seq.{slice}
-use Rattle.floats.specs.Arith.{zero_f}
 use Rattle.geometry.specs.Vectors.{distance_squared}
 use Rattle.geometry.specs.declared.vector.Vector.{Vector}
 use Rattle.refusals.specs.Refusals.{number_of}
@@ -42,27 +41,25 @@ first_point d k = point_of (row 3 (range_in d k).from d.numbers)
 unfoldable pub waits : LentDrawing → List ℕ → ℕ → ℕ → Bool
 waits d marks first k = eqb (get_or marks (first + k) 0) 0 && has_points d k
 
-abbrev pub no_path : NearestPath
-no_path = record { found = false; place = 0; distance = zero_f }
-
 -- a path at this distance takes the place of the best if it is nearer: of equal distances the earlier path stays
-unfoldable pub nearer_path : NearestPath → ℕ → Float → NearestPath
-nearer_path b i d = cond (not b.found || lt d b.distance) (record { found = true; place = i; distance = d }) b
+unfoldable pub nearer_path : Option NearestPath → ℕ → Float → Option NearestPath
+nearer_path None i d = Some (record { place = i; distance = d })
+nearer_path (Some b) i d = Some (cond (lt d b.distance) (record { place = i; distance = d }) b)
 
 -- path k, by the computed squared distance of its first point
-unfoldable pub offered : LentDrawing → List ℕ → ℕ → Vector → NearestPath → ℕ → NearestPath
+unfoldable pub offered : LentDrawing → List ℕ → ℕ → Vector → Option NearestPath → ℕ → Option NearestPath
 offered d marks first pen b k = cond (waits d marks first k) (nearer_path b (first + k) (distance_squared pen (first_point d k))) b
 
 -- n paths from path k on, in order
-unfoldable pub nearest_in : LentDrawing → List ℕ → ℕ → Vector → ℕ → ℕ → NearestPath → NearestPath
+unfoldable pub nearest_in : LentDrawing → List ℕ → ℕ → Vector → ℕ → ℕ → Option NearestPath → Option NearestPath
 nearest_in d marks first pen zero k b = b
 nearest_in d marks first pen (suc n) k b = nearest_in d marks first pen n (k + 1) (offered d marks first pen b k)
 
 -- all paths of both drawings: equal distances go to the yard, whose marks come first
-unfoldable pub nearest_of_both : LentDrawing → LentDrawing → List ℕ → Vector → NearestPath
+unfoldable pub nearest_of_both : LentDrawing → LentDrawing → List ℕ → Vector → Option NearestPath
 nearest_of_both yard lines marks pen =
     nearest_in lines marks (length yard.starts) pen (length lines.starts) 0
-    (nearest_in yard marks 0 pen (length yard.starts) 0 no_path)
+    (nearest_in yard marks 0 pen (length yard.starts) 0 None)
 
 -- ---- numbers 2, 4 and 9
 -- number 2: three numbers a point, and one byte a path
@@ -93,12 +90,11 @@ numbers_finite yard lines pen = point_finite pen && (paths_finite yard && paths_
 
 -- ---- the pick
 -- what was found, as a path of the drawing that holds it
-unfoldable pub picked_from : LentDrawing → LentDrawing → NearestPath → Result (Option Choice) Refusal
-picked_from yard lines b =
+unfoldable pub picked_from : LentDrawing → LentDrawing → Option NearestPath → Result (Option Choice) Refusal
+picked_from yard lines None = Ok None
+picked_from yard lines (Some b) =
     let k = b.place - length yard.starts in
-    cond b.found
-    (cond (ltb b.place (length yard.starts)) (Ok (Some (Yard b.place (range_in yard b.place)))) (Ok (Some (Lines k (range_in lines k)))))
-    (Ok None)
+    cond (ltb b.place (length yard.starts)) (Ok (Some (Yard b.place (range_in yard b.place)))) (Ok (Some (Lines k (range_in lines k))))
 
 -- the first of 2, 4 and 9 that is met, then the nearest path that waits
 unfoldable pub pick_of : LentDrawing → LentDrawing → List ℕ → Vector → Result (Option Choice) Refusal

@@ -2,8 +2,9 @@
 // its dimension lines.
 #![tactic(auto)]
 
-ghost use Rattle.std.specs.Prelude.{true, ◌≡◌, ◌+◌, ◌*◌, ◌≤◌, ◌<◌, length};
+ghost use Rattle.std.specs.Prelude.{Some, ◌≡◌, ◌+◌, ◌*◌, ◌≤◌, ◌<◌, length};
 ghost use Rattle.std.proofs.Math.Seq.{slice};
+ghost use Rattle.plotter_pens.specs.declared.NearestPath.{NearestPath};
 ghost use Rattle.plotter_pens.specs.Pens.{lent_drawing};
 ghost use Rattle.plotter_pens.specs.Pens as Pens;
 
@@ -11,10 +12,9 @@ use geometry::vector::Vector;
 use paths::Range;
 use refusals::Refusal;
 
-// The nearest path so far, by the place of its mark, if there is one.
+// The nearest path so far, by the place of its mark.
 #[derive(Clone, Copy)]
 pub struct NearestPath {
-    pub found: bool,
     pub place: usize,
     pub distance: f64,
 }
@@ -37,30 +37,16 @@ pub fn pick_number(pick: Result<Option<Choice>, Refusal>) -> u32
     }
 }
 
-fn no_path() -> NearestPath
-    ensures { result ≡ Pens.no_path }
-{
-    NearestPath {
-        found: false,
-        place: 0,
-        distance: 0.0,
-    }
-}
-
 // A path that waits takes its place if it is nearer; of equal distances the earlier stays.
-fn nearer_path(best: NearestPath, place: usize, distance: f64) -> NearestPath
+fn nearer_path(best: Option<NearestPath>, place: usize, distance: f64) -> Option<NearestPath>
     ensures { result ≡ Pens.nearer_path best place distance }
 {
-    if best.found {
-        if !(distance < best.distance) {
+    if let Some(b) = best {
+        if !(distance < b.distance) {
             return best;
         }
     }
-    NearestPath {
-        found: true,
-        place,
-        distance,
-    }
+    Some(NearestPath { place, distance })
 }
 
 // Path k of a drawing whose first path has the mark `first`: passed over if it is drawn or has no points.
@@ -71,8 +57,8 @@ fn offered(
     first: usize,
     k: usize,
     pen: Vector,
-    best: NearestPath,
-) -> NearestPath
+    best: Option<NearestPath>,
+) -> Option<NearestPath>
     requires { (k < length starts.now) × (first + length starts.now ≤ length marks.now) }
     ensures { result ≡ Pens.offered (lent_drawing points.now starts.now) marks.now first pen best k }
 {
@@ -95,8 +81,8 @@ fn nearest_in(
     marks: &[u8],
     first: usize,
     pen: Vector,
-    best: NearestPath,
-) -> NearestPath
+    best: Option<NearestPath>,
+) -> Option<NearestPath>
     requires { first + length starts.now ≤ length marks.now }
     ensures { result ≡ Pens.nearest_in (lent_drawing points.now starts.now) marks.now first pen (length starts.now) 0 best }
 {
@@ -113,15 +99,15 @@ fn picked_from(
     yard_starts: &[usize],
     lines: &[f64],
     line_starts: &[usize],
-    best: NearestPath,
+    best: Option<NearestPath>,
 ) -> Result<Option<Choice>, Refusal>
-    requires { best.found ≡ true → best.place < length yard_starts.now + length line_starts.now }
+    requires { (b : NearestPath) → best ≡ Some b → b.place < length yard_starts.now + length line_starts.now }
     ensures { result ≡ Pens.picked_from (lent_drawing yard.now yard_starts.now) (lent_drawing lines.now line_starts.now) best }
 {
-    if !best.found {
+    let Some(b) = best else {
         return Ok(None);
-    }
-    let k = best.place;
+    };
+    let k = b.place;
     if k < yard_starts.len() {
         return Ok(Some(Choice::Yard(k, paths::range_of(yard_starts, k, yard.len() / 3))));
     }
@@ -238,7 +224,7 @@ pub fn pick(
         return Err(Refusal::Point);
     }
     let n = yard_starts.len();
-    let of_yard = nearest_in(yard, yard_starts, marks, 0, pen, no_path());
+    let of_yard = nearest_in(yard, yard_starts, marks, 0, pen, None);
     let of_both = nearest_in(lines, line_starts, marks, n, pen, of_yard);
     picked_from(yard, yard_starts, lines, line_starts, of_both)
 }

@@ -3,32 +3,24 @@ use Rattle.std.proofs.lemmas.Result.{err_from_is_err_and}
 use Rattle.path_filter.proofs.Filtering.{path-full, path-refused, path-done}
 use Rattle.draw_clip.proofs.path_filter.Goals as goal
 
-pub new_path-requires : goal.new_path-requires
-new_path-requires c =
-    let pre = c.requires in pre.3
-
 pub filter_from-requires : goal.filter_from-requires
 filter_from-requires c =
-    let pre = c.requires in (pre.0, pre.1, pre.2, omega (arith, c.new_path.ensures.fits _ c.in_ok-q.was), pre.4, pre.5)
-
-pub close-z-requires : goal.close-z-requires
-close-z-requires c =
-    (c.filter_from.ensures.0.fits _ _ c.in_ok-a.was).1
+    let pre = c.requires in (pre.0, pre.1, pre.2, omega (arith, c.new_path.ensures.fits _ c.in_ok-q.was), pre.4)
 
 pub returns-in_err-q : goal.returns-in_err-q
 returns-in_err-q c =
     let args = c.args in
     let pre = c.requires in
     let p = err_from_is_err_and c.from_residual.result c.from_residual.ensures.1 in
-    (rw (p.1, p.2) (path-full _ _ args.out.now args.begins.now args.n args.m _ c.new_path.ensures c.in_err-q.was), pre.4, pre.5)
+    (rw (p.1, p.2) (path-full _ _ args.out.now args.begins.now args.n args.m _ c.new_path.ensures c.in_err-q.was), pre.4)
 
 pub returns-in_err-a : goal.returns-in_err-a
 returns-in_err-a c =
     let args = c.args in
     let p = err_from_is_err_and c.from_residual-in_err-a.result c.from_residual-in_err-a.ensures.1 in
-    (rw (p.1, p.2) (path-refused _ _ args.out.now args.begins.now args.n args.m _ c.new_path.ensures c.in_ok-q.was c.new_path.auto.starts _ _ c.filter_from.ensures.0 c.in_err-a.was), c.filter_from.ensures.1, c.filter_from.ensures.2)
+    (rw (p.1, p.2) (path-refused _ _ args.out.now args.begins.now args.n args.m _ c.new_path.ensures c.in_ok-q.was c.new_path.auto.starts _ _ c.filter_from.ensures.0 c.in_err-a.was), c.filter_from.ensures.1)
 
 pub returns : goal.returns
 returns c =
     let args = c.args in
-    (path-done _ _ args.out.now args.begins.now args.n args.m _ c.new_path.ensures c.in_ok-q.was c.new_path.auto.starts _ _ c.filter_from.ensures.0 _ c.in_ok-a.was c.close-z.ensures.0 c.close-z.ensures.1, c.filter_from.ensures.1, c.filter_from.ensures.2)
+    (path-done _ _ args.out.now args.begins.now args.n args.m _ c.new_path.ensures c.in_ok-q.was c.new_path.auto.starts _ _ c.filter_from.ensures.0 _ c.in_ok-a.was c.close-z.ensures.0 c.close-z.ensures.1, c.filter_from.ensures.1)

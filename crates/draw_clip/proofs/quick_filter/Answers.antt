@@ -13,16 +13,8 @@ returns-then-not-within_point c =
 
 pub sight-s-requires : goal.sight-s-requires
 sight-s-requires c =
-    let pre = c.requires in (λ e. ((pre.tree e).0, (pre.tree e).1, within-point _ (sym c.within_point.ensures ∙ c.if-not-within_point.false)), pre.solids, pre.kept, c.gap-distance.ensures)
-
-pub shape_of-cover : goal.shape_of-cover
-shape_of-cover c =
-    let pre = c.requires in c.sight-s.ensures.1.wide ∙ sym pre.kept.wide
-
-pub shape_of-stack : goal.shape_of-stack
-shape_of-stack c =
-    let pre = c.requires in c.sight-s.ensures.1.wide_stack ∙ sym pre.kept.wide_stack
+    let pre = c.requires.prepared in (λ e. ((pre.tree e).0, (pre.tree e).1, within-point _ (sym c.within_point.ensures ∙ c.if-not-within_point.false)), pre.solids, pre.kept, c.gap-distance.ensures)
 
 pub returns : goal.returns
 returns c =
-    let pre = c.requires in (put _ _ _ _ c.mul_position_w-w.ensures _ c.clips.ensures c.if-not-clips.false _ c.within_point.ensures c.if-not-within_point.false _ c.sight-s.ensures.0 _ c.by_sight.ensures, ready-kept _ _ _ _ _ _ _ _ _ _ _ pre _ _ c.sight-s.ensures.1)
+    let pre = c.requires in (put _ _ _ _ c.mul_position_w-w.ensures _ c.clips.ensures c.if-not-clips.false _ c.within_point.ensures c.if-not-within_point.false _ c.sight-s.ensures.0 _ c.by_sight.ensures, record { ends_told = pre.ends_told; prepared = ready-kept _ _ _ _ _ _ _ _ _ _ _ pre.prepared _ _ c.sight-s.ensures.1 })

@@ -1,24 +1,10 @@
 use Rattle.std.proofs.lemmas.Result.{err_from_is_err_and}
 use Rattle.path_filter.proofs.Filtering.{filtering-start, filtering-turn, filtering-refused, filtering-end}
-use Prim.Native.Nat.{◌-◌}
-use mathlib.Core.Path.{◌∙◌}
 use Rattle.draw_cuts.proofs.filter_from.Goals as goal
 
 pub loop-i-init : goal.loop-i-init
 loop-i-init c =
     let pre = c.requires in filtering-start _ _ _ _ _ _ _ _ pre.0 pre.1 pre.2 pre.3
-
-pub step-requires : goal.step-requires
-step-requires c =
-    (c.loop-i.invariant.fits, c.loop-i.invariant.fits-starts)
-
-pub shape_of-out-in_err-a : goal.shape_of-out-in_err-a
-shape_of-out-in_err-a c =
-    c.step.auto.out ∙ c.loop-i.invariant.same
-
-pub shape_of-begins-in_err-a : goal.shape_of-begins-in_err-a
-shape_of-begins-in_err-a c =
-    c.step.auto.begins ∙ c.loop-i.invariant.same-starts
 
 pub returns-in_err-a : goal.returns-in_err-a
 returns-in_err-a c =
@@ -27,14 +13,6 @@ returns-in_err-a c =
 pub loop-i-preserved : goal.loop-i-preserved
 loop-i-preserved c =
     filtering-turn _ _ _ _ _ _ _ _ _ _ _ _ _ c.loop-i.invariant c.loop-i-test.true _ _ c.read_point-v.ensures c.cut_filter-t.ensures _ _ c.step.ensures c.step.auto.out c.step.auto.begins c.in_ok-a.was
-
-pub shape_of-out : goal.shape_of-out
-shape_of-out c =
-    c.loop-i.invariant.same
-
-pub shape_of-begins : goal.shape_of-begins
-shape_of-begins c =
-    c.loop-i.invariant.same-starts
 
 pub returns : goal.returns
 returns c =

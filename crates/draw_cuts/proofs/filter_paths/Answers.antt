@@ -1,31 +1,16 @@
 use Rattle.std.proofs.lemmas.Result.{err_from_is_err_and}
 use Rattle.paths.proofs.Stages.{staging-start, staging-turn, staging-refused, staging-end}
 use Rattle.paths.proofs.Parts.{range-fits}
-use Rattle.path_filter.specs.Filter.{path_filter}
-use Prim.Native.Nat.{◌-◌}
-use mathlib.Core.Path.{◌∙◌}
 use Rattle.draw_cuts.proofs.filter_paths.Goals as goal
 
 pub loop-i-init : goal.loop-i-init
 loop-i-init c =
     staging-start _ _ _ _ _
 
-pub range_of-p-requires : goal.range_of-p-requires
-range_of-p-requires c =
-    c.loop-i-test.true
-
 pub path_filter-requires : goal.path_filter-requires
 path_filter-requires c =
     let args = c.args in let w = range-fits args.path.now args.starts.now c.loop-i.i c.range_of-p.result c.range_of-p.ensures in
     (w.0, w.1, c.loop-i.invariant.fits, c.loop-i.invariant.fits-starts)
-
-pub shape_of-out-in_err-n : goal.shape_of-out-in_err-n
-shape_of-out-in_err-n c =
-    c.path_filter.auto.out ∙ c.loop-i.invariant.same
-
-pub shape_of-begins-in_err-n : goal.shape_of-begins-in_err-n
-shape_of-begins-in_err-n c =
-    c.path_filter.auto.begins ∙ c.loop-i.invariant.same-starts
 
 pub returns-in_err-n : goal.returns-in_err-n
 returns-in_err-n c =
@@ -34,14 +19,6 @@ returns-in_err-n c =
 pub loop-i-preserved : goal.loop-i-preserved
 loop-i-preserved c =
     staging-turn _ _ _ _ _ _ _ _ _ _ c.loop-i.invariant c.loop-i-test.true _ c.range_of-p.ensures _ _ c.path_filter.ensures c.path_filter.auto.out c.path_filter.auto.begins c.in_ok-n.was
-
-pub shape_of-out : goal.shape_of-out
-shape_of-out c =
-    c.loop-i.invariant.same
-
-pub shape_of-begins : goal.shape_of-begins
-shape_of-begins c =
-    c.loop-i.invariant.same-starts
 
 pub returns : goal.returns
 returns c =

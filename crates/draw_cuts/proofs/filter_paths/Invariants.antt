@@ -2,7 +2,6 @@ use Rattle.paths.proofs.Stages.{Staging}
 use Rattle.scene_shape.specs.Shapes.{decode}
 use Rattle.path_filter.specs.Filter.{path_filter}
 use Rattle.draw_cuts.specs.Cuts.{cut_filter}
-use Prim.Native.Nat.{◌-◌}
 use Rattle.draw_cuts.proofs.filter_paths.Given as goal
 
 abbrev pub invariant-loop-i : goal.invariant-loop-i

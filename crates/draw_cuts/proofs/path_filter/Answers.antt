@@ -3,17 +3,9 @@ use Rattle.std.proofs.lemmas.Result.{err_from_is_err_and}
 use Rattle.path_filter.proofs.Filtering.{path-full, path-refused, path-done}
 use Rattle.draw_cuts.proofs.path_filter.Goals as goal
 
-pub new_path-requires : goal.new_path-requires
-new_path-requires c =
-    let pre = c.requires in pre.3
-
 pub filter_from-requires : goal.filter_from-requires
 filter_from-requires c =
     let pre = c.requires in (pre.0, pre.1, pre.2, omega (arith, c.new_path.ensures.fits _ c.in_ok-q.was))
-
-pub close-z-requires : goal.close-z-requires
-close-z-requires c =
-    (c.filter_from.ensures.fits _ _ c.in_ok-a.was).1
 
 pub returns-in_err-q : goal.returns-in_err-q
 returns-in_err-q c =

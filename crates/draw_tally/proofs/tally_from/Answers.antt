@@ -1,19 +1,10 @@
 use Rattle.std.proofs.lemmas.Result.{err_from_is_err_and}
-use native.Mathlib.Omega.{arith}
 use Rattle.draw_tally.proofs.Turning.{tallying-start, tallying-turn, tallying-refused, tallying-end}
 use Rattle.draw_tally.proofs.tally_from.Goals as goal
 
 pub loop-i-init : goal.loop-i-init
 loop-i-init c =
     let pre = c.requires in tallying-start _ _ _ _ _ _ _ _ _ pre.0 pre.1 pre.2 pre.3
-
-pub read_point-v-requires : goal.read_point-v-requires
-read_point-v-requires c =
-    omega (arith, c.loop-i.invariant.inside, c.loop-i-test.true)
-
-pub tally_step-requires : goal.tally_step-requires
-tally_step-requires c =
-    (c.loop-i.invariant.within.points, c.loop-i.invariant.within.before)
 
 pub returns-in_err-a : goal.returns-in_err-a
 returns-in_err-a c =

@@ -8,10 +8,6 @@ pub returns-then-begins-m : goal.returns-then-begins-m
 returns-then-begins-m c =
     path-full _ _ _ _ c.if-begins-m.true
 
-pub tally_from-requires : goal.tally_from-requires
-tally_from-requires c =
-    let pre = c.requires in (pre.0, pre.1, pre.2, c.if-begins-m.false)
-
 pub paths_left-l-requires : goal.paths_left-l-requires
 paths_left-l-requires c =
     let args = c.args in let fits = c.ranges in let pre = c.requires in omega (arith, (from_within args.room args.begins _ _ args.n args.m args.n (record { points = pre.2; before = c.if-begins-m.false }) (sym c.tally_from.ensures ∙ c.in_ok-a.was)).before, fits.begins)

@@ -1,5 +1,4 @@
 use mathlib.Core.Path.{◌≡◌}
-use Prim.Native.Nat.{◌-◌}
 use lib.ListN.{length}
 use Rattle.draw_tally.specs.Tallies.{simplify_tally}
 use Rattle.draw_tally.proofs.Turning.{Counting}

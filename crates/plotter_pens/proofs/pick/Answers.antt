@@ -28,9 +28,9 @@ nearest_in-of_both-requires c =
 
 pub picked_from-requires : goal.picked_from-requires
 picked_from-requires c =
-    both-there _ _ _ _ _ (both-scanned _ _ _ _ _ _ _ c.no_path.ensures c.nearest_in-of_yard.ensures c.nearest_in-of_both.ensures)
+    both-there _ _ _ _ _ (both-scanned _ _ _ _ _ _ c.nearest_in-of_yard.ensures c.nearest_in-of_both.ensures)
 
 pub returns : goal.returns
 returns c =
-    let scanned = both-scanned _ _ _ _ _ _ _ c.no_path.ensures c.nearest_in-of_yard.ensures c.nearest_in-of_both.ensures in
+    let scanned = both-scanned _ _ _ _ _ _ c.nearest_in-of_yard.ensures c.nearest_in-of_both.ensures in
     pick-near _ _ _ _ _ c.lengths_good.ensures c.if-not-lengths_good.false _ c.both_start_well.ensures c.if-not-both_start_well.false _ c.numbers_finite.ensures c.if-not-numbers_finite.false _ (c.picked_from.ensures ∙ ap (picked_from _ _) scanned)
