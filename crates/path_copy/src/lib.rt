@@ -13,7 +13,10 @@ fn copy_starts(from: &[usize], to: &mut [usize])
     requires { length from.now ≤ length to.old }
     ensures { take (length from.now) to.new ≡ from.now }
 {
-    to[..from.len()].copy_from_slice(from);
+    // no `copy_from_slice`: it calls memmove, which an archive for C would need from outside
+    for i in 0..from.len() {
+        to[i] = from[i];
+    }
 }
 
 // All paths, from the first places of `out` and `begins` on, where there is a place for each point and each start.

@@ -22,7 +22,10 @@ fn copy(from: &[u32], n: usize, to: &mut [u32])
     requires { (n ≤ length from.now) × (n ≤ length to.old) }
     ensures { take n to.new ≡ take n from.now }
 {
-    to[..n].copy_from_slice(&from[..n]);
+    // no `copy_from_slice`: it calls memmove, which an archive for C would need from outside
+    for i in 0..n {
+        to[i] = from[i];
+    }
 }
 
 // Leaves zeros behind.

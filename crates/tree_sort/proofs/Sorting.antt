@@ -7,7 +7,7 @@ use native.Mathlib.Nat.{not-suc-le-zero, le_of_suc-le-suc, add-zero}
 use native.Mathlib.Omega.{arith}
 use native.Mathlib.Numerals.{add-one}
 use lib.ListN.{length, take, drop, get_or, set, length-set, take-append-drop, drop_of_length-le, length-drop, length-append}
-use lib.Seq.{take-suc-set, drop-cons, drop-set-lt, take_all, get_or-drop, get_or-take, length-take-le, drop-drop, length_front, drop_at, take_at}
+use lib.Seq.{take-suc, take-suc-set, drop-cons, drop-set-lt, take_all, get_or-drop, get_or-take, length-take-le, drop-drop, length_front, drop_at, take_at}
 use lib.Dec.{T, ltb}
 use lib.Ieee.{Float, lt}
 use lib.Ieee.Bits.{is_true}
@@ -30,6 +30,22 @@ module _ {ℓ} {A : Type ℓ} where
   get_d_any [] i d e h = absurd (not-suc-le-zero h)
   get_d_any (x ∷ xs) zero d e h = refl
   get_d_any (x ∷ xs) (suc i) d e h = get_d_any xs i d e (le_of_suc-le-suc h)
+
+-- ---- a loop that copies the first n
+pub record Copied (src : List ℕ) (n : ℕ) (to₀ to : List ℕ) (i : ℕ) : Type 0 where
+  pub same : length to ≡ length to₀
+  pub upto : i ≤ n
+  pub done : take i to ≡ take i src
+
+pub copied-turn : (src : List ℕ) (n : ℕ) (to₀ to : List ℕ) (i : ℕ) → Copied src n to₀ to i → i < n → n ≤ length src → n ≤ length to₀ → Copied src n to₀ (set to i (get_or src i 0)) (i + 1)
+copied-turn src n to₀ to i h l a b = record {
+  same = length-set to i (get_or src i 0) ∙ h.same;
+  upto = omega arith;
+  done =
+      let it : i < length to = omega arith in
+      let is : i < length src = omega arith in
+      rw (add-one, take-suc-set to i (get_or src i 0) it, take-suc src i 0 is, h.done);
+}
 
 pub drop_more : (l r : List ℕ) (j : ℕ) → drop j l ≡ drop j r → drop (suc j) l ≡ drop (suc j) r
 drop_more l r j e = rw (← add-one j) (sym (drop-drop 1 j l) ∙ ap (drop 1) e ∙ drop-drop 1 j r)

@@ -19,7 +19,10 @@ fn copy(from: &[u32], to: &mut [u32], n: usize)
     requires { (n ≤ length from.now) × (n ≤ length to.old) }
     ensures { take n to.new ≡ take n from.now }
 {
-    to[..n].copy_from_slice(&from[..n]);
+    // no `copy_from_slice`: it calls memmove, which an archive for C would need from outside
+    for i in 0..n {
+        to[i] = from[i];
+    }
 }
 
 // The two parts of `order`, of which the first has m elements, are merged.

@@ -1,0 +1,27 @@
+use Rattle.query_scene.proofs.Copies.{copied-start, copied-turn, copied-end}
+use native.Mathlib.Omega.{arith}
+use Rattle.query_scene.proofs.copy.Goals as goal
+
+pub loop-i-init : goal.loop-i-init
+loop-i-init c =
+    copied-start _ _ _
+
+pub bounds-from-i : goal.bounds-from-i
+bounds-from-i c =
+    omega (arith, c.loop-i-test.true, c.requires.0)
+
+pub bounds-to-i : goal.bounds-to-i
+bounds-to-i c =
+    omega (arith, c.loop-i-test.true, c.requires.1, c.loop-i.invariant.same)
+
+pub loop-i-preserved : goal.loop-i-preserved
+loop-i-preserved c =
+    copied-turn _ _ _ _ _ c.loop-i.invariant c.loop-i-test.true c.requires.0 c.requires.1
+
+pub shape_of-to : goal.shape_of-to
+shape_of-to c =
+    c.loop-i.invariant.same
+
+pub returns : goal.returns
+returns c =
+    copied-end _ _ _ _ _ c.loop-i.invariant c.loop-i-test.false
